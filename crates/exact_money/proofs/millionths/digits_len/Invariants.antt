@@ -1,0 +1,6 @@
+use Rattle.std.proofs.Common.{◌≡◌, ℕ, ◌<◌, get_or, true}
+use Rattle.std.specs.Char.{is_ascii_digit}
+use Rattle.exact_money.proofs.millionths.digits_len.Given as goal
+
+abbrev pub invariant-loop-index : goal.invariant-loop-index
+invariant-loop-index l = (k : ℕ) → k < l.index → is_ascii_digit (get_or l.text k 0) ≡ true

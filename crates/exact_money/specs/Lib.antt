@@ -1,0 +1,4 @@
+pub mod Numeral
+pub mod Millionths
+pub mod Exact
+pub mod Amount
