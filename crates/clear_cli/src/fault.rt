@@ -1,0 +1,128 @@
+//! What ends the program early, and the line that tells it.
+
+ghost use Rattle.std.specs.Prelude.{◌≡◌, ◌++◌};
+ghost use Rattle.clear_cli.specs.Fault.{IsTold, config_fault, fault_line, script_fault, status_of};
+ghost use Rattle.clear_cli.specs.declared.fault.Fault.TheVariants.{NoMemory};
+
+use itoa::Buffer;
+use ocpi_json::name::Name;
+use ocpi_types::ConfigFault;
+use request_lines::{ScriptFault, Sink, write_all};
+use std::alloc::AllocError;
+use thiserror::Error;
+
+/// What ends the program early.
+#[derive(Debug, Clone, Copy, PartialEq, Eq, Error)]
+pub enum Fault<'a> {
+    /// The command line has another form.
+    #[error("clear: usage")]
+    Usage,
+
+    #[error("clear: config: syntax")]
+    ConfigSyntax,
+
+    /// The first member of the configuration that is missing, of a wrong kind or out of bounds.
+    #[error("clear: config: {}", .name.as_str())]
+    ConfigMember { name: Name },
+
+    #[error("clear: cannot read {path}")]
+    CannotRead { path: &'a str },
+
+    #[error("clear: cannot read -")]
+    CannotReadInput,
+
+    #[error("clear: cannot write")]
+    CannotWrite,
+
+    /// The input's line of this number, from 1, is longer than a line may be.
+    #[error("clear: line {line} is too long")]
+    LineTooLong { line: u128 },
+
+    #[error("clear: no memory")]
+    NoMemory,
+}
+
+impl Fault<'_> {
+    /// The exit status.
+    pub fn status(&self) -> u8
+        ensures { result ≡ status_of self.now }
+    {
+        match self {
+            Fault::Usage => 2,
+            _ => 1,
+        }
+    }
+}
+
+impl From<AllocError> for Fault<'_> {
+    ghost from_gives = { λ _ fault. fault ≡ NoMemory };
+
+    fn from(_error: AllocError) -> Self {
+        Fault::NoMemory
+    }
+}
+
+impl From<ConfigFault> for Fault<'_> {
+    ghost from_gives = { λ cause fault. fault ≡ config_fault cause };
+
+    fn from(cause: ConfigFault) -> Self {
+        match cause {
+            ConfigFault::Syntax => Fault::ConfigSyntax,
+            ConfigFault::Member { name } => Fault::ConfigMember { name },
+            ConfigFault::NoMemory => Fault::NoMemory,
+        }
+    }
+}
+
+impl From<ScriptFault> for Fault<'_> {
+    ghost from_gives = { λ cause fault. fault ≡ script_fault cause };
+
+    fn from(cause: ScriptFault) -> Self {
+        match cause {
+            ScriptFault::Read => Fault::CannotReadInput,
+            ScriptFault::Write { .. } => Fault::CannotWrite,
+            ScriptFault::NoMemory => Fault::NoMemory,
+            ScriptFault::LineTooLong { line } => Fault::LineTooLong { line },
+        }
+    }
+}
+
+/// A fault's line in three parts.
+struct Parts<'a> {
+    head: &'a str,
+    middle: &'a str,
+    tail: &'a str,
+}
+
+fn parts_of<'a, 'b>(fault: &Fault<'a>, buffer: &'b mut Buffer) -> Parts<'b>
+where
+    'a: 'b,
+    ensures { result.head.now ++ (result.middle.now ++ result.tail.now) ≡ fault_line fault.now }
+{
+    let (head, middle, tail) = match *fault {
+        Fault::Usage => ("clear: usage", "", "\n"),
+        Fault::ConfigSyntax => ("clear: config: syntax", "", "\n"),
+        Fault::ConfigMember { name } => ("clear: config: ", name.as_str(), "\n"),
+        Fault::CannotRead { path } => ("clear: cannot read ", path, "\n"),
+        Fault::CannotReadInput => ("clear: cannot read -", "", "\n"),
+        Fault::CannotWrite => ("clear: cannot write", "", "\n"),
+        Fault::LineTooLong { line } => ("clear: line ", buffer.format(line), " is too long\n"),
+        Fault::NoMemory => ("clear: no memory", "", "\n"),
+    };
+    Parts { head, middle, tail }
+}
+
+/// Tells the fault in one line, without taking memory. Where the sink fails, it has the line's first bytes.
+pub fn tell<F: Sink>(faults: &mut F, fault: &Fault<'_>)
+    ensures { IsTold F.takes F.failed faults.old (fault_line fault.now) faults.new }
+{
+    let mut buffer = Buffer::new();
+    let Parts { head, middle, tail } = parts_of(fault, &mut buffer);
+    if write_all(faults, head.as_bytes()).is_err() {
+        return;
+    }
+    if write_all(faults, middle.as_bytes()).is_err() {
+        return;
+    }
+    let _ = write_all(faults, tail.as_bytes());
+}

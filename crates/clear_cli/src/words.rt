@@ -1,0 +1,55 @@
+//! What a command line asks for.
+
+ghost use Rattle.std.specs.Prelude.{◌≡◌, ◌≢◌, IfErr};
+
+use crate::fault::Fault;
+use clap::error::ErrorKind;
+use clap::{Arg, ArgAction, Command, Error};
+use std::alloc::{AllocError, Global};
+
+/// One of the program's commands.
+#[derive(Clone, Copy, Debug, PartialEq, Eq)]
+pub enum Job<'a> {
+    /// Answers the lines of standard input under the configuration of this path.
+    Script { config: &'a str },
+}
+
+fn script<'a>(alloc: Global) -> Result<Command<'a>, AllocError> {
+    let config = Arg::new(alloc, "config")
+        .required(true)
+        .action(ArgAction::Set);
+    Command::new(alloc, "script").arg(config)
+}
+
+fn clear<'a>(alloc: Global) -> Result<Command<'a>, AllocError> {
+    Command::new(alloc, "clear")
+        .subcommand_required(true)
+        .subcommand(script(alloc)?)
+}
+
+// Every refused parse is the usage fault, but for want of memory.
+fn fault_of(error: &Error) -> Fault<'static>
+    ensures { result ≢ Fault.NoMemory → result ≡ Fault.Usage }
+{
+    match error.kind() {
+        ErrorKind::OutOfMemory => Fault::NoMemory,
+        _ => Fault::Usage,
+    }
+}
+
+/// What the words ask for, the program's name first. Another form, help and version are the usage fault.
+pub fn read_words<'a>(alloc: Global, words: &'a [String]) -> Result<Job<'a>, Fault<'static>>
+    ensures refused { IfErr result (λ fault. fault ≢ Fault.NoMemory → fault ≡ Fault.Usage) }
+{
+    let matches = match clear(alloc)?.try_get_matches_from(words) {
+        Ok(matches) => matches,
+        Err(error) => return Err(fault_of(&error)),
+    };
+    let Some(("script", words)) = matches.subcommand() else {
+        return Err(Fault::Usage);
+    };
+    match words.get_str("config") {
+        Some(config) => Ok(Job::Script { config }),
+        None => Err(Fault::Usage),
+    }
+}

@@ -1,0 +1,106 @@
+-- The members of an object that was read from marked text, where a string begins with `s`, and a number is the string of `n` and its token.
+-- A kind says what the data of a member stands for, if it is of that kind.
+use Rattle.std.specs.Prelude.{ℕ, ℤ, pos, int_le, List, [], ◌∷◌, ◌==◌, ◌&&◌, nat_le, if◌then◌else◌, Option, Some, None, Result, Ok, is_some, option_and_then, unwrap_or, length}
+use Rattle.std.specs.Char.{is_ascii_digit}
+use Rattle.std.specs.List.{list_all}
+use Rattle.std.specs.Str.Parse.{digits_value}
+use Rattle.serde_json.specs.Data.{Data, Items, no_items, item}
+use Rattle.serde_json.specs.Find.{get, as_null, as_str, as_array, as_object}
+use Rattle.exact_money.specs.Millionths.{millionths_of}
+use Rattle.ocpi_json.specs.Folded.{is_printable}
+use Rattle.ocpi_json.specs.Members.{or_name, ◌>>=◌, if_any}
+use Rattle.ocpi_json.specs.Name as name
+use Rattle.ocpi_json.specs.declared.name.Name.{Name}
+
+-- the member of that name
+abbrev pub member_at : Name → Data → Option Data
+member_at n node = get (115 ∷ name.text_of n) node
+
+-- a member that has to be there, and of the kind
+abbrev pub required : {X : Type 0} → (Data → Option X) → Name → Data → Result X Name
+required kind n node = do
+  d ← or_name n (member_at n node)
+  or_name n (kind d)
+
+-- null counts as no data
+abbrev pub unless_null : Data → Option Data
+unless_null d = if is_some (as_null d) then None else Some d
+
+-- the member of that name, if it is there and not null
+abbrev pub present_at : Name → Data → Option Data
+present_at n node = option_and_then unless_null (member_at n node)
+
+-- a member that may be missing or null, and is of the kind where it is neither
+abbrev pub optional : {X : Type 0} → (Data → Option X) → Name → Data → Result (Option X) Name
+optional kind n node = if_any (λ d. or_name n (kind d)) (present_at n node)
+
+-- ---- kinds
+
+-- what comes behind a mark
+abbrev pub behind : ℕ → List ℕ → Option (List ℕ)
+behind mark [] = None
+behind mark (byte ∷ bytes) = if byte == mark then Some bytes else None
+
+-- a text
+abbrev pub text_of : Data → Option (List ℕ)
+text_of d = option_and_then (behind 115) (as_str d)
+
+-- a text that stands for a value
+abbrev pub parsed_of : {X : Type 0} → (List ℕ → Option X) → Data → Option X
+parsed_of of_text d = option_and_then of_text (text_of d)
+
+-- the token of a number
+abbrev pub token_of : Data → Option (List ℕ)
+token_of d = option_and_then (behind 110) (as_str d)
+
+abbrev pub if_ci : ℕ → List ℕ → Option (List ℕ)
+if_ci max text = if nat_le 1 (length text) && nat_le (length text) max && is_printable text then Some text else None
+
+-- a text of 1 to max printable ASCII characters: the CiString of OCPI 2.2.1, chapter Types
+abbrev pub ci_of : ℕ → Data → Option (List ℕ)
+ci_of max d = option_and_then (if_ci max) (text_of d)
+
+-- a number, in millionths
+abbrev pub number_of : Data → Option ℤ
+number_of d = option_and_then millionths_of (token_of d)
+
+abbrev pub if_not_negative : ℤ → Option ℤ
+if_not_negative z = if int_le (pos 0) z then Some z else None
+
+-- a number of at least 0, in millionths
+abbrev pub unsigned_of : Data → Option ℤ
+unsigned_of d = option_and_then if_not_negative (number_of d)
+
+-- 1 to 18 digits
+abbrev pub whole_value : List ℕ → Option ℕ
+whole_value token =
+    if nat_le 1 (length token) && nat_le (length token) 18 && list_all is_ascii_digit token
+    then Some (digits_value 10 token) else None
+
+abbrev pub if_within : ℕ → ℕ → ℕ → Option ℕ
+if_within least most n = if nat_le least n && nat_le n most then Some n else None
+
+-- a number of 1 to 18 digits, with no sign, point or exponent, from least to most
+abbrev pub whole_of : ℕ → ℕ → Data → Option ℕ
+whole_of least most d = option_and_then (if_within least most) (option_and_then whole_value (token_of d))
+
+abbrev pub items_list : Items → List Data
+items_list no_items = []
+items_list (item d ds) = d ∷ items_list ds
+
+abbrev pub if_between : ℕ → ℕ → List Data → Option (List Data)
+if_between least most ds = if nat_le least (length ds) && nat_le (length ds) most then Some ds else None
+
+-- an array of least to most items
+abbrev pub list_of : ℕ → ℕ → Data → Option (List Data)
+list_of least most d = option_and_then (λ ds. if_between least most (items_list ds)) (as_array d)
+
+-- the items of an array of up to so many, which may be missing or null
+abbrev pub list_or_empty : ℕ → Name → Data → Result (List Data) Name
+list_or_empty most n node = do
+  found ← optional (list_of 0 most) n node
+  Ok (unwrap_or found [])
+
+-- an object
+abbrev pub object_of : Data → Option Data
+object_of d = if is_some (as_object d) then Some d else None

@@ -1,0 +1,3 @@
+pub mod Eaches
+pub mod PartyTexts
+pub mod Texts

@@ -1,0 +1,111 @@
+-- The parts of a configuration in a node. Each fault names the member at fault: the first in this order, and the
+-- innermost.
+use Rattle.std.specs.Prelude.{ℕ, List, Bool, false, ◌||◌, Result, Ok, is_some, unwrap_or}
+use Rattle.serde_json.specs.Data.{Data}
+use Rattle.serde_json.specs.Find.{as_bool}
+use Rattle.ocpi_json.specs.Fields.{required, optional, ci_of, text_of, parsed_of, whole_of, list_or_empty}
+use Rattle.ocpi_json.specs.Members.{◌>>=◌, each, or_name}
+use Rattle.ocpi_json.specs.declared.name.Name.{Name}
+use Rattle.ocpi_json.specs.declared.name.Name.TheVariants as name
+use Rattle.ocpi_types.specs.Config.{operator_among, provider_among, has_currency_among, alike_rows}
+use Rattle.ocpi_types.specs.Currency.{currency_of}
+use Rattle.ocpi_types.specs.Different.{all_different}
+use Rattle.ocpi_types.specs.Members.{ensure}
+use Rattle.ocpi_types.specs.Party.{party_of}
+use Rattle.ocpi_types.specs.declared.party.Party.{Party}
+use Rattle.ocpi_types.specs.declared.config.Limits.{Limits}
+use Rattle.ocpi_types.specs.declared.config.Operator.{Operator}
+use Rattle.ocpi_types.specs.declared.config.PairLimit.{PairLimit}
+use Rattle.ocpi_types.specs.declared.config.Platform.{Platform}
+use Rattle.ocpi_types.specs.declared.config.Provider.{Provider}
+use Rattle.ocpi_types.specs.declared.config.ProviderLimit.{ProviderLimit}
+use Rattle.ocpi_types.specs.declared.config.parts.Known.{Known}
+
+-- ---- members that name what is configured
+
+unfoldable pub currency_at : List (List ℕ) → Data → Result (List ℕ) Name
+currency_at currencies node = do
+  currency ← required (parsed_of currency_of) name.Currency node
+  _ ← ensure (has_currency_among currencies currency) name.Currency
+  Ok currency
+
+unfoldable pub operator_at : Known → Data → Result Party Name
+operator_at known node = do
+  operator ← required (parsed_of party_of) name.Operator node
+  _ ← ensure (is_some (operator_among known.operators operator)) name.Operator
+  Ok operator
+
+unfoldable pub provider_at : Known → Data → Result Party Name
+provider_at known node = do
+  provider ← required (parsed_of party_of) name.Provider node
+  _ ← ensure (is_some (provider_among known.providers provider)) name.Provider
+  Ok provider
+
+abbrev pub has_party : Known → Party → Bool
+has_party known party = is_some (operator_among known.operators party) || is_some (provider_among known.providers party)
+
+-- an item of a platform's list of parties
+unfoldable pub platform_party_at : Known → Data → Result Party Name
+platform_party_at known d = do
+  party ← or_name name.Parties (parsed_of party_of d)
+  _ ← ensure (has_party known party) name.Parties
+  Ok party
+
+-- ---- items of the lists
+
+unfoldable pub operator_entry_at : Data → Result Operator Name
+operator_entry_at node = do
+  party ← required (parsed_of party_of) name.Party node
+  zone ← required text_of name.Zone node
+  Ok (record { party = party; zone = zone })
+
+unfoldable pub provider_limit_at : List (List ℕ) → Data → Result ProviderLimit Name
+provider_limit_at currencies node = do
+  currency ← currency_at currencies node
+  limit ← required (whole_of 0 1_000_000_000_000_000) name.Limit node
+  hold ← required (whole_of 1 1_000_000_000_000) name.Hold node
+  Ok (record { currency = currency; limit = limit; hold = hold })
+
+unfoldable pub provider_entry_at : List (List ℕ) → Data → Result Provider Name
+provider_entry_at currencies node = do
+  party ← required (parsed_of party_of) name.Party node
+  items ← list_or_empty 16 name.Limits node
+  limits ← each (provider_limit_at currencies) items
+  _ ← ensure (all_different alike_rows limits) name.Limits
+  Ok (record { party = party; limits = limits })
+
+unfoldable pub platform_at : Known → Data → Result Platform Name
+platform_at known node = do
+  called ← required (ci_of 36) name.Name node
+  items ← list_or_empty 128 name.Parties node
+  parties ← each (platform_party_at known) items
+  hub ← optional as_bool name.Hub node
+  Ok (record { name = called; parties = parties; hub = unwrap_or hub false })
+
+unfoldable pub pair_limit_at : Known → Data → Result PairLimit Name
+pair_limit_at known node = do
+  operator ← operator_at known node
+  provider ← provider_at known node
+  currency ← currency_at known.currencies node
+  limit ← required (whole_of 0 1_000_000_000_000_000) name.Limit node
+  Ok (record { operator = operator; provider = provider; currency = currency; limit = limit })
+
+-- ---- how many of each the house keeps
+
+abbrev pub largest : Limits
+largest = record { cdrs = 100_000; tariffs = 10_000; entries = 10_000_000; order = 10_000_000; periods = 10_000 }
+
+unfoldable pub limits_at : Data → Result Limits Name
+limits_at node = do
+  cdrs ← optional (whole_of 1 100_000) name.Cdrs node
+  tariffs ← optional (whole_of 1 10_000) name.Tariffs node
+  entries ← optional (whole_of 1 10_000_000) name.Entries node
+  order ← optional (whole_of 1 10_000_000) name.Order node
+  periods ← optional (whole_of 1 10_000) name.Periods node
+  Ok (record {
+    cdrs = unwrap_or cdrs 100_000;
+    tariffs = unwrap_or tariffs 10_000;
+    entries = unwrap_or entries 10_000_000;
+    order = unwrap_or order 10_000_000;
+    periods = unwrap_or periods 10_000;
+  })

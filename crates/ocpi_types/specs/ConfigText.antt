@@ -1,0 +1,113 @@
+-- The configuration that a text says: a JSON object of 1,048,576 bytes at most. Each fault names the member at fault,
+-- the first in this order. Members not named here are passed over.
+use Rattle.std.specs.Prelude.{ℕ, List, [], length, ◌==◌, nat_le, if◌then◌else◌, Option, Some, None, Result, Ok, Err, unwrap_or}
+use Rattle.serde_json.specs.Data.{Data}
+use Rattle.ocpi_json.specs.Fields.{required, optional, object_of, parsed_of, whole_of, list_of, list_or_empty}
+use Rattle.ocpi_json.specs.Members.{◌>>=◌, each, if_any, or_name}
+use Rattle.ocpi_json.specs.Reading.{data_of}
+use Rattle.ocpi_json.specs.declared.name.Name.{Name}
+use Rattle.ocpi_json.specs.declared.name.Name.TheVariants as name
+use Rattle.ocpi_types.specs.Config.{alike_operators, alike_providers, alike_platforms, alike_pairs}
+use Rattle.ocpi_types.specs.ConfigParts.{operator_entry_at, provider_entry_at, platform_at, pair_limit_at, limits_at, largest}
+use Rattle.ocpi_types.specs.Currency.{currency_of, same_currency}
+use Rattle.ocpi_types.specs.Different.{all_different}
+use Rattle.ocpi_types.specs.Members.{ensure}
+use Rattle.ocpi_types.specs.declared.config.Config.{Config}
+use Rattle.ocpi_types.specs.declared.config.Limits.{Limits}
+use Rattle.ocpi_types.specs.declared.config.Operator.{Operator}
+use Rattle.ocpi_types.specs.declared.config.PairLimit.{PairLimit}
+use Rattle.ocpi_types.specs.declared.config.Platform.{Platform}
+use Rattle.ocpi_types.specs.declared.config.Provider.{Provider}
+use Rattle.ocpi_types.specs.declared.config.parts.Known.{Known}
+use Rattle.ocpi_types.specs.declared.config.reading.ConfigFault.{ConfigFault}
+use Rattle.ocpi_types.specs.declared.config.reading.ConfigFault.TheVariants.{Syntax, Member}
+
+-- 1 to 16 currencies
+unfoldable pub currencies_at : Data → Result (List (List ℕ)) Name
+currencies_at node = do
+  items ← required (list_of 1 16) name.Currencies node
+  currencies ← each (λ d. or_name name.Currencies (parsed_of currency_of d)) items
+  _ ← ensure (all_different same_currency currencies) name.Currencies
+  Ok currencies
+
+-- 1 to 64 operators
+unfoldable pub operators_at : Data → Result (List Operator) Name
+operators_at node = do
+  items ← required (list_of 1 64) name.Operators node
+  operators ← each operator_entry_at items
+  _ ← ensure (all_different alike_operators operators) name.Operators
+  Ok operators
+
+-- 1 to 64 providers
+unfoldable pub providers_at : List (List ℕ) → Data → Result (List Provider) Name
+providers_at currencies node = do
+  items ← required (list_of 1 64) name.Providers node
+  providers ← each (provider_entry_at currencies) items
+  _ ← ensure (all_different alike_providers providers) name.Providers
+  Ok providers
+
+-- 1 to 128 platforms
+unfoldable pub platforms_at : Known → Data → Result (List Platform) Name
+platforms_at known node = do
+  items ← required (list_of 1 128) name.Platforms node
+  platforms ← each (platform_at known) items
+  _ ← ensure (all_different alike_platforms platforms) name.Platforms
+  Ok platforms
+
+-- how many of each the house keeps: as many as there may be, where nothing is said
+unfoldable pub house_limits_at : Data → Result Limits Name
+house_limits_at node = do
+  found ← optional object_of name.Limits node
+  limits ← if_any limits_at found
+  Ok (unwrap_or limits largest)
+
+-- up to 4,096 limits of a provider with one operator, which version 2 brought
+unfoldable pub stated_pair_limits_at : Known → Data → Result (List PairLimit) Name
+stated_pair_limits_at known node = do
+  items ← list_or_empty 4096 name.PairLimits node
+  pair_limits ← each (pair_limit_at known) items
+  _ ← ensure (all_different alike_pairs pair_limits) name.PairLimits
+  Ok pair_limits
+
+unfoldable pub pair_limits_at : ℕ → Known → Data → Result (List PairLimit) Name
+pair_limits_at version known node = if version == 2 then stated_pair_limits_at known node else Ok []
+
+-- the credit window, which version 2 brought
+unfoldable pub credit_window_at : ℕ → Data → Result (Option ℕ) Name
+credit_window_at version node = if version == 2 then optional (whole_of 0 10_000) name.CreditWindow node else Ok None
+
+unfoldable pub config_at : Data → Result Config Name
+config_at node = do
+  version ← required (whole_of 1 2) name.Version node
+  tolerance ← optional (whole_of 0 1_000_000_000_000) name.Tolerance node
+  currencies ← currencies_at node
+  operators ← operators_at node
+  providers ← providers_at currencies node
+  let known : Known = record { currencies = currencies; operators = operators; providers = providers }
+  platforms ← platforms_at known node
+  limits ← house_limits_at node
+  pair_limits ← pair_limits_at version known node
+  credit_window ← credit_window_at version node
+  Ok (record {
+    tolerance = unwrap_or tolerance 100;
+    currencies = currencies;
+    operators = operators;
+    providers = providers;
+    platforms = platforms;
+    limits = limits;
+    pair_limits = pair_limits;
+    credit_window = credit_window;
+  })
+
+-- the name of the member at fault makes a fault of the configuration
+abbrev pub or_member : Result Config Name → Result Config ConfigFault
+or_member (Ok config) = Ok config
+or_member (Err n) = Err (Member n)
+
+abbrev pub config_in : Option Data → Result Config ConfigFault
+config_in None = Err Syntax
+config_in (Some d) = or_member (config_at d)
+
+-- the configuration that a text says
+unfoldable pub config_of : List ℕ → Result Config ConfigFault
+config_of text = if nat_le (length text) 1_048_576 then config_in (data_of text) else Err Syntax

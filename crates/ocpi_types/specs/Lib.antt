@@ -1,0 +1,11 @@
+pub mod Config
+pub mod ConfigFaults
+pub mod ConfigParts
+pub mod ConfigText
+pub mod Currency
+pub mod Different
+pub mod Members
+pub mod Party
+pub mod Refusal
+pub mod Token
+pub mod TokenKind

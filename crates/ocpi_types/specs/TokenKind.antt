@@ -1,0 +1,20 @@
+-- The type of a token (OCPI 2.2.1, TokenType enum).
+use Rattle.std.specs.Prelude.{ℕ, List, Bool, true, false, codes, Option, Some, None, if◌then◌else◌}
+use Rattle.std.specs.Str.{bytes_eq}
+use Rattle.ocpi_types.specs.declared.token.TokenKind.{TokenKind}
+use Rattle.ocpi_types.specs.declared.token.TokenKind.TheVariants.{AdHocUser, AppUser, Other, Rfid}
+
+abbrev pub same_kind : TokenKind → TokenKind → Bool
+same_kind AdHocUser AdHocUser = true
+same_kind AppUser AppUser = true
+same_kind Other Other = true
+same_kind Rfid Rfid = true
+same_kind a b = false
+
+-- the type that a text names
+abbrev pub kind_of : List ℕ → Option TokenKind
+kind_of text =
+    if bytes_eq text (codes "AD_HOC_USER") then Some AdHocUser
+    else (if bytes_eq text (codes "APP_USER") then Some AppUser
+    else (if bytes_eq text (codes "OTHER") then Some Other
+    else (if bytes_eq text (codes "RFID") then Some Rfid else None)))

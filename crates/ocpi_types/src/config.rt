@@ -1,0 +1,93 @@
+//! The configuration of a house.
+
+use super::bounded::AtMost;
+use super::currency::Currency;
+use super::party::Party;
+use ocpi_json::ci_text::CiText;
+use ocpi_json::sequence::Sequence;
+use ocpi_json::text::Text;
+
+mod alike;
+mod copies;
+mod lookups;
+mod parts;
+mod reading;
+
+pub use reading::ConfigFault;
+
+/// How far a declared cost may differ, in ten-thousandths of the currency unit.
+pub type Tolerance = AtMost<1_000_000_000_000>;
+
+/// A credit limit in ten-thousandths of the currency unit.
+pub type CreditLimit = AtMost<1_000_000_000_000_000>;
+
+/// What an authorisation holds, in ten-thousandths of the currency unit.
+pub type HoldAmount = AtMost<1_000_000_000_000>;
+
+/// An operator and the text of its time zone.
+#[derive(Drop)]
+pub struct Operator {
+    pub party: Party,
+    pub zone: Text,
+}
+
+/// A provider's credit limit and hold in one currency.
+#[derive(Drop)]
+pub struct ProviderLimit {
+    pub currency: Currency,
+    pub limit: CreditLimit,
+    pub hold: HoldAmount,
+}
+
+/// A provider and its limits, at most one a currency.
+#[derive(Drop)]
+pub struct Provider {
+    pub party: Party,
+    pub limits: Sequence<ProviderLimit>,
+}
+
+/// A platform and the parties that it acts for.
+#[derive(Drop)]
+pub struct Platform {
+    pub name: CiText,
+    pub parties: Sequence<Party>,
+    pub hub: bool,
+}
+
+/// How many of each the house keeps.
+#[derive(Clone, Copy, Debug, PartialEq, Eq)]
+pub struct Limits {
+    /// CDRs of an operator.
+    pub cdrs: AtMost<100_000>,
+    /// Tariff versions of an operator.
+    pub tariffs: AtMost<10_000>,
+    /// Entries of a provider's account.
+    pub entries: AtMost<10_000_000>,
+    /// Entries of the order.
+    pub order: AtMost<10_000_000>,
+    /// Closed periods.
+    pub periods: AtMost<10_000>,
+}
+
+/// A provider's credit limit with one operator in one currency.
+#[derive(Drop)]
+pub struct PairLimit {
+    pub operator: Party,
+    pub provider: Party,
+    pub currency: Currency,
+    pub limit: CreditLimit,
+}
+
+/// The configuration of a house.
+#[derive(Drop)]
+pub struct Config {
+    pub tolerance: Tolerance,
+    pub currencies: Sequence<Currency>,
+    pub operators: Sequence<Operator>,
+    pub providers: Sequence<Provider>,
+    pub platforms: Sequence<Platform>,
+    pub limits: Limits,
+    pub pair_limits: Sequence<PairLimit>,
+    /// How many periods after its original's period a Credit CDR may come; none is no bound.
+    pub credit_window: Option<AtMost<10_000>>,
+}

@@ -1,0 +1,217 @@
+//! Reading a configuration.
+
+ghost use Rattle.std.specs.Prelude.{◌≡◌};
+ghost use Rattle.serde_json.specs.View.{view};
+ghost use Rattle.ocpi_json.specs.Faults.{Gives};
+ghost use Rattle.ocpi_types.specs.ConfigText.{currencies_at, operators_at, providers_at, platforms_at, house_limits_at, pair_limits_at, stated_pair_limits_at, credit_window_at};
+
+use super::parts::{Known, read_each_with};
+use super::{Config, Limits, Operator, PairLimit, Platform, Provider, Tolerance};
+use crate::bounded::AtMost;
+use crate::currency::Currency;
+use crate::different::are_all_different;
+use crate::members::{at_most_or_none, ensure};
+use ocpi_json::fields::{self, FieldFault};
+use ocpi_json::name::Name;
+use ocpi_json::objects::{FromNode, parsed_each, read_each, read_if_any};
+use ocpi_json::sequence::Sequence;
+use ocpi_json::{Node, ReadFault};
+use std::alloc::Global;
+
+const MOST_BYTES: usize = 1_048_576;
+
+/// Why a configuration was not read.
+#[derive(Clone, Copy, Debug, PartialEq, Eq)]
+pub enum ConfigFault {
+    /// It is no JSON, or longer than 1,048,576 bytes.
+    Syntax,
+    /// The member is missing, of a wrong kind or out of bounds, names what is not configured, or says something twice.
+    Member { name: Name },
+    NoMemory,
+}
+
+impl From<ReadFault> for ConfigFault {
+    ghost use Rattle.std.specs.Prelude.{◌≡◌};
+    ghost use Rattle.ocpi_types.specs.ConfigFaults.{from_read};
+
+    ghost from_gives = { λ fault e. e ≡ from_read fault };
+
+    fn from(fault: ReadFault) -> ConfigFault {
+        match fault {
+            ReadFault::Syntax => ConfigFault::Syntax,
+            ReadFault::NoMemory => ConfigFault::NoMemory,
+        }
+    }
+}
+
+impl From<FieldFault> for ConfigFault {
+    ghost use Rattle.std.specs.Prelude.{◌≡◌};
+    ghost use Rattle.ocpi_types.specs.ConfigFaults.{from_field};
+
+    ghost from_gives = { λ fault e. e ≡ from_field fault };
+
+    fn from(fault: FieldFault) -> ConfigFault {
+        match fault {
+            FieldFault::Field(name) => ConfigFault::Member { name },
+            FieldFault::NoMemory => ConfigFault::NoMemory,
+        }
+    }
+}
+
+#[tactic(auto, unfolding(crate::specs::ConfigText::currencies_at))]
+fn read_currencies(alloc: Global, node: &Node) -> Result<Sequence<Currency>, FieldFault>
+    ensures { Gives result (currencies_at (view node.now)) }
+{
+    let nodes = fields::list(node, Name::Currencies, 1, 16)?;
+    let currencies = parsed_each(alloc, nodes, Name::Currencies)?;
+    ensure(are_all_different(currencies.as_slice()), Name::Currencies)?;
+    Ok(currencies)
+}
+
+#[tactic(auto, unfolding(crate::specs::ConfigText::operators_at))]
+fn read_operators(alloc: Global, node: &Node) -> Result<Sequence<Operator>, FieldFault>
+    ensures { Gives result (operators_at (view node.now)) }
+{
+    let operators = read_each(alloc, fields::list(node, Name::Operators, 1, 64)?)?;
+    ensure(are_all_different(operators.as_slice()), Name::Operators)?;
+    Ok(operators)
+}
+
+#[tactic(auto, unfolding(crate::specs::ConfigText::providers_at))]
+fn read_providers(
+    alloc: Global,
+    currencies: &Sequence<Currency>,
+    node: &Node,
+) -> Result<Sequence<Provider>, FieldFault>
+    ensures { Gives result (providers_at currencies.now (view node.now)) }
+{
+    let nodes = fields::list(node, Name::Providers, 1, 64)?;
+    let providers = read_each_with(alloc, currencies, nodes)?;
+    ensure(are_all_different(providers.as_slice()), Name::Providers)?;
+    Ok(providers)
+}
+
+#[tactic(auto, unfolding(crate::specs::ConfigText::platforms_at))]
+fn read_platforms(
+    alloc: Global,
+    known: &Known,
+    node: &Node,
+) -> Result<Sequence<Platform>, FieldFault>
+    ensures { Gives result (platforms_at known.now (view node.now)) }
+{
+    let nodes = fields::list(node, Name::Platforms, 1, 128)?;
+    let platforms = read_each_with(alloc, known, nodes)?;
+    ensure(are_all_different(platforms.as_slice()), Name::Platforms)?;
+    Ok(platforms)
+}
+
+#[tactic(auto, unfolding(crate::specs::ConfigText::house_limits_at))]
+fn read_limits(alloc: Global, node: &Node) -> Result<Limits, FieldFault>
+    ensures { Gives result (house_limits_at (view node.now)) }
+{
+    let limits = read_if_any(alloc, fields::object_or_none(node, Name::Limits)?)?;
+    Ok(limits.unwrap_or(Limits::largest()))
+}
+
+#[tactic(auto, unfolding(crate::specs::ConfigText::stated_pair_limits_at))]
+fn read_stated_pair_limits(
+    alloc: Global,
+    known: &Known,
+    node: &Node,
+) -> Result<Sequence<PairLimit>, FieldFault>
+    ensures { Gives result (stated_pair_limits_at known.now (view node.now)) }
+{
+    let nodes = fields::list_or_empty(node, Name::PairLimits, 4096)?;
+    let pair_limits = read_each_with(alloc, known, nodes)?;
+    ensure(are_all_different(pair_limits.as_slice()), Name::PairLimits)?;
+    Ok(pair_limits)
+}
+
+#[tactic(auto, unfolding(crate::specs::ConfigText::pair_limits_at))]
+fn read_pair_limits(
+    alloc: Global,
+    version: u64,
+    known: &Known,
+    node: &Node,
+) -> Result<Sequence<PairLimit>, FieldFault>
+    ensures { Gives result (pair_limits_at version known.now (view node.now)) }
+{
+    if version == 2 {
+        read_stated_pair_limits(alloc, known, node)
+    } else {
+        Ok(Sequence::new(alloc))
+    }
+}
+
+#[tactic(auto, unfolding(crate::specs::ConfigText::credit_window_at))]
+fn read_credit_window(version: u64, node: &Node) -> Result<Option<AtMost<10_000>>, FieldFault>
+    ensures { Gives result (credit_window_at version (view node.now)) }
+{
+    if version == 2 {
+        at_most_or_none(node, Name::CreditWindow, 0)
+    } else {
+        Ok(None)
+    }
+}
+
+fn usual_tolerance() -> Tolerance
+    ensures { result ≡ 100 }
+{
+    AtMost::new(100).unwrap()
+}
+
+impl FromNode for Config {
+    ghost use Rattle.ocpi_types.specs.ConfigText.{config_at};
+
+    ghost at = { config_at };
+
+    #[tactic(auto, unfolding(crate::specs::ConfigText::config_at))]
+    fn from_node(alloc: Global, node: &Node) -> Result<Config, FieldFault> {
+        let version = fields::whole(node, Name::Version, 1, 2)?;
+        let tolerance = at_most_or_none(node, Name::Tolerance, 0)?.unwrap_or(usual_tolerance());
+        let currencies = read_currencies(alloc, node)?;
+        let operators = read_operators(alloc, node)?;
+        let providers = read_providers(alloc, &currencies, node)?;
+        let known = Known {
+            currencies,
+            operators,
+            providers,
+        };
+        let platforms = read_platforms(alloc, &known, node)?;
+        let limits = read_limits(alloc, node)?;
+        let pair_limits = read_pair_limits(alloc, version, &known, node)?;
+        let credit_window = read_credit_window(version, node)?;
+        let Known {
+            currencies,
+            operators,
+            providers,
+        } = known;
+        Ok(Config {
+            tolerance,
+            currencies,
+            operators,
+            providers,
+            platforms,
+            limits,
+            pair_limits,
+            credit_window,
+        })
+    }
+}
+
+impl Config {
+    ghost use Rattle.ocpi_types.specs.ConfigText.{config_of};
+    ghost use Rattle.ocpi_types.specs.ConfigFaults.{Reads};
+
+    /// The configuration that a file of these bytes says.
+    #[tactic(auto, unfolding(crate::specs::ConfigText::config_of))]
+    pub fn read(alloc: Global, bytes: &[u8]) -> Result<Config, ConfigFault>
+        ensures { Reads result (config_of bytes.now) }
+    {
+        if MOST_BYTES < bytes.len() {
+            return Err(ConfigFault::Syntax);
+        }
+        let node = ocpi_json::read(alloc, bytes)?;
+        Ok(Config::from_node(alloc, &node)?)
+    }
+}

@@ -1,0 +1,98 @@
+ghost use Rattle.std.specs.Prelude.{◌≡◌};
+ghost use Rattle.std.specs.Char.{is_ascii_uppercase};
+ghost use Rattle.ocpi_types.specs.Currency.{currency_of, same_currency};
+
+use super::copying::TryCopy;
+use super::different::Alike;
+use ocpi_json::objects::FromText;
+use std::alloc::{AllocError, Global};
+use std::marker::Model;
+
+/// A currency by its ISO 4217 code of three letters A to Z, compared exactly (OCPI 2.2.1, CDR object, `currency`).
+#[derive(Debug, PartialEq, Eq, PartialOrd, Ord)]
+pub struct Currency {
+    letters: [u8; 3],
+}
+
+impl Model for Currency {
+    ghost use Rattle.std.specs.Prelude.{List, ℕ};
+
+    ghost Value = { List ℕ };
+
+    ghost view = { λ currency. currency.letters };
+
+    ghost inverse = { λ letters. record { letters = letters } };
+}
+
+impl Clone for Currency {
+    fn clone(&self) -> Result<Currency, AllocError> {
+        Ok(*self)
+    }
+}
+
+impl Copy for Currency {}
+
+fn is_capital(byte: u8) -> bool
+    ensures { result ≡ is_ascii_uppercase byte }
+{
+    byte.is_ascii_uppercase()
+}
+
+impl Currency {
+    /// The currency that a text names, if it is three letters A to Z.
+    pub fn new(text: &str) -> Option<Currency>
+        ensures { result ≡ currency_of text.now }
+    {
+        match text.as_bytes() {
+            [first, second, third] => {
+                if is_capital(*first) && is_capital(*second) && is_capital(*third) {
+                    Some(Currency {
+                        letters: [*first, *second, *third],
+                    })
+                } else {
+                    None
+                }
+            }
+            _ => None,
+        }
+    }
+
+    pub fn as_bytes(&self) -> &[u8]
+        ensures { result.now ≡ self.now }
+    {
+        &self.letters
+    }
+
+    /// The same currency.
+    pub fn is(&self, other: &Currency) -> bool
+        ensures { result ≡ same_currency self.now other.now }
+    {
+        self.letters.as_slice() == other.letters.as_slice()
+    }
+}
+
+impl TryCopy for Currency {
+    fn copy(&self, _alloc: Global) -> Result<Currency, AllocError> {
+        Ok(*self)
+    }
+}
+
+impl FromText for Currency {
+    ghost use Rattle.ocpi_types.specs.Currency.{currency_of};
+
+    ghost of_text = { currency_of };
+
+    fn from_text(text: &str) -> Option<Currency> {
+        Currency::new(text)
+    }
+}
+
+impl Alike for Currency {
+    ghost use Rattle.ocpi_types.specs.Currency.{same_currency};
+
+    ghost alike = { same_currency };
+
+    fn is_like(&self, other: &Currency) -> bool {
+        self.is(other)
+    }
+}

@@ -1,0 +1,4 @@
+pub mod HoldsLemmas
+pub mod LimitsLemmas
+pub mod PrintableLemmas
+pub mod SameParty

@@ -1,0 +1,205 @@
+-- An admitted command keeps the limits.
+use Rattle.std.proofs.Common.{◌≡◌, ◌≤◌, ◌<◌, ◌||◌, ◌&&◌, ℕ, ◌+◌, List, [], ◌∷◌, ◌++◌, Bool, true, false, not, refl, sym, ap, ◌∙◌, subst, arith, filter, if◌then◌else◌, Option, Some, None, nat_lt, nat_le, rules, length, append_assoc}
+use Rattle.std.specs.List.{list_any}
+use Rattle.std.specs.Cmp.Lexicographic.{same_text}
+use Rattle.std.proofs.lemmas.List.{append-nil}
+use Rattle.std.proofs.lemmas.List.Folds.{list_any-append}
+use Rattle.std.proofs.lemmas.Bool.{ltb-false}
+use Rattle.std.proofs.Math.Bool.{or-false}
+use Rattle.ocpi_types.specs.declared.config.Config.{Config}
+use Rattle.ocpi_types.specs.declared.party.Party.{Party}
+use Rattle.ocpi_types.specs.Party.{same_party}
+use Rattle.ocpi_types.specs.Config.{limit_of, hold_of, pair_limit_of}
+use Rattle.ocpi_types.specs.Currency.{same_currency}
+use Rattle.cdr_checks.specs.declared.request.Authorize.{Authorize}
+use Rattle.cdr_checks.specs.declared.request.Command.{Command}
+use Rattle.cdr_checks.specs.declared.request.Command.TheVariants as command
+use Rattle.plain_house.specs.declared.event.Hold.{Hold}
+use Rattle.plain_house.specs.declared.event.Event.{Event}
+use Rattle.plain_house.specs.declared.event.Event.TheVariants.{Token, Authorised, Released, Closed}
+use Rattle.plain_house.specs.Exposure.{ends_hold, open_hold, open_holds, amount_of, is_of_provider, is_of_pair, exposure_of, pair_exposure_of}
+use Rattle.ocpi_types.specs.declared.refusal.Refusal.{Refusal}
+use Rattle.ocpi_types.specs.declared.refusal.Refusal.TheVariants as refusal
+use Rattle.ocpi_types.specs.declared.refusal.Store.TheVariants as store
+use Rattle.plain_house.specs.declared.answer.Answer.TheVariants as answer
+use Rattle.plain_house.specs.House.{lacks_credit, passes, hold_for, events_after, outcome, authorized, unless_full, is_account_full, is_order_full, refused, answered, allowed, Outcome, Reply, Does, is_no_memory}
+use Rattle.plain_house.specs.Tokens.{validity}
+use Rattle.plain_house.specs.Legal.{KeepsLimits, events_after_all}
+use Rattle.plain_house.proofs.HoldsLemmas.{amount_of-append}
+use Rattle.plain_house.proofs.SameParty.{SameCodes, same_codes, both_are, same_limit, same_exposure, same_pair_limit, same_pair_exposure}
+
+EndsNothing : Event → Type 0
+EndsNothing event = (hold : Hold) → ends_hold hold event ≡ false
+
+-- a later event that ends no hold leaves a hold open
+open_hold-later : (event : Event) (later : List Event) (x : Event) → ((hold : Hold) → ends_hold hold x ≡ false) → open_hold event (later ++ x ∷ []) ≡ open_hold event later
+open_hold-later (Token token) later x h = refl
+open_hold-later (Authorised hold) later x h =
+    let any : list_any (ends_hold hold) (later ++ x ∷ []) ≡ list_any (ends_hold hold) later =
+    list_any-append (ends_hold hold) later (x ∷ [])
+    ∙ ap (λ (b : Bool). list_any (ends_hold hold) later || (b || false)) (h hold)
+    ∙ or-false (list_any (ends_hold hold) later) in
+    ap (λ (b : Bool). if b then [] else hold ∷ []) any
+open_hold-later (Released release) later x h = refl
+open_hold-later (Closed period) later x h = refl
+
+open_holds-later : (events : List Event) (x : Event) → ((hold : Hold) → ends_hold hold x ≡ false) → open_holds (events ++ x ∷ []) ≡ open_holds events ++ open_hold x []
+open_holds-later [] x h = append-nil (open_hold x [])
+open_holds-later (event ∷ events) x h =
+    ap (λ (holds : List Hold). holds ++ open_holds (events ++ x ∷ [])) (open_hold-later event events x h)
+    ∙ ap (λ (holds : List Hold). open_hold event events ++ holds) (open_holds-later events x h)
+    ∙ sym (append_assoc (open_hold event events) (open_holds events) (open_hold x []))
+
+-- the amounts that a test picks, with one more event
+amount_later : (p : Hold → Bool) (events : List Event) (x : Event) → ((hold : Hold) → ends_hold hold x ≡ false)
+    → amount_of (filter p (open_holds (events ++ x ∷ []))) ≡ amount_of (filter p (open_holds events)) + amount_of (filter p (open_hold x []))
+amount_later p events x h =
+    ap (λ (holds : List Hold). amount_of (filter p holds)) (open_holds-later events x h)
+    ∙ amount_of-append p (open_holds events) (open_hold x [])
+
+-- one hold, picked or not
+amount_one : (b : Bool) (hold : Hold) → amount_of (if b then hold ∷ [] else []) ≡ (if b then hold.amount else 0)
+amount_one true hold = omega arith
+amount_one false hold = refl
+
+amount_picked : (p : Hold → Bool) (hold : Hold) → amount_of (filter p (hold ∷ [])) ≡ (if p hold then hold.amount else 0)
+amount_picked p hold = amount_one (p hold) hold
+
+-- the hold is of the provider and currency where the test says so
+record IsFor (config : Config) (ask : Authorize) (provider : Party) (currency : List ℕ) : Type 0 where
+  codes : SameCodes ask.provider provider
+  same : ask.currency ≡ currency
+
+is_for : (config : Config) (ask : Authorize) (provider : Party) (currency : List ℕ) → (same_party ask.provider provider && same_currency ask.currency currency) ≡ true → IsFor config ask provider currency
+is_for config ask provider currency h =
+    let parts = both_are (same_party ask.provider provider) (same_currency ask.currency currency) h in
+    record { codes = same_codes ask.provider provider parts.0; same = same_text ask.currency currency (sym parts.1) }
+
+-- the two limits are kept at a hold that lacks no credit
+neither : (a b : Bool) → (a || b) ≡ false → (a ≡ false) × (b ≡ false)
+neither false b h = (refl, h)
+neither true b h = absurd (cc)
+
+pub provider_within : (config : Config) (events : List Event) (ask : Authorize) → lacks_credit config events ask ≡ false
+    → exposure_of events ask.provider ask.currency + hold_of config ask.provider ask.currency ≤ limit_of config ask.provider ask.currency
+provider_within config events ask h =
+    ltb-false (limit_of config ask.provider ask.currency) (exposure_of events ask.provider ask.currency + hold_of config ask.provider ask.currency)
+    (neither _ _ h).0
+
+pub passes-false : (limit : Option ℕ) (amount most : ℕ) → passes limit amount ≡ false → limit ≡ Some most → amount ≤ most
+passes-false None amount most h e = absurd (cc)
+passes-false (Some limit) amount most h e =
+    let same : limit ≡ most = cc (e) in
+    subst (λ (n : ℕ). amount ≤ n) same (ltb-false limit amount h)
+
+at_most_picked : (b : Bool) (total amount limit : ℕ) → total ≤ limit → (b ≡ true → total + amount ≤ limit) → total + (if b then amount else 0) ≤ limit
+at_most_picked true total amount limit h k = k refl
+at_most_picked false total amount limit h k = omega (arith, h)
+
+-- one more hold, where it lacks no credit
+provider_later : (config : Config) (events : List Event) (ask : Authorize) → KeepsLimits config events → lacks_credit config events ask ≡ false
+    → (provider : Party) (currency : List ℕ) → exposure_of (events ++ Authorised (hold_for config events ask) ∷ []) provider currency ≤ limit_of config provider currency
+provider_later config events ask keeps has_credit provider currency =
+    let hold = hold_for config events ask in
+    let test : Hold → Bool = is_of_provider provider currency in
+    let total : ℕ = amount_of (filter test (open_holds events)) in
+    let sum : amount_of (filter test (open_holds (events ++ Authorised hold ∷ []))) ≡ total + (if test hold then hold.amount else 0) =
+    amount_later test events (Authorised hold) (λ h. refl) ∙ ap (λ (n : ℕ). total + n) (amount_picked test hold) in
+    let before : total ≤ limit_of config provider currency = omega (arith, keeps.provider provider currency) in
+    let most : total + (if test hold then hold.amount else 0) ≤ limit_of config provider currency =
+    at_most_picked (test hold) total hold.amount (limit_of config provider currency) before
+    (λ picked.
+    let for_it = is_for config ask provider currency picked in
+    let exposure = same_exposure events ask.provider provider ask.currency currency for_it.codes for_it.same in
+    let limit = same_limit config ask.provider provider ask.currency currency for_it.codes for_it.same in
+    omega (arith, provider_within config events ask has_credit, exposure, limit)) in
+    omega (arith, sum, most)
+
+pair_later : (config : Config) (events : List Event) (ask : Authorize) → KeepsLimits config events → lacks_credit config events ask ≡ false
+    → (operator provider : Party) (currency : List ℕ) (limit : ℕ) → pair_limit_of config operator provider currency ≡ Some limit
+    → pair_exposure_of (events ++ Authorised (hold_for config events ask) ∷ []) operator provider currency ≤ limit
+pair_later config events ask keeps has_credit operator provider currency limit has_limit =
+    let hold = hold_for config events ask in
+    let test : Hold → Bool = is_of_pair operator provider currency in
+    let total : ℕ = amount_of (filter test (open_holds events)) in
+    let sum : amount_of (filter test (open_holds (events ++ Authorised hold ∷ []))) ≡ total + (if test hold then hold.amount else 0) =
+    amount_later test events (Authorised hold) (λ h. refl) ∙ ap (λ (n : ℕ). total + n) (amount_picked test hold) in
+    let before : total ≤ limit = omega (arith, keeps.pair operator provider currency limit has_limit) in
+    let most : total + (if test hold then hold.amount else 0) ≤ limit =
+    at_most_picked (test hold) total hold.amount limit before
+    (λ picked.
+    let parts = both_are (same_party ask.operator operator) (same_party ask.provider provider && same_currency ask.currency currency) picked in
+    let their = same_codes ask.operator operator parts.0 in
+    let for_it = is_for config ask provider currency parts.1 in
+    let exposure = same_pair_exposure events ask.operator operator ask.provider provider ask.currency currency their for_it.codes for_it.same in
+    let same = same_pair_limit config ask.operator operator ask.provider provider ask.currency currency their for_it.codes for_it.same in
+    let within = passes-false (pair_limit_of config ask.operator ask.provider ask.currency)
+    (pair_exposure_of events ask.operator ask.provider ask.currency + hold_of config ask.provider ask.currency) limit
+    (neither _ _ has_credit).1 (same ∙ has_limit) in
+    omega (arith, within, exposure)) in
+    omega (arith, sum, most)
+
+keeps_hold : (config : Config) (events : List Event) (ask : Authorize) → KeepsLimits config events → lacks_credit config events ask ≡ false
+    → KeepsLimits config (events ++ Authorised (hold_for config events ask) ∷ [])
+keeps_hold config events ask keeps has_credit =
+    record { provider = provider_later config events ask keeps has_credit; pair = pair_later config events ask keeps has_credit }
+
+-- an event that ends nothing and holds nothing
+keeps_same : (config : Config) (events : List Event) (x : Event) → ((hold : Hold) → ends_hold hold x ≡ false) → open_hold x [] ≡ [] → KeepsLimits config events → KeepsLimits config (events ++ x ∷ [])
+keeps_same config events x h none keeps =
+    let same : open_holds events ≡ open_holds (events ++ x ∷ []) =
+    sym (open_holds-later events x h ∙ ap (λ (holds : List Hold). open_holds events ++ holds) none ∙ append-nil (open_holds events)) in
+    record {
+      provider = λ provider currency. subst (λ (holds : List Hold). amount_of (filter (is_of_provider provider currency) holds) + 0 ≤ limit_of config provider currency) same (keeps.provider provider currency);
+      pair = λ operator provider currency limit e. subst (λ (holds : List Hold). amount_of (filter (is_of_pair operator provider currency) holds) + 0 ≤ limit) same (keeps.pair operator provider currency limit e);
+    }
+
+keeps_none : (config : Config) (events : List Event) → KeepsLimits config events → KeepsLimits config (events ++ [])
+keeps_none config events keeps = subst (KeepsLimits config) (sym (append-nil events)) keeps
+
+-- the cases of a full account or order
+keeps_unless_full : (config : Config) (events : List Event) (full order : Bool) (first second : Refusal) (outcome : Outcome) → KeepsLimits config events
+    → KeepsLimits config (events ++ outcome.added)
+    → KeepsLimits config (events ++ (if full then refused events first else (if order then refused events second else outcome)).added)
+keeps_unless_full config events true order first second outcome keeps more = keeps_none config events keeps
+keeps_unless_full config events false true first second outcome keeps more = keeps_none config events keeps
+keeps_unless_full config events false false first second outcome keeps more = more
+
+keeps_granted : (config : Config) (events : List Event) (ask : Authorize) (lacks : Bool) → KeepsLimits config events → lacks_credit config events ask ≡ lacks
+    → KeepsLimits config (events ++ (if lacks then answered events answer.NoCredit [] else allowed events (hold_for config events ask)).added)
+keeps_granted config events ask true keeps e = keeps_none config events keeps
+keeps_granted config events ask false keeps e = keeps_hold config events ask keeps e
+
+keeps_authorized : (config : Config) (events : List Event) (ask : Authorize) (valid : Option Bool) → KeepsLimits config events
+    → KeepsLimits config (events ++ (authorized config events ask valid).added)
+keeps_authorized config events ask None keeps = keeps_none config events keeps
+keeps_authorized config events ask (Some false) keeps = keeps_none config events keeps
+keeps_authorized config events ask (Some true) keeps =
+    keeps_unless_full config events (is_account_full config events ask.provider) (is_order_full config events)
+    (refusal.Full store.Account) (refusal.Full store.Order)
+    (if lacks_credit config events ask then answered events answer.NoCredit [] else allowed events (hold_for config events ask)) keeps
+    (keeps_granted config events ask (lacks_credit config events ask) keeps refl)
+
+pub keeps_after : (config : Config) (events : List Event) (told : Command) → KeepsLimits config events → KeepsLimits config (events_after config events told)
+keeps_after config events (command.PutToken token) keeps =
+    keeps_unless_full config events (is_account_full config events token.provider) (is_order_full config events)
+    (refusal.Full store.Account) (refusal.Full store.Order) (answered events answer.Stored (Token token ∷ [])) keeps
+    (keeps_same config events (Token token) (λ h. refl) refl keeps)
+keeps_after config events (command.Authorize ask) keeps =
+    keeps_authorized config events ask (validity events ask.provider ask.uid ask.kind) keeps
+keeps_after config events (command.Exposure ask) keeps = keeps_none config events keeps
+
+pub keeps_after_all : (config : Config) (events : List Event) (commands : List Command) → KeepsLimits config events → KeepsLimits config (events_after_all config events commands)
+keeps_after_all config events [] keeps = keeps
+keeps_after_all config events (told ∷ commands) keeps =
+    keeps_after_all config (events_after config events told) commands (keeps_after config events told keeps)
+
+pub keeps_empty : (config : Config) → KeepsLimits config []
+keeps_empty config = record { provider = λ provider currency. omega arith; pair = λ operator provider currency limit e. omega arith }
+
+-- what a reply leaves
+pub keeps_given : (config : Config) (events : List Event) (told : Command) (reply : Reply) (now : List Event) (lacking : Bool) → is_no_memory reply ≡ lacking
+    → KeepsLimits config events → Does config events told reply now → KeepsLimits config now
+keeps_given config events told reply now true e keeps does = subst (KeepsLimits config) (sym (does.unchanged e)) keeps
+keeps_given config events told reply now false e keeps does =
+    subst (KeepsLimits config) (sym (does.events_are e)) (keeps_after config events told keeps)

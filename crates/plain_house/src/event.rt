@@ -1,0 +1,70 @@
+use ocpi_json::ci_text::CiText;
+use ocpi_types::config::HoldAmount;
+use ocpi_types::{Currency, Party, Token, TryCopy};
+use std::alloc::{AllocError, Global};
+
+/// What an allowed authorisation holds of its provider's credit.
+#[derive(Drop)]
+pub struct Hold {
+    pub operator: Party,
+    pub provider: Party,
+    pub currency: Currency,
+    pub amount: HoldAmount,
+    pub reference: CiText,
+}
+
+/// An operator gives a hold back.
+#[derive(Drop)]
+pub struct Release {
+    pub operator: Party,
+    pub provider: Party,
+    pub reference: CiText,
+}
+
+/// What has happened in a house.
+#[derive(Drop)]
+pub enum Event {
+    Token(Token),
+    Authorised(Hold),
+    Released(Release),
+    Closed { period: u64 },
+}
+
+impl TryCopy for Hold {
+    fn copy(&self, alloc: Global) -> Result<Hold, AllocError> {
+        let operator = self.operator.copy(alloc)?;
+        let provider = self.provider.copy(alloc)?;
+        let reference = self.reference.copy(alloc)?;
+        Ok(Hold {
+            operator,
+            provider,
+            currency: self.currency,
+            amount: self.amount,
+            reference,
+        })
+    }
+}
+
+impl TryCopy for Release {
+    fn copy(&self, alloc: Global) -> Result<Release, AllocError> {
+        let operator = self.operator.copy(alloc)?;
+        let provider = self.provider.copy(alloc)?;
+        let reference = self.reference.copy(alloc)?;
+        Ok(Release {
+            operator,
+            provider,
+            reference,
+        })
+    }
+}
+
+impl TryCopy for Event {
+    fn copy(&self, alloc: Global) -> Result<Event, AllocError> {
+        match self {
+            Event::Token(token) => Ok(Event::Token(token.copy(alloc)?)),
+            Event::Authorised(hold) => Ok(Event::Authorised(hold.copy(alloc)?)),
+            Event::Released(release) => Ok(Event::Released(release.copy(alloc)?)),
+            Event::Closed { period } => Ok(Event::Closed { period: *period }),
+        }
+    }
+}

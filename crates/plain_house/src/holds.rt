@@ -1,0 +1,105 @@
+//! The open holds of a list of events.
+
+ghost use Rattle.std.specs.Prelude.{◌≡◌, ◌<◌, ◌≤◌, ◌^◌, filter, option_copied};
+ghost use Rattle.std.specs.List.{list_any};
+ghost use Rattle.plain_house.specs.Exposure.{ends_hold, open_hold, open_holds, amount_of, holds_of, pair_holds_of};
+ghost use Rattle.plain_house.specs.Counted.{is_by, is_counted, counted_amount};
+
+use super::event::{Event, Hold};
+use ocpi_types::{Currency, Party};
+
+fn ends(event: &Event, hold: &Hold) -> bool
+    ensures { result ≡ ends_hold hold.now event.now }
+{
+    match event {
+        Event::Released(release) => {
+            release.operator.is(&hold.operator)
+                && release.provider.is(&hold.provider)
+                && release.reference == hold.reference
+        }
+        _ => false,
+    }
+}
+
+fn is_ended(hold: &Hold, later: &[Event]) -> bool
+    ensures { result ≡ list_any (ends_hold hold.now) later.now }
+{
+    later.iter().any(|event| ends(event, hold))
+}
+
+fn is_by(hold: &Hold, operator: Option<&Party>) -> bool
+    ensures { result ≡ is_by (option_copied operator.entry) hold.now }
+{
+    match operator {
+        Some(operator) => hold.operator.is(operator),
+        None => true,
+    }
+}
+
+// The hold is one of the provider in the currency, and of the operator where one is given.
+fn is_counted(hold: &Hold, operator: Option<&Party>, provider: &Party, currency: &Currency) -> bool
+    ensures { result ≡ is_counted (option_copied operator.entry) provider.now currency.now hold.now }
+{
+    is_by(hold, operator) && hold.provider.is(provider) && hold.currency.is(currency)
+}
+
+fn open_amount(
+    event: &Event,
+    later: &[Event],
+    operator: Option<&Party>,
+    provider: &Party,
+    currency: &Currency,
+) -> u64
+    ensures value { result ≡ amount_of (filter (is_counted (option_copied operator.entry) provider.now currency.now) (open_hold event.now later.now)) }
+{
+    match event {
+        Event::Authorised(hold) => {
+            if !is_ended(hold, later) && is_counted(hold, operator, provider, currency) {
+                hold.amount.get()
+            } else {
+                0
+            }
+        }
+        _ => 0,
+    }
+}
+
+#[tactic(auto, using(crate::proofs::HoldsLemmas::holds))]
+fn counted_amount(
+    events: &[Event],
+    operator: Option<&Party>,
+    provider: &Party,
+    currency: &Currency,
+) -> u64
+    requires { counted_amount (option_copied operator) provider.now currency.now events.now < 2 ^ 64 }
+    ensures { result ≡ counted_amount (option_copied operator.entry) provider.now currency.now events.now }
+{
+    let mut total = 0;
+    let mut rest = events;
+    while let Some((event, later)) = rest.split_first() {
+        total += open_amount(event, later, operator, provider, currency);
+        rest = later;
+    }
+    total
+}
+
+/// The open holds of a provider in a currency, in ten-thousandths.
+pub fn holds_of(events: &[Event], provider: &Party, currency: &Currency) -> u64
+    requires { holds_of events.now provider.now currency.now < 2 ^ 64 }
+    ensures { result ≡ holds_of events.now provider.now currency.now }
+{
+    counted_amount(events, None, provider, currency)
+}
+
+/// The open holds of a provider with one operator in a currency, in ten-thousandths.
+pub fn pair_holds_of(
+    events: &[Event],
+    operator: &Party,
+    provider: &Party,
+    currency: &Currency,
+) -> u64
+    requires { pair_holds_of events.now operator.now provider.now currency.now < 2 ^ 64 }
+    ensures { result ≡ pair_holds_of events.now operator.now provider.now currency.now }
+{
+    counted_amount(events, Some(operator), provider, currency)
+}

@@ -1,0 +1,5 @@
+pub mod AddsLemmas
+pub mod LineLaws
+pub mod LinesLemmas
+pub mod RunLemmas
+pub mod TextForm

@@ -1,0 +1,11 @@
+-- The commands by the word of the member `do`.
+use Rattle.std.specs.Prelude.{ℕ, List, Option, Some, None, codes, if◌then◌else◌}
+use Rattle.std.specs.Str.{bytes_eq}
+use Rattle.request_lines.specs.declared.requests.CommandName.{CommandName}
+use Rattle.request_lines.specs.declared.requests.CommandName.TheVariants.{PutToken, Authorize, Exposure}
+
+abbrev pub command_named : List ℕ → Option CommandName
+command_named text =
+    if bytes_eq text (codes "put_token") then Some PutToken
+    else (if bytes_eq text (codes "authorize") then Some Authorize
+    else (if bytes_eq text (codes "exposure") then Some Exposure else None))

@@ -1,0 +1,71 @@
+-- What a request line says: a platform, a command, and the command's members in order.
+use Rattle.std.specs.Prelude.{ℕ, List, Option, Some, None, Result, Ok, Err, unwrap_or}
+use Rattle.serde_json.specs.Data.{Data}
+use Rattle.ocpi_json.specs.Fields.{required, optional, ci_of, object_of, parsed_of}
+use Rattle.ocpi_json.specs.Members.{◌>>=◌}
+use Rattle.ocpi_json.specs.Reading.{data_of}
+use Rattle.ocpi_json.specs.declared.name.Name.{Name}
+use Rattle.ocpi_json.specs.declared.name.Name.TheVariants as name
+use Rattle.ocpi_types.specs.declared.refusal.Refusal.{Refusal}
+use Rattle.ocpi_types.specs.declared.refusal.Refusal.TheVariants as refusal
+use Rattle.ocpi_types.specs.declared.token.TokenKind.{TokenKind}
+use Rattle.ocpi_types.specs.declared.token.TokenKind.TheVariants.{Rfid}
+use Rattle.ocpi_types.specs.Currency.{currency_of}
+use Rattle.ocpi_types.specs.Party.{party_of}
+use Rattle.ocpi_types.specs.Token.{token_at}
+use Rattle.ocpi_types.specs.TokenKind.{kind_of}
+use Rattle.cdr_checks.specs.declared.request.Ask.{Ask}
+use Rattle.cdr_checks.specs.declared.request.Ask.TheVariants as ask
+use Rattle.cdr_checks.specs.declared.request.Request.{Request}
+use Rattle.request_lines.specs.declared.requests.CommandName.{CommandName}
+use Rattle.request_lines.specs.declared.requests.CommandName.TheVariants as command
+use Rattle.request_lines.specs.CommandName.{command_named}
+
+-- a token's type is RFID where none is given
+abbrev pub kind_or_rfid : Option TokenKind → TokenKind
+kind_or_rfid kind = unwrap_or kind Rfid
+
+unfoldable pub token_ask_at : Data → Result Ask Name
+token_ask_at node = do
+  object ← required object_of name.Token node
+  token ← token_at object
+  Ok (ask.PutToken token)
+
+unfoldable pub authorize_at : Data → Result Ask Name
+authorize_at node = do
+  operator ← required (parsed_of party_of) name.Operator node
+  provider ← required (parsed_of party_of) name.Provider node
+  uid ← required (ci_of 36) name.Uid node
+  kind ← optional (parsed_of kind_of) name.«Type» node
+  currency ← required (parsed_of currency_of) name.Currency node
+  Ok (ask.Authorize (record { operator = operator; provider = provider; uid = uid; kind = kind_or_rfid kind; currency = currency }))
+
+unfoldable pub exposure_at : Data → Result Ask Name
+exposure_at node = do
+  provider ← required (parsed_of party_of) name.Provider node
+  currency ← required (parsed_of currency_of) name.Currency node
+  Ok (ask.Exposure (record { provider = provider; currency = currency }))
+
+abbrev pub ask_at : CommandName → Data → Result Ask Name
+ask_at command.PutToken node = token_ask_at node
+ask_at command.Authorize node = authorize_at node
+ask_at command.Exposure node = exposure_at node
+
+unfoldable pub request_at : Data → Result Request Name
+request_at node = do
+  platform ← required (ci_of 36) name.Platform node
+  command ← required (parsed_of command_named) name.Do node
+  ask ← ask_at command node
+  Ok (record { platform = platform; ask = ask })
+
+abbrev pub or_field : Result Request Name → Result Request Refusal
+or_field (Ok request) = Ok request
+or_field (Err name) = Err (refusal.Field name)
+
+abbrev pub request_in : Option Data → Result Request Refusal
+request_in None = Err refusal.Syntax
+request_in (Some node) = or_field (request_at node)
+
+-- the request of a line, or why it is none
+unfoldable pub request_of : List ℕ → Result Request Refusal
+request_of line = request_in (data_of line)

@@ -1,0 +1,196 @@
+//! The lines that answer requests.
+
+ghost use Rattle.std.specs.Prelude.{◌≡◌, IfOk, [], option_map};
+ghost use Rattle.request_lines.specs.Adding.{Adds};
+ghost use Rattle.request_lines.specs.AnswerText.{text_member, number_member, amount_member, answer_name, answer_values, at_member, scope_member, refusal_values, opening, replied_values, refused_values, reply_values, answer_text};
+
+use super::lines::NEWLINE;
+use exact_money::Amount;
+use json::Writer;
+use ocpi_types::Refusal;
+use plain_house::{Answer, Refused, Replied};
+use std::alloc::{AllocError, Global};
+
+#[tactic(auto, unfolding(crate::specs::AnswerText::text_member))]
+fn put_text(out: &mut Writer, called: &str, text: &str) -> Result<(), AllocError>
+    ensures { Adds result out.old out.new (text_member called.now text.now) }
+{
+    out.key(called)?;
+    out.string(text)
+}
+
+#[tactic(auto, unfolding(crate::specs::AnswerText::number_member))]
+fn put_number(out: &mut Writer, called: &str, number: u64) -> Result<(), AllocError>
+    ensures { Adds result out.old out.new (number_member called.now number) }
+{
+    out.key(called)?;
+    out.u64(number)
+}
+
+#[tactic(auto, unfolding(crate::specs::AnswerText::amount_member))]
+fn put_amount(
+    alloc: Global,
+    out: &mut Writer,
+    called: &str,
+    amount: Amount,
+) -> Result<(), AllocError>
+    ensures { Adds result out.old out.new (amount_member called.now amount) }
+{
+    let text = amount.to_string(alloc)?;
+    out.key(called)?;
+    out.string(text.as_str())
+}
+
+fn answer_name(answer: &Answer) -> &'static str
+    ensures { result.now ≡ answer_name answer.now }
+{
+    match answer {
+        Answer::Stored => "Stored",
+        Answer::Allowed { .. } => "ALLOWED",
+        Answer::Blocked => "BLOCKED",
+        Answer::NoCredit => "NO_CREDIT",
+        Answer::Exposure { .. } => "Exposure",
+    }
+}
+
+fn put_exposure(
+    alloc: Global,
+    out: &mut Writer,
+    holds: Amount,
+    debts: Amount,
+    limit: Amount,
+) -> Result<(), AllocError>
+    ensures { Adds result out.old out.new (answer_values (Answer.Exposure holds debts limit)) }
+{
+    put_amount(alloc, out, "holds", holds)?;
+    put_amount(alloc, out, "debts", debts)?;
+    put_amount(alloc, out, "limit", limit)
+}
+
+fn put_answer_values(alloc: Global, out: &mut Writer, answer: &Answer) -> Result<(), AllocError>
+    ensures { Adds result out.old out.new (answer_values answer.now) }
+{
+    match answer {
+        Answer::Stored | Answer::Blocked | Answer::NoCredit => Ok(()),
+        Answer::Allowed { reference } => {
+            put_text(out, "authorization_reference", reference.as_str())
+        }
+        Answer::Exposure {
+            holds,
+            debts,
+            limit,
+        } => put_exposure(alloc, out, *holds, *debts, *limit),
+    }
+}
+
+fn put_opening(out: &mut Writer, status: u64, called: &str, name: &str) -> Result<(), AllocError>
+    ensures { Adds result out.old out.new (opening status called.now name.now) }
+{
+    put_number(out, "status_code", status)?;
+    put_text(out, called, name)
+}
+
+fn put_replied(alloc: Global, out: &mut Writer, replied: &Replied) -> Result<(), AllocError>
+    ensures { Adds result out.old out.new (replied_values replied.now) }
+{
+    put_opening(out, 1000, "answer", answer_name(&replied.answer))?;
+    put_number(out, "at", replied.at)?;
+    put_answer_values(alloc, out, &replied.answer)
+}
+
+fn put_at(out: &mut Writer, at: Option<u64>) -> Result<(), AllocError>
+    ensures { Adds result out.old out.new (at_member at) }
+{
+    match at {
+        Some(at) => put_number(out, "at", at),
+        None => Ok(()),
+    }
+}
+
+fn put_scope(out: &mut Writer, pair: bool) -> Result<(), AllocError>
+    ensures { Adds result out.old out.new (scope_member pair) }
+{
+    if pair {
+        return put_text(out, "scope", "pair");
+    }
+    Ok(())
+}
+
+fn put_over_limit(
+    alloc: Global,
+    out: &mut Writer,
+    exposure: Amount,
+    limit: Amount,
+    pair: bool,
+) -> Result<(), AllocError>
+    ensures { Adds result out.old out.new (refusal_values (Refusal.OverLimit exposure limit pair)) }
+{
+    put_amount(alloc, out, "exposure", exposure)?;
+    put_amount(alloc, out, "limit", limit)?;
+    put_scope(out, pair)
+}
+
+fn put_too_late(out: &mut Writer, original: u64, current: u64) -> Result<(), AllocError>
+    ensures { Adds result out.old out.new (refusal_values (Refusal.TooLate original current)) }
+{
+    put_number(out, "original", original)?;
+    put_number(out, "current", current)
+}
+
+fn put_refusal_values(alloc: Global, out: &mut Writer, refusal: &Refusal) -> Result<(), AllocError>
+    ensures { Adds result out.old out.new (refusal_values refusal.now) }
+{
+    match refusal {
+        Refusal::Field { name } => put_text(out, "field", name.as_str()),
+        Refusal::CostMismatch { rated } => put_amount(alloc, out, "rated", *rated),
+        Refusal::NotCurrent { current } => put_number(out, "current", *current),
+        Refusal::Full { what } => put_text(out, "what", what.name()),
+        Refusal::OverLimit {
+            exposure,
+            limit,
+            pair,
+        } => put_over_limit(alloc, out, *exposure, *limit, *pair),
+        Refusal::TooLate { original, current } => put_too_late(out, *original, *current),
+        _ => Ok(()),
+    }
+}
+
+fn put_refused(alloc: Global, out: &mut Writer, refused: &Refused) -> Result<(), AllocError>
+    ensures { Adds result out.old out.new (refused_values refused.now) }
+{
+    let refusal = &refused.refusal;
+    put_opening(out, refusal.status(), "refusal", refusal.name())?;
+    put_number(out, "number", refusal.number())?;
+    put_at(out, refused.at)?;
+    put_refusal_values(alloc, out, refusal)
+}
+
+fn put_reply(
+    alloc: Global,
+    out: &mut Writer,
+    reply: &Result<Replied, Refused>,
+) -> Result<(), AllocError>
+    ensures { Adds result out.old out.new (reply_values reply.now) }
+{
+    match reply {
+        Ok(replied) => put_replied(alloc, out, replied),
+        Err(refused) => put_refused(alloc, out, refused),
+    }
+}
+
+/// The line that answers a reply, with its newline.
+#[tactic(auto, unfolding(crate::specs::AnswerText::answer_text))]
+pub fn answer_line(alloc: Global, reply: &Result<Replied, Refused>) -> Result<Vec<u8>, AllocError>
+    ensures { IfOk result (λ text. text.items ≡ answer_text reply.now) }
+{
+    let mut out = Writer::new(Vec::new(alloc));
+    out.begin_object()?;
+    put_reply(alloc, &mut out, reply)?;
+    out.end_object()?;
+    let mut text = out.into_inner();
+    text.push(NEWLINE)?;
+    Ok(text)
+}
+
+#[cfg(test)]
+mod tests;

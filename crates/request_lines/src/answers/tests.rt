@@ -1,0 +1,56 @@
+use super::*;
+use std::test::Fail;
+
+fn amount(ten_thousandths: i64) -> Amount {
+    Amount::from_ten_thousandths(ten_thousandths)
+}
+
+fn over_limit_line() -> &'static str {
+    "{\"status_code\":2000,\"refusal\":\"OverLimit\",\"number\":26,\"at\":2,\"exposure\":\"30.2500\",\"limit\":\"30.0000\",\"scope\":\"pair\"}\n"
+}
+
+fn too_late_line() -> &'static str {
+    "{\"status_code\":2000,\"refusal\":\"TooLate\",\"number\":28,\"at\":6,\"original\":0,\"current\":2}\n"
+}
+
+fn no_credit_line() -> &'static str {
+    "{\"status_code\":1000,\"answer\":\"NO_CREDIT\",\"at\":6}\n"
+}
+
+#[test]
+fn writes_lines_that_no_command_makes_yet(rt: HostRuntime) -> Result<(), Fail> {
+    let refusal = Refusal::OverLimit {
+        exposure: amount(302500),
+        limit: amount(300000),
+        pair: true,
+    };
+    let line = answer_line(
+        rt.alloc(),
+        &Err(Refused {
+            at: Some(2),
+            refusal,
+        }),
+    )?;
+    assert_eq!(rt; line.as_slice(), over_limit_line().as_bytes());
+    let refusal = Refusal::TooLate {
+        original: 0,
+        current: 2,
+    };
+    let line = answer_line(
+        rt.alloc(),
+        &Err(Refused {
+            at: Some(6),
+            refusal,
+        }),
+    )?;
+    assert_eq!(rt; line.as_slice(), too_late_line().as_bytes());
+    Ok(())
+}
+
+#[test]
+fn writes_an_answer(rt: HostRuntime) -> Result<(), Fail> {
+    let answer = Answer::NoCredit;
+    let line = answer_line(rt.alloc(), &Ok(Replied { at: 6, answer }))?;
+    assert_eq!(rt; line.as_slice(), no_credit_line().as_bytes());
+    Ok(())
+}

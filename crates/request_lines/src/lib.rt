@@ -1,0 +1,25 @@
+//! Lines of bytes, read from any source and answered in turn onto any sink.
+#![tactic(auto)]
+
+mod answering;
+mod answers;
+mod device;
+mod faults;
+mod lines;
+mod one_line;
+mod requests;
+mod script;
+mod streams;
+
+pub use answering::{Answerer, MOST_READ_CALLS, run_lines};
+pub use answers::answer_line;
+pub use device::Device;
+pub use faults::{Count, Failed, ScriptFault};
+pub use lines::{MOST_LINE_BYTES, NEWLINE, lines_join_to_bytes};
+pub use one_line::respond;
+pub use requests::{CommandName, request_of};
+pub use script::run_script;
+pub use streams::{MOST_READ_BYTES, Sink, Source, write_all};
+
+#[cfg(test)]
+mod tests;

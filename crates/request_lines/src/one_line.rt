@@ -1,0 +1,80 @@
+//! One line, from its bytes to its answer.
+
+ghost use Rattle.std.specs.Prelude.{◌≡◌, ◌⊎◌, IfOk, IfErr, OnOk, OnErr, Ok, Err, true, false};
+ghost use Rattle.cdr_checks.specs.Admission.{IsAdmitted};
+ghost use Rattle.plain_house.specs.House.{is_no_memory, is_refusal_no_memory};
+ghost use Rattle.request_lines.specs.Script.{command_in, reply_in, answer_of, after};
+
+use super::answers::answer_line;
+use super::requests::request_of;
+use cdr_checks::{Command, admit};
+use ocpi_types::{Config, Refusal};
+use plain_house::{Refused, Replied, Sequential};
+use std::alloc::{AllocError, Global};
+
+// The command of a line, once its request is admitted.
+#[tactic(auto, unfolding(crate::specs::Script::command_in))]
+fn command_of(alloc: Global, config: &Config, line: &[u8]) -> Result<Command, Refusal>
+    ensures command { IfOk result (λ command. command_in config.now line.now ≡ Ok command) }
+    ensures admitted { IfOk result (λ command. IsAdmitted config.now command) }
+    ensures refusal { IfErr result (λ refusal. is_refusal_no_memory refusal ≡ false → command_in config.now line.now ≡ Err refusal) }
+{
+    let request = request_of(alloc, line)?;
+    match admit(config, request) {
+        Ok(command) => Ok(command),
+        Err((_request, refusal)) => Err(refusal),
+    }
+}
+
+#[tactic(auto, unfolding(crate::specs::Script::reply_in, crate::specs::Script::after))]
+fn reply_to<S: Sequential>(
+    alloc: Global,
+    config: &Config,
+    house: &mut S,
+    line: &[u8],
+) -> Result<Replied, Refused>
+    requires { S.config house.old ≡ config.now }
+    ensures config { S.config house.new ≡ S.config house.old }
+    ensures reply { is_no_memory result ≡ false → result ≡ reply_in config.now (S.events house.old) line.now }
+    ensures events { is_no_memory result ≡ false → S.events house.new ≡ after config.now (S.events house.old) line.now }
+    ensures unchanged { is_no_memory result ≡ true → S.events house.new ≡ S.events house.old }
+{
+    match command_of(alloc, config, line) {
+        Ok(command) => house.do_command(command),
+        Err(refusal) => Err(Refused { at: None, refusal }),
+    }
+}
+
+fn is_out_of_memory(reply: &Result<Replied, Refused>) -> bool
+    ensures { result ≡ is_no_memory reply.now }
+{
+    match reply {
+        Ok(_) => false,
+        Err(refused) => match refused.refusal {
+            Refusal::NoMemory => true,
+            _ => false,
+        },
+    }
+}
+
+/// Answers one line. Where memory runs out, the house is as it was or as after the line.
+#[tactic(auto, unfolding(crate::specs::Script::answer_of))]
+pub fn respond<S: Sequential>(
+    alloc: Global,
+    config: &Config,
+    house: &mut S,
+    line: &[u8],
+) -> Result<Vec<u8>, AllocError>
+    requires { S.config house.old ≡ config.now }
+    ensures config { S.config house.new ≡ S.config house.old }
+    ensures text { IfOk result (λ text. text.items ≡ answer_of config.now (S.events house.old) line.now) }
+    ensures ok { OnOk result (S.events house.new ≡ after config.now (S.events house.old) line.now) }
+    ensures err { OnErr result ((S.events house.new ≡ S.events house.old)
+        ⊎ (S.events house.new ≡ after config.now (S.events house.old) line.now)) }
+{
+    let reply = reply_to(alloc, config, house, line);
+    if is_out_of_memory(&reply) {
+        return Err(AllocError);
+    }
+    answer_line(alloc, &reply)
+}

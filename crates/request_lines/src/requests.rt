@@ -1,0 +1,121 @@
+//! What a line asks for.
+
+ghost use Rattle.std.specs.Prelude.{◌≡◌, IfOk, IfErr, Ok, Err, false};
+ghost use Rattle.serde_json.specs.View.{view};
+ghost use Rattle.ocpi_json.specs.Faults.{Gives};
+ghost use Rattle.plain_house.specs.House.{is_refusal_no_memory};
+ghost use Rattle.request_lines.specs.RequestText.{authorize_at, exposure_at, token_ask_at, ask_at, request_at, kind_or_rfid, request_of};
+
+use cdr_checks::{Ask, Authorize, ExposureOf, Request};
+use ocpi_json::fields::{self, FieldFault};
+use ocpi_json::name::Name;
+use ocpi_json::objects::{FromNode, FromText};
+use ocpi_json::{Node, ReadFault, read};
+use ocpi_types::{Refusal, Token, TokenKind, members};
+use std::alloc::Global;
+
+/// The commands of request lines, as the member `do` names them.
+#[derive(Clone, Copy, Debug, PartialEq, Eq)]
+pub enum CommandName {
+    PutToken,
+    Authorize,
+    Exposure,
+}
+
+impl FromText for CommandName {
+    ghost use Rattle.request_lines.specs.CommandName.{command_named};
+
+    ghost of_text = { command_named };
+
+    fn from_text(text: &str) -> Option<CommandName> {
+        match text {
+            "put_token" => Some(CommandName::PutToken),
+            "authorize" => Some(CommandName::Authorize),
+            "exposure" => Some(CommandName::Exposure),
+            _ => None,
+        }
+    }
+}
+
+#[tactic(auto, unfolding(crate::specs::RequestText::token_ask_at))]
+fn read_token(alloc: Global, node: &Node) -> Result<Ask, FieldFault>
+    ensures { Gives result (token_ask_at (view node.now)) }
+{
+    let token = Token::from_node(alloc, fields::object(node, Name::Token)?)?;
+    Ok(Ask::PutToken(token))
+}
+
+fn kind_or_rfid(kind: Option<TokenKind>) -> TokenKind
+    ensures { result ≡ kind_or_rfid kind }
+{
+    kind.unwrap_or(TokenKind::Rfid)
+}
+
+#[tactic(auto, unfolding(crate::specs::RequestText::authorize_at))]
+fn read_authorize(alloc: Global, node: &Node) -> Result<Ask, FieldFault>
+    ensures { Gives result (authorize_at (view node.now)) }
+{
+    let operator = members::party(alloc, node, Name::Operator)?;
+    let provider = members::party(alloc, node, Name::Provider)?;
+    let uid = fields::ci_text(alloc, node, Name::Uid, 36)?;
+    let kind = kind_or_rfid(members::token_kind_or_none(node, Name::Type)?);
+    let currency = members::currency(node, Name::Currency)?;
+    Ok(Ask::Authorize(Authorize {
+        operator,
+        provider,
+        uid,
+        kind,
+        currency,
+    }))
+}
+
+#[tactic(auto, unfolding(crate::specs::RequestText::exposure_at))]
+fn read_exposure(alloc: Global, node: &Node) -> Result<Ask, FieldFault>
+    ensures { Gives result (exposure_at (view node.now)) }
+{
+    let provider = members::party(alloc, node, Name::Provider)?;
+    let currency = members::currency(node, Name::Currency)?;
+    Ok(Ask::Exposure(ExposureOf { provider, currency }))
+}
+
+fn read_ask(alloc: Global, command: CommandName, node: &Node) -> Result<Ask, FieldFault>
+    ensures { Gives result (ask_at command (view node.now)) }
+{
+    match command {
+        CommandName::PutToken => read_token(alloc, node),
+        CommandName::Authorize => read_authorize(alloc, node),
+        CommandName::Exposure => read_exposure(alloc, node),
+    }
+}
+
+#[tactic(auto, unfolding(crate::specs::RequestText::request_at))]
+fn read_request(alloc: Global, node: &Node) -> Result<Request, FieldFault>
+    ensures { Gives result (request_at (view node.now)) }
+{
+    let platform = fields::ci_text(alloc, node, Name::Platform, 36)?;
+    let command = fields::parsed(node, Name::Do)?;
+    let ask = read_ask(alloc, command, node)?;
+    Ok(Request { platform, ask })
+}
+
+/// What a line says: `Syntax` where it is no JSON, `Field` for the first member that is missing, of a wrong kind or out
+/// of bounds, `NoMemory` where a growth was refused.
+#[tactic(auto, unfolding(crate::specs::RequestText::request_of))]
+pub fn request_of(alloc: Global, line: &[u8]) -> Result<Request, Refusal>
+    ensures request { IfOk result (λ request. request_of line.now ≡ Ok request) }
+    ensures refusal { IfErr result (λ refusal. is_refusal_no_memory refusal ≡ false → request_of line.now ≡ Err refusal) }
+{
+    let node = match read(alloc, line) {
+        Ok(node) => node,
+        Err(ReadFault::Syntax) => return Err(Refusal::Syntax),
+        Err(ReadFault::NoMemory) => return Err(Refusal::NoMemory),
+    };
+    match read_request(alloc, &node) {
+        Ok(request) => Ok(request),
+        Err(FieldFault::Field(name)) => Err(Refusal::Field { name }),
+        Err(FieldFault::NoMemory) => Err(Refusal::NoMemory),
+    }
+}
+
+#[cfg(test)]
+mod tests;

@@ -1,0 +1,67 @@
+ghost use Rattle.std.specs.Prelude.{◌≡◌, ◌≤◌, ℕ, List, true, false, OnOk, IfErr, MatchResult};
+ghost use Rattle.request_lines.specs.Answering.{is_read_fault, is_write_fault};
+ghost use Rattle.request_lines.specs.Script.{ScriptIsDone, ScriptFails};
+
+use super::answering::{Answerer, MOST_READ_CALLS, run_lines};
+use super::faults::{Count, ScriptFault};
+use super::one_line::respond;
+use super::streams::{Sink, Source};
+use ocpi_types::Config;
+use plain_house::Sequential;
+use std::alloc::{AllocError, Global};
+
+/// A house that answers lines.
+#[derive(Drop)]
+struct Scripted<'c, 'h, S: Sequential> {
+    config: &'c Config,
+    house: &'h mut S,
+    ghost same: { S.config house.now ≡ config.now },
+}
+
+impl<S: Sequential> Answerer for Scripted<'_, '_, S> {
+    ghost use Rattle.std.specs.Prelude.{◌≡◌, ◌⊎◌, refl};
+    ghost use Rattle.std.proofs.Common.{◌∙◌};
+    ghost use Rattle.request_lines.specs.Script.{after};
+    ghost use Rattle.request_lines.specs.InTurn.{AnswersInTurn, in_turn_more};
+
+    ghost answers = { λ a lines text b. (b.house.ghost_name ≡ a.house.ghost_name) × AnswersInTurn a.config.now b.config.now (S.events a.house.now) lines text (S.events b.house.now) };
+
+    ghost gives_up = { λ a line b. (b.house.ghost_name ≡ a.house.ghost_name) × (b.config.now ≡ a.config.now) × ((S.events b.house.now ≡ S.events a.house.now) ⊎ (S.events b.house.now ≡ after a.config.now (S.events a.house.now) line)) };
+
+    ghost answers_none = { λ a. (refl, (refl, refl, refl)) };
+
+    ghost answers_more = { λ a b c ls ms t u h k. (k.0 ∙ h.0, in_turn_more a.config.now b.config.now c.config.now (S.events a.house.now) (S.events b.house.now) (S.events c.house.now) ls ms t u h.1 k.1) };
+
+    fn answer(&mut self, alloc: Global, line: &[u8]) -> Result<Vec<u8>, AllocError> {
+        respond(alloc, self.config, self.house, line)
+    }
+}
+
+/// Answers the lines of the reader in turn, until it ends.
+pub fn run_script<R: Source, W: Sink, S: Sequential>(
+    alloc: Global,
+    reader: &mut R,
+    writer: &mut W,
+    config: &Config,
+    house: &mut S,
+) -> Result<Count, ScriptFault>
+    requires { S.config house.old ≡ config.now }
+    ensures config { S.config house.new ≡ S.config house.old }
+    ensures told { (calls : ℕ) × (bytes : List ℕ) × (written : List ℕ) × (calls ≤ MOST_READ_CALLS)
+        × R.gives reader.old calls bytes reader.new × W.takes writer.old written writer.new
+        × MatchResult result
+        (λ count. ScriptIsDone config.now (S.events house.old) bytes written (S.events house.new) count)
+        (λ fault. ScriptFails config.now (S.events house.old) calls bytes (R.failed reader.new) written (S.events house.new) fault) }
+    ensures end { OnOk result (R.at_end reader.new) }
+    ensures reader { MatchResult result (λ _. R.failed reader.new ≡ R.failed reader.old)
+        (λ fault. is_read_fault fault ≡ false → R.failed reader.new ≡ R.failed reader.old) }
+    ensures unfailed { OnOk result (W.failed writer.new ≡ W.failed writer.old) }
+    ensures failed { IfErr result (λ fault. is_write_fault fault ≡ true → W.failed writer.new ≡ true) }
+    ensures kept { IfErr result (λ fault. is_write_fault fault ≡ false → W.failed writer.new ≡ W.failed writer.old) }
+{
+    let mut scripted = Scripted { config, house };
+    run_lines(alloc, reader, writer, &mut scripted)
+}
+
+#[cfg(test)]
+mod tests;
