@@ -11,7 +11,7 @@ use Rattle.clear_cli.specs.declared.fault.Fault.TheVariants.{Usage, ConfigSyntax
 abbrev pub fault_line : Fault → List ℕ
 fault_line Usage = codes "clear: usage\n"
 fault_line ConfigSyntax = codes "clear: config: syntax\n"
-fault_line (ConfigMember name) = codes "clear: config: " ++ (text_of name ++ codes "\n")
+fault_line (ConfigMember called) = codes "clear: config: " ++ (text_of called ++ codes "\n")
 fault_line (CannotRead path) = codes "clear: cannot read " ++ (path.now ++ codes "\n")
 fault_line CannotReadInput = codes "clear: cannot read -\n"
 fault_line CannotWrite = codes "clear: cannot write\n"
@@ -22,7 +22,7 @@ fault_line NoMemory = codes "clear: no memory\n"
 abbrev pub status_of : Fault → ℕ
 status_of Usage = 2
 status_of ConfigSyntax = 1
-status_of (ConfigMember name) = 1
+status_of (ConfigMember called) = 1
 status_of (CannotRead path) = 1
 status_of CannotReadInput = 1
 status_of CannotWrite = 1
@@ -32,7 +32,7 @@ status_of NoMemory = 1
 -- the fault of bytes that are no configuration
 abbrev pub config_fault : ConfigFault → Fault
 config_fault Syntax = ConfigSyntax
-config_fault (Member name) = ConfigMember name
+config_fault (Member called) = ConfigMember called
 config_fault ConfigNoMemory = NoMemory
 
 -- the fault of a script

@@ -14,7 +14,7 @@ store_name Periods = codes "Periods"
 
 abbrev pub refusal_name : Refusal → List ℕ
 refusal_name Syntax = codes "Syntax"
-refusal_name (Field name) = codes "Field"
+refusal_name (Field called) = codes "Field"
 refusal_name UnknownParty = codes "UnknownParty"
 refusal_name NotYours = codes "NotYours"
 refusal_name WrongCurrency = codes "WrongCurrency"
@@ -44,7 +44,7 @@ refusal_name (TooLate original current) = codes "TooLate"
 
 abbrev pub number_of : Refusal → ℕ
 number_of Syntax = 1
-number_of (Field name) = 2
+number_of (Field called) = 2
 number_of UnknownParty = 3
 number_of NotYours = 4
 number_of WrongCurrency = 5
@@ -75,7 +75,7 @@ number_of (TooLate original current) = 28
 -- 2001 invalid or missing parameters, 2004 unknown token, 3000 generic server error, 2000 generic client error
 abbrev pub status_of : Refusal → ℕ
 status_of Syntax = 2001
-status_of (Field name) = 2001
+status_of (Field called) = 2001
 status_of UnknownParty = 2000
 status_of NotYours = 2000
 status_of WrongCurrency = 2000

@@ -60,7 +60,7 @@ request_at node = do
 
 abbrev pub or_field : Result Request Name → Result Request Refusal
 or_field (Ok request) = Ok request
-or_field (Err name) = Err (refusal.Field name)
+or_field (Err called) = Err (refusal.Field called)
 
 abbrev pub request_in : Option Data → Result Request Refusal
 request_in None = Err refusal.Syntax
