@@ -5,7 +5,7 @@ mod admission;
 mod request;
 
 pub use admission::admit;
-pub use request::{Ask, Authorize, Command, ExposureOf, Request};
+pub use request::{Ask, Authorize, Command, ExposureOf, Release, Request};
 
 #[cfg(test)]
 mod tests;

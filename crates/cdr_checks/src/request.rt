@@ -1,5 +1,5 @@
 use ocpi_json::ci_text::CiText;
-use ocpi_types::{Currency, Party, Token, TokenKind, TryCopy};
+use ocpi_types::{Currency, Party, Tariff, Token, TokenKind, TryCopy};
 use std::alloc::{AllocError, Global};
 
 /// An operator asks to authorise a token of a provider.
@@ -12,6 +12,14 @@ pub struct Authorize {
     pub currency: Currency,
 }
 
+/// An operator gives a hold back.
+#[derive(Drop)]
+pub struct Release {
+    pub operator: Party,
+    pub provider: Party,
+    pub reference: CiText,
+}
+
 /// A provider asks what it holds and owes in a currency.
 #[derive(Drop)]
 pub struct ExposureOf {
@@ -22,8 +30,10 @@ pub struct ExposureOf {
 /// What a request asks for.
 #[derive(Drop)]
 pub enum Ask {
+    PutTariff(Tariff),
     PutToken(Token),
     Authorize(Authorize),
+    Release(Release),
     Exposure(ExposureOf),
 }
 
@@ -37,8 +47,10 @@ pub struct Request {
 /// What a house is told to do, once the request is admitted.
 #[derive(Drop)]
 pub enum Command {
+    PutTariff(Tariff),
     PutToken(Token),
     Authorize(Authorize),
+    Release(Release),
     Exposure(ExposureOf),
 }
 
@@ -57,6 +69,19 @@ impl TryCopy for Authorize {
     }
 }
 
+impl TryCopy for Release {
+    fn copy(&self, alloc: Global) -> Result<Release, AllocError> {
+        let operator = self.operator.copy(alloc)?;
+        let provider = self.provider.copy(alloc)?;
+        let reference = self.reference.copy(alloc)?;
+        Ok(Release {
+            operator,
+            provider,
+            reference,
+        })
+    }
+}
+
 impl TryCopy for ExposureOf {
     fn copy(&self, alloc: Global) -> Result<ExposureOf, AllocError> {
         let provider = self.provider.copy(alloc)?;
@@ -70,8 +95,10 @@ impl TryCopy for ExposureOf {
 impl TryCopy for Ask {
     fn copy(&self, alloc: Global) -> Result<Ask, AllocError> {
         match self {
+            Ask::PutTariff(tariff) => Ok(Ask::PutTariff(tariff.copy(alloc)?)),
             Ask::PutToken(token) => Ok(Ask::PutToken(token.copy(alloc)?)),
             Ask::Authorize(authorize) => Ok(Ask::Authorize(authorize.copy(alloc)?)),
+            Ask::Release(release) => Ok(Ask::Release(release.copy(alloc)?)),
             Ask::Exposure(exposure) => Ok(Ask::Exposure(exposure.copy(alloc)?)),
         }
     }
@@ -88,8 +115,10 @@ impl TryCopy for Request {
 impl TryCopy for Command {
     fn copy(&self, alloc: Global) -> Result<Command, AllocError> {
         match self {
+            Command::PutTariff(tariff) => Ok(Command::PutTariff(tariff.copy(alloc)?)),
             Command::PutToken(token) => Ok(Command::PutToken(token.copy(alloc)?)),
             Command::Authorize(authorize) => Ok(Command::Authorize(authorize.copy(alloc)?)),
+            Command::Release(release) => Ok(Command::Release(release.copy(alloc)?)),
             Command::Exposure(exposure) => Ok(Command::Exposure(exposure.copy(alloc)?)),
         }
     }

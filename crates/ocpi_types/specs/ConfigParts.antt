@@ -3,7 +3,7 @@
 use Rattle.std.specs.Prelude.{ℕ, List, Bool, false, ◌||◌, Result, Ok, is_some, unwrap_or}
 use Rattle.serde_json.specs.Data.{Data}
 use Rattle.serde_json.specs.Find.{as_bool}
-use Rattle.ocpi_json.specs.Fields.{required, optional, ci_of, text_of, parsed_of, whole_of, list_or_empty}
+use Rattle.ocpi_json.specs.Fields.{required, optional, ci_of, parsed_of, whole_of, list_or_empty}
 use Rattle.ocpi_json.specs.Members.{◌>>=◌, each, or_name}
 use Rattle.ocpi_json.specs.declared.name.Name.{Name}
 use Rattle.ocpi_json.specs.declared.name.Name.TheVariants as name
@@ -12,6 +12,7 @@ use Rattle.ocpi_types.specs.Currency.{currency_of}
 use Rattle.ocpi_types.specs.Different.{all_different}
 use Rattle.ocpi_types.specs.Members.{ensure}
 use Rattle.ocpi_types.specs.Party.{party_of}
+use Rattle.ocpi_types.specs.Zone.{zone_of}
 use Rattle.ocpi_types.specs.declared.party.Party.{Party}
 use Rattle.ocpi_types.specs.declared.config.Limits.{Limits}
 use Rattle.ocpi_types.specs.declared.config.Operator.{Operator}
@@ -56,7 +57,7 @@ platform_party_at known d = do
 unfoldable pub operator_entry_at : Data → Result Operator Name
 operator_entry_at node = do
   party ← required (parsed_of party_of) name.Party node
-  zone ← required text_of name.Zone node
+  zone ← required (parsed_of zone_of) name.Zone node
   Ok (record { party = party; zone = zone })
 
 unfoldable pub provider_limit_at : List (List ℕ) → Data → Result ProviderLimit Name

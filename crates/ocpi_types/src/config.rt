@@ -3,9 +3,9 @@
 use super::bounded::AtMost;
 use super::currency::Currency;
 use super::party::Party;
+use super::zone::Zone;
 use ocpi_json::ci_text::CiText;
 use ocpi_json::sequence::Sequence;
-use ocpi_json::text::Text;
 
 mod alike;
 mod copies;
@@ -24,11 +24,11 @@ pub type CreditLimit = AtMost<1_000_000_000_000_000>;
 /// What an authorisation holds, in ten-thousandths of the currency unit.
 pub type HoldAmount = AtMost<1_000_000_000_000>;
 
-/// An operator and the text of its time zone.
+/// An operator and its time zone.
 #[derive(Drop)]
 pub struct Operator {
     pub party: Party,
-    pub zone: Text,
+    pub zone: Zone,
 }
 
 /// A provider's credit limit and hold in one currency.

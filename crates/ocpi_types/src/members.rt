@@ -1,12 +1,12 @@
 //! Members of these types, by name and kind.
 
-ghost use Rattle.std.specs.Prelude.{◌≡◌};
+ghost use Rattle.std.specs.Prelude.{◌≡◌, pos, ◌≤ℤ◌, unsigned_abs};
 ghost use Rattle.serde_json.specs.View.{view};
 ghost use Rattle.ocpi_json.specs.Faults.{Gives};
 ghost use Rattle.ocpi_json.specs.Fields.{required, optional, parsed_of, whole_of};
 ghost use Rattle.ocpi_json.specs.Members.{or_name};
 ghost use Rattle.ocpi_types.specs.Currency.{currency_of};
-ghost use Rattle.ocpi_types.specs.Members.{ensure};
+ghost use Rattle.ocpi_types.specs.Members.{ensure, quantity_of};
 ghost use Rattle.ocpi_types.specs.Party.{party_of};
 ghost use Rattle.ocpi_types.specs.TokenKind.{kind_of};
 
@@ -14,10 +14,14 @@ use super::bounded::AtMost;
 use super::currency::Currency;
 use super::party::Party;
 use super::token::TokenKind;
+use exact_money::Millionths;
 use ocpi_json::Node;
 use ocpi_json::fields::{self, FieldFault};
 use ocpi_json::name::Name;
 use std::alloc::Global;
+
+/// A price or a volume of at least 0, in millionths.
+pub type Quantity = AtMost<1_000_000_000_000_000>;
 
 /// A party, written as `NL/CPA`; the node is the text itself.
 #[tactic(auto, using(crate::proofs::Texts::no_text_in))]
@@ -73,6 +77,32 @@ pub fn at_most_or_none<const MOST: u64>(
 {
     match fields::whole_or_none(node, name, least, MOST)? {
         Some(value) => Ok(AtMost::new(value)),
+        None => Ok(None),
+    }
+}
+
+fn quantity_from(number: Millionths) -> Quantity
+    requires { pos 0 ≤ℤ number }
+    ensures { result ≡ unsigned_abs number }
+{
+    AtMost::new(number.get().unsigned_abs()).unwrap()
+}
+
+/// A number of at least 0.
+#[tactic(auto, using(crate::proofs::Quantities::no_quantity_at))]
+pub fn quantity(node: &Node, name: Name) -> Result<Quantity, FieldFault>
+    ensures { Gives result (required quantity_of name (view node.now)) }
+{
+    Ok(quantity_from(fields::unsigned(node, name)?))
+}
+
+/// The same, where the member may be missing or null.
+#[tactic(auto, using(crate::proofs::Quantities::no_quantity_if_any))]
+pub fn quantity_or_none(node: &Node, name: Name) -> Result<Option<Quantity>, FieldFault>
+    ensures { Gives result (optional quantity_of name (view node.now)) }
+{
+    match fields::unsigned_or_none(node, name)? {
+        Some(number) => Ok(Some(quantity_from(number))),
         None => Ok(None),
     }
 }

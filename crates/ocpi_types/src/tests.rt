@@ -6,6 +6,7 @@ use crate::currency::Currency;
 use crate::members;
 use crate::party::Party;
 use crate::token::{Token, TokenKind};
+use jiff::Timestamp;
 use ocpi_json::ci_text::CiText;
 use ocpi_json::fields::FieldFault;
 use ocpi_json::name::Name;
@@ -115,10 +116,9 @@ fn tells_platforms(rt: HostRuntime) -> Result<(), Fail> {
         .platform(&name(alloc, "hub")?)
         .map(|platform| platform.hub);
     assert_eq!(rt; hub, Some(true));
-    let operator = config
-        .operator(&party(alloc, "NL/CPA")?)
-        .map(|found| found.zone.as_str());
-    assert_eq!(rt; operator, Some("CET-1CEST,M3.5.0,M10.5.0/3"));
+    let operator = config.operator(&party(alloc, "NL/CPA")?);
+    let hour = operator.map(|found| found.zone.local(Timestamp::UNIX_EPOCH).hour());
+    assert_eq!(rt; hour, Some(1));
     assert_eq!(rt; config.provider(&party(alloc, "NL/CPA")?).is_none(), true);
     Ok(())
 }
@@ -197,7 +197,11 @@ fn tells_faults_of_operators(rt: HostRuntime) -> Result<(), Fail> {
         ),
         ("\"operators\":[{\"party\":\"NL/CPA\"}],", Name::Zone),
         (
-            "\"operators\":[{\"party\":\"NL/CPA\",\"zone\":\"\"},{\"party\":\"nl/cpa\",\"zone\":\"\"}],",
+            "\"operators\":[{\"party\":\"NL/CPA\",\"zone\":\"+25:00\"}],",
+            Name::Zone,
+        ),
+        (
+            "\"operators\":[{\"party\":\"NL/CPA\",\"zone\":\"UTC0\"},{\"party\":\"nl/cpa\",\"zone\":\"+01:00\"}],",
             Name::Operators,
         ),
     ];

@@ -1,5 +1,6 @@
--- The sum of open holds, event by event.
-use Rattle.std.proofs.Common.{◌≡◌, ℕ, ◌+◌, List, ◌++◌, Bool, sum_by, filter, ap, ◌∙◌}
+-- The sum of open holds, event by event, and the first that is sought.
+use Rattle.std.proofs.Common.{◌≡◌, ◌+◌, List, ◌++◌, Bool, filter, ap, ◌∙◌}
+use Rattle.std.proofs.lemmas.List.Folds.{find-append}
 use Rattle.std.proofs.lemmas.List.Elements.{filter-append}
 use Rattle.std.proofs.lemmas.List.Sums.{sum_by-append}
 use Rattle.plain_house.specs.declared.event.Hold.{Hold}
@@ -10,3 +11,5 @@ amount_of-append p xs ys =
     ap amount_of (filter-append p xs ys) ∙ sum_by-append (λ hold. hold.amount) (filter p xs) (filter p ys)
 
 pub ruleset holds = amount_of-append
+
+pub ruleset first_hold = find-append

@@ -1,61 +1,67 @@
 -- An admitted command keeps the limits.
-use Rattle.std.proofs.Common.{◌≡◌, ◌≤◌, ◌<◌, ◌||◌, ◌&&◌, ℕ, ◌+◌, List, [], ◌∷◌, ◌++◌, Bool, true, false, not, refl, sym, ap, ◌∙◌, subst, arith, filter, if◌then◌else◌, Option, Some, None, nat_lt, nat_le, rules, length, append_assoc}
+use Rattle.std.proofs.Common.{◌≡◌, ◌≤◌, ◌||◌, ◌&&◌, ℕ, ◌+◌, pos, List, [], ◌∷◌, ◌++◌, Bool, true, false, refl, sym, ap, ◌∙◌, subst, arith, filter, if◌then◌else◌, Option, Some, None}
 use Rattle.std.specs.List.{list_any}
 use Rattle.std.specs.Cmp.Lexicographic.{same_text}
 use Rattle.std.proofs.lemmas.List.{append-nil}
 use Rattle.std.proofs.lemmas.List.Folds.{list_any-append}
 use Rattle.std.proofs.lemmas.Bool.{ltb-false}
-use Rattle.std.proofs.Math.Bool.{or-false}
 use Rattle.ocpi_types.specs.declared.config.Config.{Config}
 use Rattle.ocpi_types.specs.declared.party.Party.{Party}
 use Rattle.ocpi_types.specs.Party.{same_party}
 use Rattle.ocpi_types.specs.Config.{limit_of, hold_of, pair_limit_of}
 use Rattle.ocpi_types.specs.Currency.{same_currency}
 use Rattle.cdr_checks.specs.declared.request.Authorize.{Authorize}
+use Rattle.cdr_checks.specs.declared.request.Release.{Release}
 use Rattle.cdr_checks.specs.declared.request.Command.{Command}
 use Rattle.cdr_checks.specs.declared.request.Command.TheVariants as command
 use Rattle.plain_house.specs.declared.event.Hold.{Hold}
 use Rattle.plain_house.specs.declared.event.Event.{Event}
-use Rattle.plain_house.specs.declared.event.Event.TheVariants.{Token, Authorised, Released, Closed}
-use Rattle.plain_house.specs.Exposure.{ends_hold, open_hold, open_holds, amount_of, is_of_provider, is_of_pair, exposure_of, pair_exposure_of}
-use Rattle.ocpi_types.specs.declared.refusal.Refusal.{Refusal}
+use Rattle.plain_house.specs.declared.event.Event.TheVariants as event
+use Rattle.plain_house.specs.Exposure.{ends_hold, open_hold, open_holds, released_hold, amount_of, is_of_provider, is_of_pair, exposure_of, pair_exposure_of}
 use Rattle.ocpi_types.specs.declared.refusal.Refusal.TheVariants as refusal
-use Rattle.ocpi_types.specs.declared.refusal.Store.TheVariants as store
+use Rattle.ocpi_types.specs.declared.refusal.Store.{Store}
+use Rattle.ocpi_types.specs.declared.tariff.Tariff.{Tariff}
+use Rattle.ocpi_types.specs.SameTariff.{same_tariff}
 use Rattle.plain_house.specs.declared.answer.Answer.TheVariants as answer
-use Rattle.plain_house.specs.House.{lacks_credit, passes, hold_for, events_after, outcome, authorized, unless_full, is_account_full, is_order_full, refused, answered, allowed, Outcome, Reply, Does, is_no_memory}
+use Rattle.plain_house.specs.Replies.{Reply, Outcome, refused, answered, is_no_memory}
+use Rattle.plain_house.specs.Room.{full_for_provider, full_for_tariff, unless_full}
+use Rattle.plain_house.specs.Tariffs.{stored_version}
+use Rattle.plain_house.specs.House.{lacks_credit, passes, hold_for, events_after, outcome, put_tariff, authorized, release_of, allowed, Does}
 use Rattle.plain_house.specs.Tokens.{validity}
 use Rattle.plain_house.specs.Legal.{KeepsLimits, events_after_all}
 use Rattle.plain_house.proofs.HoldsLemmas.{amount_of-append}
 use Rattle.plain_house.proofs.SameParty.{SameCodes, same_codes, both_are, same_limit, same_exposure, same_pair_limit, same_pair_exposure}
 
-EndsNothing : Event → Type 0
-EndsNothing event = (hold : Hold) → ends_hold hold event ≡ false
+-- a later event leaves at most the hold that was open
+amount_open : (p : Hold → Bool) (hold : Hold) (ended ends : Bool)
+    → amount_of (filter p (if ended || ends then [] else hold ∷ [])) ≤ amount_of (filter p (if ended then [] else hold ∷ []))
+amount_open p hold true ends = omega arith
+amount_open p hold false true = omega arith
+amount_open p hold false false = omega arith
 
--- a later event that ends no hold leaves a hold open
-open_hold-later : (event : Event) (later : List Event) (x : Event) → ((hold : Hold) → ends_hold hold x ≡ false) → open_hold event (later ++ x ∷ []) ≡ open_hold event later
-open_hold-later (Token token) later x h = refl
-open_hold-later (Authorised hold) later x h =
-    let any : list_any (ends_hold hold) (later ++ x ∷ []) ≡ list_any (ends_hold hold) later =
-    list_any-append (ends_hold hold) later (x ∷ [])
-    ∙ ap (λ (b : Bool). list_any (ends_hold hold) later || (b || false)) (h hold)
-    ∙ or-false (list_any (ends_hold hold) later) in
-    ap (λ (b : Bool). if b then [] else hold ∷ []) any
-open_hold-later (Released release) later x h = refl
-open_hold-later (Closed period) later x h = refl
-
-open_holds-later : (events : List Event) (x : Event) → ((hold : Hold) → ends_hold hold x ≡ false) → open_holds (events ++ x ∷ []) ≡ open_holds events ++ open_hold x []
-open_holds-later [] x h = append-nil (open_hold x [])
-open_holds-later (event ∷ events) x h =
-    ap (λ (holds : List Hold). holds ++ open_holds (events ++ x ∷ [])) (open_hold-later event events x h)
-    ∙ ap (λ (holds : List Hold). open_hold event events ++ holds) (open_holds-later events x h)
-    ∙ sym (append_assoc (open_hold event events) (open_holds events) (open_hold x []))
+amount_open-later : (p : Hold → Bool) (event : Event) (later : List Event) (x : Event)
+    → amount_of (filter p (open_hold event (later ++ x ∷ []))) ≤ amount_of (filter p (open_hold event later))
+amount_open-later p (event.Tariff tariff) later x = omega arith
+amount_open-later p (event.Token token) later x = omega arith
+amount_open-later p (event.Authorised hold) later x =
+    subst (λ (ended : Bool). amount_of (filter p (if ended then [] else hold ∷ [])) ≤ amount_of (filter p (open_hold (event.Authorised hold) later)))
+    (sym (list_any-append (ends_hold hold) later (x ∷ [])))
+    (amount_open p hold (list_any (ends_hold hold) later) (list_any (ends_hold hold) (x ∷ [])))
+amount_open-later p (event.Released release) later x = omega arith
+amount_open-later p (event.Closed period) later x = omega arith
 
 -- the amounts that a test picks, with one more event
-amount_later : (p : Hold → Bool) (events : List Event) (x : Event) → ((hold : Hold) → ends_hold hold x ≡ false)
-    → amount_of (filter p (open_holds (events ++ x ∷ []))) ≡ amount_of (filter p (open_holds events)) + amount_of (filter p (open_hold x []))
-amount_later p events x h =
-    ap (λ (holds : List Hold). amount_of (filter p holds)) (open_holds-later events x h)
-    ∙ amount_of-append p (open_holds events) (open_hold x [])
+amount_later : (p : Hold → Bool) (events : List Event) (x : Event)
+    → amount_of (filter p (open_holds (events ++ x ∷ []))) ≤ amount_of (filter p (open_holds events)) + amount_of (filter p (open_hold x []))
+amount_later p [] x = omega (arith, amount_of-append p (open_hold x []) [])
+amount_later p (event ∷ events) x =
+    omega (
+      arith,
+      amount_of-append p (open_hold event (events ++ x ∷ [])) (open_holds (events ++ x ∷ [])),
+      amount_of-append p (open_hold event events) (open_holds events),
+      amount_open-later p event events x,
+      amount_later p events x,
+    )
 
 -- one hold, picked or not
 amount_one : (b : Bool) (hold : Hold) → amount_of (if b then hold ∷ [] else []) ≡ (if b then hold.amount else 0)
@@ -98,13 +104,13 @@ at_most_picked false total amount limit h k = omega (arith, h)
 
 -- one more hold, where it lacks no credit
 provider_later : (config : Config) (events : List Event) (ask : Authorize) → KeepsLimits config events → lacks_credit config events ask ≡ false
-    → (provider : Party) (currency : List ℕ) → exposure_of (events ++ Authorised (hold_for config events ask) ∷ []) provider currency ≤ limit_of config provider currency
+    → (provider : Party) (currency : List ℕ) → exposure_of (events ++ event.Authorised (hold_for config events ask) ∷ []) provider currency ≤ limit_of config provider currency
 provider_later config events ask keeps has_credit provider currency =
     let hold = hold_for config events ask in
     let test : Hold → Bool = is_of_provider provider currency in
     let total : ℕ = amount_of (filter test (open_holds events)) in
-    let sum : amount_of (filter test (open_holds (events ++ Authorised hold ∷ []))) ≡ total + (if test hold then hold.amount else 0) =
-    amount_later test events (Authorised hold) (λ h. refl) ∙ ap (λ (n : ℕ). total + n) (amount_picked test hold) in
+    let sum : amount_of (filter test (open_holds (events ++ event.Authorised hold ∷ []))) ≤ total + (if test hold then hold.amount else 0) =
+    omega (arith, amount_later test events (event.Authorised hold), amount_picked test hold) in
     let before : total ≤ limit_of config provider currency = omega (arith, keeps.provider provider currency) in
     let most : total + (if test hold then hold.amount else 0) ≤ limit_of config provider currency =
     at_most_picked (test hold) total hold.amount (limit_of config provider currency) before
@@ -117,13 +123,13 @@ provider_later config events ask keeps has_credit provider currency =
 
 pair_later : (config : Config) (events : List Event) (ask : Authorize) → KeepsLimits config events → lacks_credit config events ask ≡ false
     → (operator provider : Party) (currency : List ℕ) (limit : ℕ) → pair_limit_of config operator provider currency ≡ Some limit
-    → pair_exposure_of (events ++ Authorised (hold_for config events ask) ∷ []) operator provider currency ≤ limit
+    → pair_exposure_of (events ++ event.Authorised (hold_for config events ask) ∷ []) operator provider currency ≤ limit
 pair_later config events ask keeps has_credit operator provider currency limit has_limit =
     let hold = hold_for config events ask in
     let test : Hold → Bool = is_of_pair operator provider currency in
     let total : ℕ = amount_of (filter test (open_holds events)) in
-    let sum : amount_of (filter test (open_holds (events ++ Authorised hold ∷ []))) ≡ total + (if test hold then hold.amount else 0) =
-    amount_later test events (Authorised hold) (λ h. refl) ∙ ap (λ (n : ℕ). total + n) (amount_picked test hold) in
+    let sum : amount_of (filter test (open_holds (events ++ event.Authorised hold ∷ []))) ≤ total + (if test hold then hold.amount else 0) =
+    omega (arith, amount_later test events (event.Authorised hold), amount_picked test hold) in
     let before : total ≤ limit = omega (arith, keeps.pair operator provider currency limit has_limit) in
     let most : total + (if test hold then hold.amount else 0) ≤ limit =
     at_most_picked (test hold) total hold.amount limit before
@@ -140,30 +146,47 @@ pair_later config events ask keeps has_credit operator provider currency limit h
     omega (arith, sum, most)
 
 keeps_hold : (config : Config) (events : List Event) (ask : Authorize) → KeepsLimits config events → lacks_credit config events ask ≡ false
-    → KeepsLimits config (events ++ Authorised (hold_for config events ask) ∷ [])
+    → KeepsLimits config (events ++ event.Authorised (hold_for config events ask) ∷ [])
 keeps_hold config events ask keeps has_credit =
     record { provider = provider_later config events ask keeps has_credit; pair = pair_later config events ask keeps has_credit }
 
--- an event that ends nothing and holds nothing
-keeps_same : (config : Config) (events : List Event) (x : Event) → ((hold : Hold) → ends_hold hold x ≡ false) → open_hold x [] ≡ [] → KeepsLimits config events → KeepsLimits config (events ++ x ∷ [])
-keeps_same config events x h none keeps =
-    let same : open_holds events ≡ open_holds (events ++ x ∷ []) =
-    sym (open_holds-later events x h ∙ ap (λ (holds : List Hold). open_holds events ++ holds) none ∙ append-nil (open_holds events)) in
+-- an event that holds nothing
+keeps_more : (config : Config) (events : List Event) (x : Event) → open_hold x [] ≡ [] → KeepsLimits config events → KeepsLimits config (events ++ x ∷ [])
+keeps_more config events x none keeps =
+    let picks_none : (p : Hold → Bool) → amount_of (filter p (open_hold x [])) ≡ 0 = λ p. ap (λ (holds : List Hold). amount_of (filter p holds)) none in
     record {
-      provider = λ provider currency. subst (λ (holds : List Hold). amount_of (filter (is_of_provider provider currency) holds) + 0 ≤ limit_of config provider currency) same (keeps.provider provider currency);
-      pair = λ operator provider currency limit e. subst (λ (holds : List Hold). amount_of (filter (is_of_pair operator provider currency) holds) + 0 ≤ limit) same (keeps.pair operator provider currency limit e);
+      provider = λ provider currency. omega (arith, amount_later (is_of_provider provider currency) events x, picks_none (is_of_provider provider currency), keeps.provider provider currency);
+      pair = λ operator provider currency limit e. omega (arith, amount_later (is_of_pair operator provider currency) events x, picks_none (is_of_pair operator provider currency), keeps.pair operator provider currency limit e);
     }
 
 keeps_none : (config : Config) (events : List Event) → KeepsLimits config events → KeepsLimits config (events ++ [])
 keeps_none config events keeps = subst (KeepsLimits config) (sym (append-nil events)) keeps
 
--- the cases of a full account or order
-keeps_unless_full : (config : Config) (events : List Event) (full order : Bool) (first second : Refusal) (outcome : Outcome) → KeepsLimits config events
-    → KeepsLimits config (events ++ outcome.added)
-    → KeepsLimits config (events ++ (if full then refused events first else (if order then refused events second else outcome)).added)
-keeps_unless_full config events true order first second outcome keeps more = keeps_none config events keeps
-keeps_unless_full config events false true first second outcome keeps more = keeps_none config events keeps
-keeps_unless_full config events false false first second outcome keeps more = more
+-- the cases of what is full
+keeps_unless_full : (config : Config) (events : List Event) (full : Option Store) (outcome : Outcome) → KeepsLimits config events
+    → KeepsLimits config (events ++ outcome.added) → KeepsLimits config (events ++ (unless_full events full outcome).added)
+keeps_unless_full config events None outcome keeps more = more
+keeps_unless_full config events (Some what) outcome keeps more = keeps_none config events keeps
+
+keeps_stored : (config : Config) (events : List Event) (same : Bool) → KeepsLimits config events
+    → KeepsLimits config (events ++ (if same then answered events answer.Unchanged [] else refused events refusal.Conflict).added)
+keeps_stored config events true keeps = keeps_none config events keeps
+keeps_stored config events false keeps = keeps_none config events keeps
+
+keeps_put_tariff : (config : Config) (events : List Event) (tariff : Tariff) (found : Option Tariff) → KeepsLimits config events
+    → KeepsLimits config (events ++ (put_tariff config events tariff found).added)
+keeps_put_tariff config events tariff None keeps =
+    keeps_unless_full config events (full_for_tariff config events tariff.operator) (answered events answer.Stored (event.Tariff tariff ∷ [])) keeps
+    (keeps_more config events (event.Tariff tariff) refl keeps)
+keeps_put_tariff config events tariff (Some stored) keeps = keeps_stored config events (same_tariff stored tariff) keeps
+
+keeps_release : (config : Config) (events : List Event) (release : Release) (found : Option Hold) → KeepsLimits config events
+    → KeepsLimits config (events ++ (release_of config events release found).added)
+keeps_release config events release None keeps = keeps_none config events keeps
+keeps_release config events release (Some hold) keeps =
+    keeps_unless_full config events (full_for_provider config events release.provider)
+    (answered events (answer.Released (pos hold.amount)) (event.Released release ∷ [])) keeps
+    (keeps_more config events (event.Released release) refl keeps)
 
 keeps_granted : (config : Config) (events : List Event) (ask : Authorize) (lacks : Bool) → KeepsLimits config events → lacks_credit config events ask ≡ lacks
     → KeepsLimits config (events ++ (if lacks then answered events answer.NoCredit [] else allowed events (hold_for config events ask)).added)
@@ -175,18 +198,20 @@ keeps_authorized : (config : Config) (events : List Event) (ask : Authorize) (va
 keeps_authorized config events ask None keeps = keeps_none config events keeps
 keeps_authorized config events ask (Some false) keeps = keeps_none config events keeps
 keeps_authorized config events ask (Some true) keeps =
-    keeps_unless_full config events (is_account_full config events ask.provider) (is_order_full config events)
-    (refusal.Full store.Account) (refusal.Full store.Order)
+    keeps_unless_full config events (full_for_provider config events ask.provider)
     (if lacks_credit config events ask then answered events answer.NoCredit [] else allowed events (hold_for config events ask)) keeps
     (keeps_granted config events ask (lacks_credit config events ask) keeps refl)
 
 pub keeps_after : (config : Config) (events : List Event) (told : Command) → KeepsLimits config events → KeepsLimits config (events_after config events told)
+keeps_after config events (command.PutTariff tariff) keeps =
+    keeps_put_tariff config events tariff (stored_version events tariff) keeps
 keeps_after config events (command.PutToken token) keeps =
-    keeps_unless_full config events (is_account_full config events token.provider) (is_order_full config events)
-    (refusal.Full store.Account) (refusal.Full store.Order) (answered events answer.Stored (Token token ∷ [])) keeps
-    (keeps_same config events (Token token) (λ h. refl) refl keeps)
+    keeps_unless_full config events (full_for_provider config events token.provider)
+    (answered events answer.Stored (event.Token token ∷ [])) keeps (keeps_more config events (event.Token token) refl keeps)
 keeps_after config events (command.Authorize ask) keeps =
     keeps_authorized config events ask (validity events ask.provider ask.uid ask.kind) keeps
+keeps_after config events (command.Release release) keeps =
+    keeps_release config events release (released_hold events release) keeps
 keeps_after config events (command.Exposure ask) keeps = keeps_none config events keeps
 
 pub keeps_after_all : (config : Config) (events : List Event) (commands : List Command) → KeepsLimits config events → KeepsLimits config (events_after_all config events commands)

@@ -1,5 +1,5 @@
 -- What depends on a party's folded text alone is the same for the same party.
-use Rattle.std.proofs.Common.{◌≡◌, ℕ, List, Bool, true, false, ◌&&◌, ◌==◌, refl, sym, ap, ◌∙◌, find, Option, Some, None, option_map, option_and_then, unwrap_or, filter, sum_by, ◌+◌}
+use Rattle.std.proofs.Common.{◌≡◌, ℕ, List, Bool, true, false, ◌&&◌, ◌==◌, refl, sym, ap, ◌∙◌, find, Option, option_map, option_and_then, unwrap_or, filter, ◌+◌}
 use Rattle.std.specs.Cmp.Lexicographic.{pointwise, same_text}
 use Rattle.ocpi_json.specs.Folded.{folded, same_folded}
 use Rattle.ocpi_types.specs.declared.party.Party.{Party}
@@ -7,7 +7,6 @@ use Rattle.ocpi_types.specs.declared.config.Config.{Config}
 use Rattle.ocpi_types.specs.Party.{same_party}
 use Rattle.ocpi_types.specs.Config.{row_in, limit_of, pair_limit_of}
 use Rattle.ocpi_types.specs.Currency.{same_currency}
-use Rattle.plain_house.specs.declared.event.Hold.{Hold}
 use Rattle.plain_house.specs.declared.event.Event.{Event}
 use Rattle.plain_house.specs.Exposure.{open_holds, amount_of, exposure_of, pair_exposure_of}
 

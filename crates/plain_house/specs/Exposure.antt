@@ -1,33 +1,34 @@
 -- The exposure of a provider in a currency: its open holds and its debts.
-use Rattle.std.specs.Prelude.{ℕ, ◌+◌, List, [], ◌∷◌, ◌++◌, Bool, false, ◌&&◌, if◌then◌else◌, sum_by, filter}
+use Rattle.std.specs.Prelude.{ℕ, ◌+◌, List, [], ◌∷◌, ◌++◌, Bool, false, ◌&&◌, if◌then◌else◌, Option, find, sum_by, filter}
 use Rattle.std.specs.List.{list_any}
 use Rattle.ocpi_json.specs.Folded.{same_folded}
 use Rattle.ocpi_types.specs.declared.party.Party.{Party}
 use Rattle.ocpi_types.specs.Party.{same_party}
 use Rattle.ocpi_types.specs.Currency.{same_currency}
+use Rattle.cdr_checks.specs.declared.request.Release.{Release}
 use Rattle.plain_house.specs.declared.event.Hold.{Hold}
 use Rattle.plain_house.specs.declared.event.Event.{Event}
-use Rattle.plain_house.specs.declared.event.Event.TheVariants.{Token, Authorised, Released, Closed}
+use Rattle.plain_house.specs.declared.event.Event.TheVariants.{Authorised, Released}
 
 -- the event ends the hold: a release of the same operator, provider and reference
 abbrev pub ends_hold : Hold → Event → Bool
-ends_hold hold (Token token) = false
-ends_hold hold (Authorised other) = false
 ends_hold hold (Released release) =
     same_party release.operator hold.operator && same_party release.provider hold.provider
     && same_folded release.reference hold.reference
-ends_hold hold (Closed period) = false
+ends_hold hold event = false
 
 -- the hold of an authorisation that none of the later events ends
 abbrev pub open_hold : Event → List Event → List Hold
-open_hold (Token token) later = []
 open_hold (Authorised hold) later = if list_any (ends_hold hold) later then [] else hold ∷ []
-open_hold (Released release) later = []
-open_hold (Closed period) later = []
+open_hold event later = []
 
 abbrev pub open_holds : List Event → List Hold
 open_holds [] = []
 open_holds (event ∷ later) = open_hold event later ++ open_holds later
+
+-- the open hold that a release ends
+abbrev pub released_hold : List Event → Release → Option Hold
+released_hold events release = find (λ hold. ends_hold hold (Released release)) (open_holds events)
 
 abbrev pub is_of_provider : Party → List ℕ → Hold → Bool
 is_of_provider provider currency hold = same_party hold.provider provider && same_currency hold.currency currency

@@ -1,50 +1,52 @@
 -- The reply to a command on a list of events, and the event that it adds: the first case that holds.
-use Rattle.std.specs.Prelude.{◌≡◌, ℕ, ◌+◌, ℤ, pos, Bool, true, false, ◌||◌, List, [], ◌∷◌, ◌++◌, length, nat_lt, nat_le, count_by, if◌then◌else◌, Option, Some, None, Result, Ok, Err, unwrap_or, option_map, codes, decimal}
+use Rattle.std.specs.Prelude.{ℕ, ◌+◌, pos, Bool, true, false, ◌||◌, List, [], ◌∷◌, ◌++◌, nat_lt, count_by, if◌then◌else◌, Option, Some, None, unwrap_or, option_map, codes, decimal}
 use Rattle.ocpi_types.specs.declared.config.Config.{Config}
 use Rattle.ocpi_types.specs.declared.party.Party.{Party}
-use Rattle.ocpi_types.specs.declared.refusal.Refusal.{Refusal}
 use Rattle.ocpi_types.specs.declared.refusal.Refusal.TheVariants as refusal
-use Rattle.ocpi_types.specs.declared.refusal.Store.TheVariants as store
+use Rattle.ocpi_types.specs.declared.tariff.Tariff.{Tariff}
 use Rattle.ocpi_types.specs.Party.{same_party}
 use Rattle.ocpi_types.specs.Config.{provider_of, limit_of, hold_of, pair_limit_of}
+use Rattle.ocpi_types.specs.SameTariff.{same_tariff}
 use Rattle.cdr_checks.specs.declared.request.Authorize.{Authorize}
 use Rattle.cdr_checks.specs.declared.request.ExposureOf.{ExposureOf}
+use Rattle.cdr_checks.specs.declared.request.Release.{Release}
 use Rattle.cdr_checks.specs.declared.request.Command.{Command}
 use Rattle.cdr_checks.specs.declared.request.Command.TheVariants as command
 use Rattle.plain_house.specs.declared.event.Hold.{Hold}
 use Rattle.plain_house.specs.declared.event.Event.{Event}
-use Rattle.plain_house.specs.declared.event.Event.TheVariants.{Token, Authorised, Released, Closed}
+use Rattle.plain_house.specs.declared.event.Event.TheVariants as event
 use Rattle.plain_house.specs.declared.answer.Answer.{Answer}
 use Rattle.plain_house.specs.declared.answer.Answer.TheVariants as answer
-use Rattle.plain_house.specs.declared.answer.Replied.{Replied}
-use Rattle.plain_house.specs.declared.answer.Refused.{Refused}
-use Rattle.plain_house.specs.Exposure.{holds_of, debts_of, exposure_of, pair_exposure_of}
+use Rattle.plain_house.specs.Exposure.{released_hold, holds_of, debts_of, exposure_of, pair_exposure_of}
+use Rattle.plain_house.specs.Replies.{Reply, Outcome, Gives, refused, answered}
+use Rattle.plain_house.specs.Room.{full_for_provider, full_for_tariff, unless_full}
+use Rattle.plain_house.specs.Tariffs.{stored_version}
 use Rattle.plain_house.specs.Tokens.{validity}
 
--- ---- periods, entries and references
+-- ---- periods
 
 abbrev pub is_close : Event → Bool
-is_close (Token token) = false
-is_close (Authorised hold) = false
-is_close (Released release) = false
-is_close (Closed period) = true
+is_close (event.Closed period) = true
+is_close other = false
 
 -- the current period: periods are numbered from 0, and a close begins the next
 abbrev pub period_of : List Event → ℕ
 period_of events = count_by is_close events
 
--- the event is an entry of the provider's account
-abbrev pub is_entry_of : Party → Event → Bool
-is_entry_of provider (Token token) = same_party token.provider provider
-is_entry_of provider (Authorised hold) = same_party hold.provider provider
-is_entry_of provider (Released release) = same_party release.provider provider
-is_entry_of provider (Closed period) = false
+-- ---- tariffs
+
+-- by whether the version is stored already
+abbrev pub put_tariff : Config → List Event → Tariff → Option Tariff → Outcome
+put_tariff config events tariff None =
+    unless_full events (full_for_tariff config events tariff.operator) (answered events answer.Stored (event.Tariff tariff ∷ []))
+put_tariff config events tariff (Some stored) =
+    if same_tariff stored tariff then answered events answer.Unchanged [] else refused events refusal.Conflict
+
+-- ---- authorisations
 
 abbrev pub is_authorisation_of : Party → Event → Bool
-is_authorisation_of provider (Token token) = false
-is_authorisation_of provider (Authorised hold) = same_party hold.provider provider
-is_authorisation_of provider (Released release) = false
-is_authorisation_of provider (Closed period) = false
+is_authorisation_of provider (event.Authorised hold) = same_party hold.provider provider
+is_authorisation_of provider other = false
 
 -- a provider as it is configured
 abbrev pub as_configured : Config → Party → Party
@@ -57,33 +59,6 @@ reference_text party number = party.country_code ++ (party.party_id ++ (codes "-
 abbrev pub next_reference : Config → List Event → Party → List ℕ
 next_reference config events provider =
     reference_text (as_configured config provider) (count_by (is_authorisation_of provider) events + 1)
-
--- ---- replies
-
-abbrev pub Reply : Type 0
-Reply = Result Replied Refused
-
-pub record Outcome : Type 0 where
-  pub reply : Reply
-  pub added : List Event
-
-abbrev pub refused : List Event → Refusal → Outcome
-refused events refusal = record { reply = Err (record { at = Some (length events); refusal = refusal }); added = [] }
-
-abbrev pub answered : List Event → Answer → List Event → Outcome
-answered events answer added = record { reply = Ok (record { at = length events; answer = answer }); added = added }
-
-abbrev pub is_account_full : Config → List Event → Party → Bool
-is_account_full config events provider = nat_le config.limits.entries (count_by (is_entry_of provider) events)
-
-abbrev pub is_order_full : Config → List Event → Bool
-is_order_full config events = nat_le config.limits.order (length events)
-
--- full where the account or the order is, otherwise this
-abbrev pub unless_full : Config → List Event → Party → Outcome → Outcome
-unless_full config events provider outcome =
-    if is_account_full config events provider then refused events (refusal.Full store.Account)
-    else (if is_order_full config events then refused events (refusal.Full store.Order) else outcome)
 
 abbrev pub passes : Option ℕ → ℕ → Bool
 passes None amount = false
@@ -107,15 +82,26 @@ hold_for config events ask = record {
 }
 
 abbrev pub allowed : List Event → Hold → Outcome
-allowed events hold = answered events (answer.Allowed hold.reference) (Authorised hold ∷ [])
+allowed events hold = answered events (answer.Allowed hold.reference) (event.Authorised hold ∷ [])
 
 -- by whether the token is known, and valid
 abbrev pub authorized : Config → List Event → Authorize → Option Bool → Outcome
 authorized config events ask None = refused events refusal.UnknownToken
 authorized config events ask (Some false) = answered events answer.Blocked []
 authorized config events ask (Some true) =
-    unless_full config events ask.provider
+    unless_full events (full_for_provider config events ask.provider)
     (if lacks_credit config events ask then answered events answer.NoCredit [] else allowed events (hold_for config events ask))
+
+-- ---- releases
+
+-- by the open hold that the release ends
+abbrev pub release_of : Config → List Event → Release → Option Hold → Outcome
+release_of config events release None = refused events refusal.UnknownHold
+release_of config events release (Some hold) =
+    unless_full events (full_for_provider config events release.provider)
+    (answered events (answer.Released (pos hold.amount)) (event.Released release ∷ []))
+
+-- ---- commands
 
 abbrev pub exposed : Config → List Event → ExposureOf → Answer
 exposed config events ask =
@@ -123,35 +109,17 @@ exposed config events ask =
     (pos (limit_of config ask.provider ask.currency))
 
 abbrev pub outcome : Config → List Event → Command → Outcome
+outcome config events (command.PutTariff tariff) = put_tariff config events tariff (stored_version events tariff)
 outcome config events (command.PutToken token) =
-    unless_full config events token.provider (answered events answer.Stored (Token token ∷ []))
+    unless_full events (full_for_provider config events token.provider) (answered events answer.Stored (event.Token token ∷ []))
 outcome config events (command.Authorize ask) =
     authorized config events ask (validity events ask.provider ask.uid ask.kind)
+outcome config events (command.Release release) = release_of config events release (released_hold events release)
 outcome config events (command.Exposure ask) = answered events (exposed config events ask) []
 
 -- the list after the command
 abbrev pub events_after : Config → List Event → Command → List Event
 events_after config events command = events ++ (outcome config events command).added
-
--- ---- want of memory
-
-abbrev pub no_memory : Reply
-no_memory = Err (record { at = None; refusal = refusal.NoMemory })
-
-abbrev pub is_refusal_no_memory : Refusal → Bool
-is_refusal_no_memory refusal.NoMemory = true
-is_refusal_no_memory other = false
-
-abbrev pub is_no_memory : Reply → Bool
-is_no_memory (Ok replied) = false
-is_no_memory (Err refused) = is_refusal_no_memory refused.refusal
-
--- the reply is the outcome's and the list has what it adds, or memory was refused and the list is as before
-pub record Gives (outcome : Outcome) (events : List Event) (reply : Reply) (now : List Event) : Type 0 where
-  pub reply_is : is_no_memory reply ≡ false → reply ≡ outcome.reply
-  pub events_are : is_no_memory reply ≡ false → now ≡ events ++ outcome.added
-  pub refused_is : is_no_memory reply ≡ true → reply ≡ no_memory
-  pub unchanged : is_no_memory reply ≡ true → now ≡ events
 
 -- the reply and the list after a command
 abbrev pub Does : Config → List Event → Command → Reply → List Event → Type 0

@@ -2,5 +2,8 @@ pub mod Counted
 pub mod Exposure
 pub mod House
 pub mod Legal
+pub mod Replies
+pub mod Room
 pub mod State
+pub mod Tariffs
 pub mod Tokens

@@ -7,6 +7,8 @@ use std::alloc::{AllocError, Global};
 #[derive(Drop)]
 pub enum Answer {
     Stored,
+    /// The tariff version stands already, with the same content.
+    Unchanged,
     /// The authorisation stands under this reference.
     Allowed {
         reference: CiText,
@@ -15,6 +17,10 @@ pub enum Answer {
     Blocked,
     /// The hold would pass a credit limit.
     NoCredit,
+    /// The hold of this amount is given back.
+    Released {
+        amount: Amount,
+    },
     Exposure {
         holds: Amount,
         debts: Amount,
@@ -40,12 +46,14 @@ impl TryCopy for Answer {
     fn copy(&self, alloc: Global) -> Result<Answer, AllocError> {
         match self {
             Answer::Stored => Ok(Answer::Stored),
+            Answer::Unchanged => Ok(Answer::Unchanged),
             Answer::Allowed { reference } => {
                 let reference = reference.copy(alloc)?;
                 Ok(Answer::Allowed { reference })
             }
             Answer::Blocked => Ok(Answer::Blocked),
             Answer::NoCredit => Ok(Answer::NoCredit),
+            Answer::Released { amount } => Ok(Answer::Released { amount: *amount }),
             Answer::Exposure {
                 holds,
                 debts,

@@ -1,6 +1,7 @@
+use cdr_checks::Release;
 use ocpi_json::ci_text::CiText;
 use ocpi_types::config::HoldAmount;
-use ocpi_types::{Currency, Party, Token, TryCopy};
+use ocpi_types::{Currency, Party, Tariff, Token, TryCopy};
 use std::alloc::{AllocError, Global};
 
 /// What an allowed authorisation holds of its provider's credit.
@@ -13,17 +14,10 @@ pub struct Hold {
     pub reference: CiText,
 }
 
-/// An operator gives a hold back.
-#[derive(Drop)]
-pub struct Release {
-    pub operator: Party,
-    pub provider: Party,
-    pub reference: CiText,
-}
-
 /// What has happened in a house.
 #[derive(Drop)]
 pub enum Event {
+    Tariff(Tariff),
     Token(Token),
     Authorised(Hold),
     Released(Release),
@@ -45,22 +39,10 @@ impl TryCopy for Hold {
     }
 }
 
-impl TryCopy for Release {
-    fn copy(&self, alloc: Global) -> Result<Release, AllocError> {
-        let operator = self.operator.copy(alloc)?;
-        let provider = self.provider.copy(alloc)?;
-        let reference = self.reference.copy(alloc)?;
-        Ok(Release {
-            operator,
-            provider,
-            reference,
-        })
-    }
-}
-
 impl TryCopy for Event {
     fn copy(&self, alloc: Global) -> Result<Event, AllocError> {
         match self {
+            Event::Tariff(tariff) => Ok(Event::Tariff(tariff.copy(alloc)?)),
             Event::Token(token) => Ok(Event::Token(token.copy(alloc)?)),
             Event::Authorised(hold) => Ok(Event::Authorised(hold.copy(alloc)?)),
             Event::Released(release) => Ok(Event::Released(release.copy(alloc)?)),

@@ -1,22 +1,28 @@
 //! The open holds of a list of events.
 
-ghost use Rattle.std.specs.Prelude.{◌≡◌, ◌<◌, ◌≤◌, ◌^◌, filter, option_copied};
+ghost use Rattle.std.specs.Prelude.{◌≡◌, ◌<◌, ◌^◌, find, filter, option_copied};
 ghost use Rattle.std.specs.List.{list_any};
-ghost use Rattle.plain_house.specs.Exposure.{ends_hold, open_hold, open_holds, amount_of, holds_of, pair_holds_of};
+ghost use Rattle.plain_house.specs.Exposure.{ends_hold, open_hold, amount_of, holds_of, pair_holds_of, released_hold};
+ghost use Rattle.plain_house.specs.declared.event.Event.TheVariants.{Released};
 ghost use Rattle.plain_house.specs.Counted.{is_by, is_counted, counted_amount};
 
 use super::event::{Event, Hold};
+use cdr_checks::Release;
 use ocpi_types::{Currency, Party};
+
+fn is_released_by(hold: &Hold, release: &Release) -> bool
+    ensures { result ≡ ends_hold hold.now (Released release.now) }
+{
+    release.operator.is(&hold.operator)
+        && release.provider.is(&hold.provider)
+        && release.reference == hold.reference
+}
 
 fn ends(event: &Event, hold: &Hold) -> bool
     ensures { result ≡ ends_hold hold.now event.now }
 {
     match event {
-        Event::Released(release) => {
-            release.operator.is(&hold.operator)
-                && release.provider.is(&hold.provider)
-                && release.reference == hold.reference
-        }
+        Event::Released(release) => is_released_by(hold, release),
         _ => false,
     }
 }
@@ -102,4 +108,36 @@ pub fn pair_holds_of(
     ensures { result ≡ pair_holds_of events.now operator.now provider.now currency.now }
 {
     counted_amount(events, Some(operator), provider, currency)
+}
+
+// The hold of the event, where it is open and the release ends it.
+fn released_in<'a>(event: &'a Event, later: &[Event], release: &Release) -> Option<&'a Hold>
+    ensures { option_copied result ≡ find (λ hold. ends_hold hold (Released release.now)) (open_hold event.now later.now) }
+{
+    match event {
+        Event::Authorised(hold) => {
+            if !is_ended(hold, later) && is_released_by(hold, release) {
+                Some(hold)
+            } else {
+                None
+            }
+        }
+        _ => None,
+    }
+}
+
+/// The open hold that the release ends.
+#[tactic(auto, using(crate::proofs::HoldsLemmas::first_hold))]
+pub fn released_hold<'a>(events: &'a [Event], release: &Release) -> Option<&'a Hold>
+    ensures { option_copied result ≡ released_hold events.now release.now }
+{
+    let mut rest = events;
+    while let Some((event, later)) = rest.split_first() {
+        let found = released_in(event, later, release);
+        if found.is_some() {
+            return found;
+        }
+        rest = later;
+    }
+    None
 }

@@ -10,7 +10,7 @@ mod sequential;
 mod tokens;
 
 pub use answer::{Answer, Refused, Replied};
-pub use event::{Event, Hold, Release};
+pub use event::{Event, Hold};
 pub use house::PlainHouse;
 pub use laws::{commands_keep_lists_legal, legal_lists_keep_limits};
 pub use sequential::Sequential;

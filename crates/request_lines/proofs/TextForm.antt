@@ -1,14 +1,13 @@
 -- What a house answers as any answerer does, in the words of its events.
-use Rattle.std.proofs.Common.{◌≡◌, ℕ, ◌+◌, ◌<◌, ◌≤◌, ◌⊎◌, inl, inr, Bool, true, List, [], ◌∷◌, ◌++◌, length, take, refl, ap, sym, ◌∙◌, All, Result, Ok, Err, MatchResult}
+use Rattle.std.proofs.Common.{◌≡◌, ℕ, ◌⊎◌, inl, inr, Bool, List, [], ◌∷◌, ◌++◌, take, ap, sym, ◌∙◌, Result, Ok, Err, MatchResult}
 use Rattle.ocpi_types.specs.declared.config.Config.{Config}
 use Rattle.plain_house.specs.declared.event.Event.{Event}
 use Rattle.request_lines.specs.declared.faults.Count.{Count}
 use Rattle.request_lines.specs.declared.faults.ScriptFault.{ScriptFault}
 use Rattle.request_lines.specs.declared.faults.ScriptFault.TheVariants.{Read, Write, NoMemory, LineTooLong}
-use Rattle.request_lines.specs.declared.answering.TheConstants.{MOST_READ_CALLS}
 use Rattle.request_lines.specs.Lines.{lines_of, whole_lines}
-use Rattle.request_lines.specs.Answering.{IsDone, IsFault, StopsAtRead, StopsAtWrite, StopsForMemory, StopsAtLongLine, GivesUpAtFirst}
-use Rattle.request_lines.specs.Script.{answer_of, after, text_of, list_after, ScriptIsDone, ScriptFails, ScriptStopsAtRead, ScriptStopsAtWrite, ScriptStopsForMemory, ScriptStopsAtLongLine}
+use Rattle.request_lines.specs.Answering.{IsDone, IsFault, StopsAtWrite, StopsForMemory, GivesUpAtFirst}
+use Rattle.request_lines.specs.Script.{answer_of, after, text_of, list_after, ScriptIsDone, ScriptFails, ScriptStopsAtWrite, ScriptStopsForMemory}
 use Rattle.request_lines.specs.InTurn.{AnswersInTurn, list_after-append}
 use Rattle.std.proofs.lemmas.List.{append-nil}
 

@@ -1,5 +1,5 @@
 -- The line that answers a request: one JSON object, with its members in this order and no space, and a newline.
-use Rattle.std.specs.Prelude.{ℕ, ℤ, Bool, true, false, List, [], ◌∷◌, ◌++◌, Option, Some, None, Ok, Err, codes, decimal, if◌then◌else◌}
+use Rattle.std.specs.Prelude.{ℕ, ℤ, Bool, true, false, List, [], ◌∷◌, ◌++◌, Option, Some, None, Ok, Err, codes, decimal}
 use Rattle.json.specs.Token.{Token, begin_object, end_object, key, string, number}
 use Rattle.json.specs.Print.{print}
 use Rattle.exact_money.specs.Amount.{amount_text}
@@ -8,10 +8,10 @@ use Rattle.ocpi_types.specs.declared.refusal.Refusal.{Refusal}
 use Rattle.ocpi_types.specs.declared.refusal.Refusal.TheVariants as refusal
 use Rattle.ocpi_types.specs.Refusal.{refusal_name, store_name, number_of, status_of}
 use Rattle.plain_house.specs.declared.answer.Answer.{Answer}
-use Rattle.plain_house.specs.declared.answer.Answer.TheVariants.{Stored, Allowed, Blocked, NoCredit, Exposure}
+use Rattle.plain_house.specs.declared.answer.Answer.TheVariants.{Stored, Unchanged, Allowed, Blocked, NoCredit, Released, Exposure}
 use Rattle.plain_house.specs.declared.answer.Replied.{Replied}
 use Rattle.plain_house.specs.declared.answer.Refused.{Refused}
-use Rattle.plain_house.specs.House.{Reply}
+use Rattle.plain_house.specs.Replies.{Reply}
 use Rattle.request_lines.specs.declared.lines.TheConstants.{NEWLINE}
 
 -- ---- members
@@ -30,16 +30,20 @@ amount_member called amount = key called ∷ string (amount_text amount) ∷ []
 
 abbrev pub answer_name : Answer → List ℕ
 answer_name Stored = codes "Stored"
+answer_name Unchanged = codes "Unchanged"
 answer_name (Allowed reference) = codes "ALLOWED"
 answer_name Blocked = codes "BLOCKED"
 answer_name NoCredit = codes "NO_CREDIT"
+answer_name (Released amount) = codes "Released"
 answer_name (Exposure holds debts limit) = codes "Exposure"
 
 abbrev pub answer_values : Answer → List Token
 answer_values Stored = []
+answer_values Unchanged = []
 answer_values (Allowed reference) = text_member (codes "authorization_reference") reference
 answer_values Blocked = []
 answer_values NoCredit = []
+answer_values (Released amount) = amount_member (codes "amount") amount
 answer_values (Exposure holds debts limit) =
     amount_member (codes "holds") holds ++ (amount_member (codes "debts") debts ++ amount_member (codes "limit") limit)
 

@@ -12,6 +12,7 @@ use Rattle.ocpi_types.specs.declared.token.TokenKind.{TokenKind}
 use Rattle.ocpi_types.specs.declared.token.TokenKind.TheVariants.{Rfid}
 use Rattle.ocpi_types.specs.Currency.{currency_of}
 use Rattle.ocpi_types.specs.Party.{party_of}
+use Rattle.ocpi_types.specs.Tariff.{tariff_at}
 use Rattle.ocpi_types.specs.Token.{token_at}
 use Rattle.ocpi_types.specs.TokenKind.{kind_of}
 use Rattle.cdr_checks.specs.declared.request.Ask.{Ask}
@@ -24,6 +25,12 @@ use Rattle.request_lines.specs.CommandName.{command_named}
 -- a token's type is RFID where none is given
 abbrev pub kind_or_rfid : Option TokenKind → TokenKind
 kind_or_rfid kind = unwrap_or kind Rfid
+
+unfoldable pub tariff_ask_at : Data → Result Ask Name
+tariff_ask_at node = do
+  object ← required object_of name.Tariff node
+  tariff ← tariff_at object
+  Ok (ask.PutTariff tariff)
 
 unfoldable pub token_ask_at : Data → Result Ask Name
 token_ask_at node = do
@@ -40,6 +47,13 @@ authorize_at node = do
   currency ← required (parsed_of currency_of) name.Currency node
   Ok (ask.Authorize (record { operator = operator; provider = provider; uid = uid; kind = kind_or_rfid kind; currency = currency }))
 
+unfoldable pub release_at : Data → Result Ask Name
+release_at node = do
+  operator ← required (parsed_of party_of) name.Operator node
+  provider ← required (parsed_of party_of) name.Provider node
+  reference ← required (ci_of 36) name.Reference node
+  Ok (ask.Release (record { operator = operator; provider = provider; reference = reference }))
+
 unfoldable pub exposure_at : Data → Result Ask Name
 exposure_at node = do
   provider ← required (parsed_of party_of) name.Provider node
@@ -47,8 +61,10 @@ exposure_at node = do
   Ok (ask.Exposure (record { provider = provider; currency = currency }))
 
 abbrev pub ask_at : CommandName → Data → Result Ask Name
+ask_at command.PutTariff node = tariff_ask_at node
 ask_at command.PutToken node = token_ask_at node
 ask_at command.Authorize node = authorize_at node
+ask_at command.Release node = release_at node
 ask_at command.Exposure node = exposure_at node
 
 unfoldable pub request_at : Data → Result Request Name

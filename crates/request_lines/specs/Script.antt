@@ -1,12 +1,13 @@
 -- What a script answers, and the events after it.
-use Rattle.std.specs.Prelude.{◌≡◌, ℕ, ◌+◌, ◌^◌, ◌<◌, ◌≤◌, ◌⊎◌, Bool, true, List, [], ◌∷◌, ◌++◌, length, take, Some, None, Result, Ok, Err, All}
+use Rattle.std.specs.Prelude.{◌≡◌, ℕ, ◌+◌, ◌<◌, ◌⊎◌, Bool, true, List, [], ◌∷◌, ◌++◌, length, take, None, Result, Ok, Err, All}
 use Rattle.ocpi_types.specs.declared.config.Config.{Config}
 use Rattle.ocpi_types.specs.declared.refusal.Refusal.{Refusal}
 use Rattle.cdr_checks.specs.declared.request.Command.{Command}
 use Rattle.cdr_checks.specs.declared.request.Request.{Request}
 use Rattle.cdr_checks.specs.Admission.{admission}
 use Rattle.plain_house.specs.declared.event.Event.{Event}
-use Rattle.plain_house.specs.House.{Reply, outcome, events_after}
+use Rattle.plain_house.specs.House.{outcome, events_after}
+use Rattle.plain_house.specs.Replies.{Reply}
 use Rattle.request_lines.specs.RequestText.{request_of}
 use Rattle.request_lines.specs.AnswerText.{answer_text}
 use Rattle.request_lines.specs.declared.faults.ScriptFault.{ScriptFault}

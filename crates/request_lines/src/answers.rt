@@ -46,9 +46,11 @@ fn answer_name(answer: &Answer) -> &'static str
 {
     match answer {
         Answer::Stored => "Stored",
+        Answer::Unchanged => "Unchanged",
         Answer::Allowed { .. } => "ALLOWED",
         Answer::Blocked => "BLOCKED",
         Answer::NoCredit => "NO_CREDIT",
+        Answer::Released { .. } => "Released",
         Answer::Exposure { .. } => "Exposure",
     }
 }
@@ -71,10 +73,11 @@ fn put_answer_values(alloc: Global, out: &mut Writer, answer: &Answer) -> Result
     ensures { Adds result out.old out.new (answer_values answer.now) }
 {
     match answer {
-        Answer::Stored | Answer::Blocked | Answer::NoCredit => Ok(()),
+        Answer::Stored | Answer::Unchanged | Answer::Blocked | Answer::NoCredit => Ok(()),
         Answer::Allowed { reference } => {
             put_text(out, "authorization_reference", reference.as_str())
         }
+        Answer::Released { amount } => put_amount(alloc, out, "amount", *amount),
         Answer::Exposure {
             holds,
             debts,

@@ -2,7 +2,7 @@
 
 ghost use Rattle.std.specs.Prelude.{◌≡◌, ◌⊎◌, IfOk, IfErr, OnOk, OnErr, Ok, Err, true, false};
 ghost use Rattle.cdr_checks.specs.Admission.{IsAdmitted};
-ghost use Rattle.plain_house.specs.House.{is_no_memory, is_refusal_no_memory};
+ghost use Rattle.plain_house.specs.Replies.{is_no_memory, is_refusal_no_memory};
 ghost use Rattle.request_lines.specs.Script.{command_in, reply_in, answer_of, after};
 
 use super::answers::answer_line;

@@ -3,22 +3,24 @@
 ghost use Rattle.std.specs.Prelude.{◌≡◌, IfOk, IfErr, Ok, Err, false};
 ghost use Rattle.serde_json.specs.View.{view};
 ghost use Rattle.ocpi_json.specs.Faults.{Gives};
-ghost use Rattle.plain_house.specs.House.{is_refusal_no_memory};
-ghost use Rattle.request_lines.specs.RequestText.{authorize_at, exposure_at, token_ask_at, ask_at, request_at, kind_or_rfid, request_of};
+ghost use Rattle.plain_house.specs.Replies.{is_refusal_no_memory};
+ghost use Rattle.request_lines.specs.RequestText.{authorize_at, exposure_at, release_at, tariff_ask_at, token_ask_at, ask_at, request_at, kind_or_rfid, request_of};
 
-use cdr_checks::{Ask, Authorize, ExposureOf, Request};
+use cdr_checks::{Ask, Authorize, ExposureOf, Release, Request};
 use ocpi_json::fields::{self, FieldFault};
 use ocpi_json::name::Name;
 use ocpi_json::objects::{FromNode, FromText};
 use ocpi_json::{Node, ReadFault, read};
-use ocpi_types::{Refusal, Token, TokenKind, members};
+use ocpi_types::{Refusal, Tariff, Token, TokenKind, members};
 use std::alloc::Global;
 
 /// The commands of request lines, as the member `do` names them.
 #[derive(Clone, Copy, Debug, PartialEq, Eq)]
 pub enum CommandName {
+    PutTariff,
     PutToken,
     Authorize,
+    Release,
     Exposure,
 }
 
@@ -29,12 +31,22 @@ impl FromText for CommandName {
 
     fn from_text(text: &str) -> Option<CommandName> {
         match text {
+            "put_tariff" => Some(CommandName::PutTariff),
             "put_token" => Some(CommandName::PutToken),
             "authorize" => Some(CommandName::Authorize),
+            "release" => Some(CommandName::Release),
             "exposure" => Some(CommandName::Exposure),
             _ => None,
         }
     }
+}
+
+#[tactic(auto, unfolding(crate::specs::RequestText::tariff_ask_at))]
+fn read_tariff(alloc: Global, node: &Node) -> Result<Ask, FieldFault>
+    ensures { Gives result (tariff_ask_at (view node.now)) }
+{
+    let tariff = Tariff::from_node(alloc, fields::object(node, Name::Tariff)?)?;
+    Ok(Ask::PutTariff(tariff))
 }
 
 #[tactic(auto, unfolding(crate::specs::RequestText::token_ask_at))]
@@ -69,6 +81,20 @@ fn read_authorize(alloc: Global, node: &Node) -> Result<Ask, FieldFault>
     }))
 }
 
+#[tactic(auto, unfolding(crate::specs::RequestText::release_at))]
+fn read_release(alloc: Global, node: &Node) -> Result<Ask, FieldFault>
+    ensures { Gives result (release_at (view node.now)) }
+{
+    let operator = members::party(alloc, node, Name::Operator)?;
+    let provider = members::party(alloc, node, Name::Provider)?;
+    let reference = fields::ci_text(alloc, node, Name::Reference, 36)?;
+    Ok(Ask::Release(Release {
+        operator,
+        provider,
+        reference,
+    }))
+}
+
 #[tactic(auto, unfolding(crate::specs::RequestText::exposure_at))]
 fn read_exposure(alloc: Global, node: &Node) -> Result<Ask, FieldFault>
     ensures { Gives result (exposure_at (view node.now)) }
@@ -82,8 +108,10 @@ fn read_ask(alloc: Global, command: CommandName, node: &Node) -> Result<Ask, Fie
     ensures { Gives result (ask_at command (view node.now)) }
 {
     match command {
+        CommandName::PutTariff => read_tariff(alloc, node),
         CommandName::PutToken => read_token(alloc, node),
         CommandName::Authorize => read_authorize(alloc, node),
+        CommandName::Release => read_release(alloc, node),
         CommandName::Exposure => read_exposure(alloc, node),
     }
 }

@@ -107,7 +107,7 @@ impl FromNode for Operator {
     #[tactic(auto, unfolding(crate::specs::ConfigParts::operator_entry_at))]
     fn from_node(alloc: Global, node: &Node) -> Result<Operator, FieldFault> {
         let party = members::party(alloc, node, Name::Party)?;
-        let zone = fields::text(alloc, node, Name::Zone)?;
+        let zone = fields::parsed(node, Name::Zone)?;
         Ok(Operator { party, zone })
     }
 }

@@ -17,6 +17,14 @@ fn no_credit_line() -> &'static str {
     "{\"status_code\":1000,\"answer\":\"NO_CREDIT\",\"at\":6}\n"
 }
 
+fn unchanged_line() -> &'static str {
+    "{\"status_code\":1000,\"answer\":\"Unchanged\",\"at\":6}\n"
+}
+
+fn released_line() -> &'static str {
+    "{\"status_code\":1000,\"answer\":\"Released\",\"at\":6,\"amount\":\"20.0000\"}\n"
+}
+
 #[test]
 fn writes_lines_that_no_command_makes_yet(rt: HostRuntime) -> Result<(), Fail> {
     let refusal = Refusal::OverLimit {
@@ -47,10 +55,18 @@ fn writes_lines_that_no_command_makes_yet(rt: HostRuntime) -> Result<(), Fail> {
     Ok(())
 }
 
+// The line of an answer at 6 is the wanted one.
+fn is_line_of(alloc: Global, answer: Answer, wanted: &str) -> Result<bool, AllocError> {
+    let line = answer_line(alloc, &Ok(Replied { at: 6, answer }))?;
+    Ok(line.as_slice() == wanted.as_bytes())
+}
+
 #[test]
-fn writes_an_answer(rt: HostRuntime) -> Result<(), Fail> {
-    let answer = Answer::NoCredit;
-    let line = answer_line(rt.alloc(), &Ok(Replied { at: 6, answer }))?;
-    assert_eq!(rt; line.as_slice(), no_credit_line().as_bytes());
+fn writes_answers(rt: HostRuntime) -> Result<(), Fail> {
+    let alloc = rt.alloc();
+    assert!(rt; is_line_of(alloc, Answer::NoCredit, no_credit_line())?);
+    assert!(rt; is_line_of(alloc, Answer::Unchanged, unchanged_line())?);
+    let amount = amount(200000);
+    assert!(rt; is_line_of(alloc, Answer::Released { amount }, released_line())?);
     Ok(())
 }

@@ -1,7 +1,5 @@
-use Rattle.std.proofs.Common.{rules, ◌≡◌, ◌⊎◌, ℕ, List, sym}
+use Rattle.std.proofs.Common.{rules, sym}
 use Rattle.request_lines.specs.declared.script.Scripted.{Scripted}
-use Rattle.request_lines.specs.Script.{after}
-use Rattle.request_lines.specs.InTurn.{AnswersInTurn}
 use Rattle.request_lines.proofs.TextForm.{IsHouse, told_in_text, name_kept}
 use Rattle.request_lines.proofs.script.run_script.Goals as goal
 

@@ -1,5 +1,5 @@
 use Rattle.std.proofs.Common.{refl}
-use Rattle.plain_house.specs.House.{is_no_memory}
+use Rattle.plain_house.specs.Replies.{is_no_memory}
 use Rattle.plain_house.proofs.LimitsLemmas.{keeps_given}
 use Rattle.plain_house.proofs.house.PlainHouseSequential.do_command.Goals as goal
 

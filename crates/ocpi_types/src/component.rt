@@ -1,0 +1,81 @@
+use super::bounded::AtMost;
+use super::copying::TryCopy;
+use super::members::{self, Quantity};
+use ocpi_json::Node;
+use ocpi_json::fields::{self, FieldFault};
+use ocpi_json::name::Name;
+use ocpi_json::objects::{FromNode, FromText};
+use std::alloc::{AllocError, Global};
+
+/// What a price component charges for (OCPI 2.2.1, TariffDimensionType enum).
+#[derive(Clone, Copy, Debug, PartialEq, Eq)]
+pub enum ComponentKind {
+    Energy,
+    Flat,
+    ParkingTime,
+    Time,
+}
+
+/// In Wh for energy and in seconds for time; 0 rounds nothing.
+pub type StepSize = AtMost<1_000_000_000>;
+
+/// A price per kWh, per hour or once (OCPI 2.2.1, PriceComponent object). Its `type` is the field `kind`.
+#[derive(Clone, Copy, Debug, PartialEq, Eq)]
+pub struct PriceComponent {
+    pub kind: ComponentKind,
+    /// In millionths of the currency unit.
+    pub price: Quantity,
+    pub step_size: StepSize,
+}
+
+impl ComponentKind {
+    ghost use Rattle.std.specs.Prelude.{◌≡◌};
+    ghost use Rattle.ocpi_types.specs.Component.{same_kind};
+
+    /// The same kind.
+    pub fn is(self, other: ComponentKind) -> bool
+        ensures { result ≡ same_kind self other }
+    {
+        self == other
+    }
+}
+
+impl FromText for ComponentKind {
+    ghost use Rattle.ocpi_types.specs.Component.{kind_of};
+
+    ghost of_text = { kind_of };
+
+    fn from_text(text: &str) -> Option<ComponentKind> {
+        match text {
+            "ENERGY" => Some(ComponentKind::Energy),
+            "FLAT" => Some(ComponentKind::Flat),
+            "PARKING_TIME" => Some(ComponentKind::ParkingTime),
+            "TIME" => Some(ComponentKind::Time),
+            _ => None,
+        }
+    }
+}
+
+impl FromNode for PriceComponent {
+    ghost use Rattle.ocpi_types.specs.Component.{component_at};
+
+    ghost at = { component_at };
+
+    #[tactic(auto, unfolding(crate::specs::Component::component_at))]
+    fn from_node(_alloc: Global, node: &Node) -> Result<PriceComponent, FieldFault> {
+        let kind = fields::parsed(node, Name::Type)?;
+        let price = members::quantity(node, Name::Price)?;
+        let step_size = members::at_most(node, Name::StepSize, 0)?;
+        Ok(PriceComponent {
+            kind,
+            price,
+            step_size,
+        })
+    }
+}
+
+impl TryCopy for PriceComponent {
+    fn copy(&self, _alloc: Global) -> Result<PriceComponent, AllocError> {
+        Ok(*self)
+    }
+}

@@ -1,0 +1,59 @@
+ghost use Rattle.std.specs.Prelude.{◌≡◌, IfOk};
+
+use super::component::PriceComponent;
+use super::copying::TryCopy;
+use super::restrictions::Restrictions;
+use ocpi_json::Node;
+use ocpi_json::fields::{self, FieldFault};
+use ocpi_json::name::Name;
+use ocpi_json::objects::{FromNode, read_each, read_if_any};
+use ocpi_json::sequence::Sequence;
+use std::alloc::{AllocError, Global};
+
+/// Price components under one set of restrictions (OCPI 2.2.1, TariffElement object).
+#[derive(Drop)]
+pub struct Element {
+    pub price_components: Sequence<PriceComponent>,
+    pub restrictions: Option<Restrictions>,
+}
+
+impl FromNode for Element {
+    ghost use Rattle.ocpi_types.specs.Element.{element_at};
+
+    ghost at = { element_at };
+
+    #[tactic(auto, unfolding(crate::specs::Element::element_at))]
+    fn from_node(alloc: Global, node: &Node) -> Result<Element, FieldFault> {
+        let items = fields::list(node, Name::PriceComponents, 1, 16)?;
+        let price_components = read_each(alloc, items)?;
+        let found = fields::object_or_none(node, Name::Restrictions)?;
+        let restrictions = read_if_any(alloc, found)?;
+        Ok(Element {
+            price_components,
+            restrictions,
+        })
+    }
+}
+
+fn copy_restrictions(
+    alloc: Global,
+    restrictions: &Option<Restrictions>,
+) -> Result<Option<Restrictions>, AllocError>
+    ensures { IfOk result (λ copy. copy ≡ restrictions.now) }
+{
+    match restrictions {
+        Some(restrictions) => Ok(Some(restrictions.copy(alloc)?)),
+        None => Ok(None),
+    }
+}
+
+impl TryCopy for Element {
+    fn copy(&self, alloc: Global) -> Result<Element, AllocError> {
+        let price_components = self.price_components.copy(alloc)?;
+        let restrictions = copy_restrictions(alloc, &self.restrictions)?;
+        Ok(Element {
+            price_components,
+            restrictions,
+        })
+    }
+}

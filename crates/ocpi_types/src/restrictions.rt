@@ -1,0 +1,135 @@
+ghost use Rattle.std.specs.Prelude.{◌≡◌, IfOk};
+ghost use Rattle.serde_json.specs.View.{view};
+ghost use Rattle.ocpi_json.specs.Faults.{Gives};
+ghost use Rattle.ocpi_types.specs.Restrictions.{days_at, electric_bounds_at};
+
+use super::bounded::AtMost;
+use super::copying::TryCopy;
+use super::day_of_week::DayOfWeek;
+use super::members::{self, Quantity};
+use jiff::civil::{Date, Time};
+use ocpi_json::Node;
+use ocpi_json::fields::{self, FieldFault};
+use ocpi_json::name::Name;
+use ocpi_json::objects::{FromNode, parsed_each};
+use ocpi_json::sequence::Sequence;
+use ocpi_json::text::Text;
+use std::alloc::{AllocError, Global};
+
+/// A whole number of seconds.
+pub type Seconds = AtMost<999_999_999_999_999_999>;
+
+/// Which bounds on current and power are given. What they are is not kept.
+#[derive(Clone, Copy, Debug, PartialEq, Eq)]
+pub struct ElectricBounds {
+    pub min_current: bool,
+    pub max_current: bool,
+    pub min_power: bool,
+    pub max_power: bool,
+}
+
+/// When a tariff element applies (OCPI 2.2.1, TariffRestrictions object). A missing member restricts nothing.
+#[derive(Drop)]
+pub struct Restrictions {
+    pub start_time: Option<Time>,
+    pub end_time: Option<Time>,
+    pub start_date: Option<Date>,
+    pub end_date: Option<Date>,
+    /// In millionths of a kWh.
+    pub min_kwh: Option<Quantity>,
+    /// In millionths of a kWh.
+    pub max_kwh: Option<Quantity>,
+    pub min_duration: Option<Seconds>,
+    pub max_duration: Option<Seconds>,
+    /// As listed; an empty list restricts nothing.
+    pub day_of_week: Sequence<DayOfWeek>,
+    pub reservation: Option<Text>,
+    pub electric: ElectricBounds,
+}
+
+#[tactic(auto, unfolding(crate::specs::Restrictions::days_at))]
+fn read_days(alloc: Global, node: &Node) -> Result<Sequence<DayOfWeek>, FieldFault>
+    ensures { Gives result (days_at (view node.now)) }
+{
+    let items = fields::list_or_empty(node, Name::DayOfWeek, 1_048_576)?;
+    parsed_each(alloc, items, Name::DayOfWeek)
+}
+
+#[tactic(auto, unfolding(crate::specs::Restrictions::electric_bounds_at))]
+fn read_electric_bounds(node: &Node) -> Result<ElectricBounds, FieldFault>
+    ensures { Gives result (electric_bounds_at (view node.now)) }
+{
+    let min_current = fields::number_or_none(node, Name::MinCurrent)?.is_some();
+    let max_current = fields::number_or_none(node, Name::MaxCurrent)?.is_some();
+    let min_power = fields::number_or_none(node, Name::MinPower)?.is_some();
+    let max_power = fields::number_or_none(node, Name::MaxPower)?.is_some();
+    Ok(ElectricBounds {
+        min_current,
+        max_current,
+        min_power,
+        max_power,
+    })
+}
+
+impl FromNode for Restrictions {
+    ghost use Rattle.ocpi_types.specs.Restrictions.{restrictions_at};
+
+    ghost at = { restrictions_at };
+
+    #[tactic(auto, unfolding(crate::specs::Restrictions::restrictions_at))]
+    fn from_node(alloc: Global, node: &Node) -> Result<Restrictions, FieldFault> {
+        let start_time = fields::clock_or_none(node, Name::StartTime)?;
+        let end_time = fields::clock_or_none(node, Name::EndTime)?;
+        let start_date = fields::date_or_none(node, Name::StartDate)?;
+        let end_date = fields::date_or_none(node, Name::EndDate)?;
+        let min_kwh = members::quantity_or_none(node, Name::MinKwh)?;
+        let max_kwh = members::quantity_or_none(node, Name::MaxKwh)?;
+        let min_duration = members::at_most_or_none(node, Name::MinDuration, 0)?;
+        let max_duration = members::at_most_or_none(node, Name::MaxDuration, 0)?;
+        let day_of_week = read_days(alloc, node)?;
+        let reservation = fields::text_or_none(alloc, node, Name::Reservation)?;
+        let electric = read_electric_bounds(node)?;
+        Ok(Restrictions {
+            start_time,
+            end_time,
+            start_date,
+            end_date,
+            min_kwh,
+            max_kwh,
+            min_duration,
+            max_duration,
+            day_of_week,
+            reservation,
+            electric,
+        })
+    }
+}
+
+fn copy_text(alloc: Global, text: &Option<Text>) -> Result<Option<Text>, AllocError>
+    ensures { IfOk result (λ copy. copy ≡ text.now) }
+{
+    match text {
+        Some(text) => Ok(Some(text.copy(alloc)?)),
+        None => Ok(None),
+    }
+}
+
+impl TryCopy for Restrictions {
+    fn copy(&self, alloc: Global) -> Result<Restrictions, AllocError> {
+        let day_of_week = self.day_of_week.copy(alloc)?;
+        let reservation = copy_text(alloc, &self.reservation)?;
+        Ok(Restrictions {
+            start_time: self.start_time,
+            end_time: self.end_time,
+            start_date: self.start_date,
+            end_date: self.end_date,
+            min_kwh: self.min_kwh,
+            max_kwh: self.max_kwh,
+            min_duration: self.min_duration,
+            max_duration: self.max_duration,
+            day_of_week,
+            reservation,
+            electric: self.electric,
+        })
+    }
+}

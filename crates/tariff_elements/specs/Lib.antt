@@ -1,0 +1,5 @@
+pub mod Active
+pub mod Law
+pub mod LocalTime
+pub mod Matching
+pub mod Window

@@ -1,0 +1,31 @@
+ghost use Rattle.std.specs.Prelude.{◌≡◌};
+ghost use Rattle.tariff_elements.specs.Matching.{matches};
+
+use super::amounts::is_in_bounds;
+use super::days::{is_between_dates, is_on_listed_day};
+use super::moments::Moment;
+use super::windows::is_between_times;
+use ocpi_types::Restrictions;
+
+/// Whether the restrictions hold at the moment (OCPI 2.2.1, TariffRestrictions object). Restrictions
+/// for a reservation never hold; bounds on current and power are not looked at, since a tariff with
+/// them is not [`supported`](crate::supported).
+pub fn matches(restrictions: &Restrictions, moment: &Moment) -> bool
+    ensures { result ≡ matches restrictions.now moment.now }
+{
+    let date = moment.local.date();
+    restrictions.reservation.is_none()
+        && is_in_bounds(restrictions.min_kwh, restrictions.max_kwh, moment.energy)
+        && is_in_bounds(
+            restrictions.min_duration,
+            restrictions.max_duration,
+            moment.seconds as u128,
+        )
+        && is_between_dates(restrictions.start_date, restrictions.end_date, date)
+        && is_on_listed_day(restrictions.day_of_week.as_slice(), date)
+        && is_between_times(
+            restrictions.start_time,
+            restrictions.end_time,
+            moment.local.time(),
+        )
+}
