@@ -6,6 +6,3 @@ mod request;
 
 pub use admission::admit;
 pub use request::{Ask, Authorize, Command, ExposureOf, Release, Request};
-
-#[cfg(test)]
-mod tests;

@@ -470,6 +470,3 @@ pub fn object_or_none(node: &Node, name: Name) -> Result<Option<&Node>, FieldFau
         None => Ok(None),
     }
 }
-
-#[cfg(test)]
-mod tests;

@@ -14,6 +14,3 @@ pub mod text;
 
 pub use fault::ReadFault;
 pub use reading::{Node, read};
-
-#[cfg(test)]
-mod tests;

@@ -215,6 +215,3 @@ impl FromText for Time {
         clock_of(text.as_bytes())
     }
 }
-
-#[cfg(test)]
-mod tests;

@@ -254,16 +254,3 @@ impl Name {
         }
     }
 }
-
-#[cfg(test)]
-mod tests {
-    use super::*;
-
-    #[test]
-    fn has_both_spellings(rt: HostRuntime) {
-        assert_eq!(rt; Name::Type.as_str(), "type");
-        assert_eq!(rt; Name::Type.key(), "stype");
-        assert_eq!(rt; Name::CreditWindow.as_str(), "credit_window");
-        assert_eq!(rt; Name::CreditWindow.key(), "scredit_window");
-    }
-}

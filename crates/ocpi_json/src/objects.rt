@@ -96,6 +96,3 @@ pub fn ci_text_each(
     }
     Ok(values)
 }
-
-#[cfg(test)]
-mod tests;

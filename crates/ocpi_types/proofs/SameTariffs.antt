@@ -31,13 +31,13 @@ use Rattle.ocpi_types.specs.declared.tariff.Tariff.{Tariff}
 -- ---- tests of parts
 
 -- two tests in a row
-both : {P Q : Type 0} (a b : Bool) → Decides a P → Decides b Q → Decides (a && b) (P × Q)
+pub both : {P Q : Type 0} (a b : Bool) → Decides a P → Decides b Q → Decides (a && b) (P × Q)
 both true true p q = (λ _. (p.0 refl, q.0 refl), λ _. refl)
 both true false p q = (λ h. cc, λ h. q.1 h.1)
 both false b p q = (λ h. cc, λ h. p.1 h.0)
 
 -- a test decides what comes to the same
-decides : {P Q : Type 0} (a : Bool) → Decides a P → (P → Q) → (Q → P) → Decides a Q
+pub decides : {P Q : Type 0} (a : Bool) → Decides a P → (P → Q) → (Q → P) → Decides a Q
 decides a d f g = (λ h. f (d.0 h), λ h. d.1 (g h))
 
 options : {K : Type 0} (E : K → K → Bool) → ((x y : K) → Decides (E x y) (x ≡ y)) → (p q : Option K) → Decides (option_eq E p q) (p ≡ q)
@@ -62,7 +62,7 @@ dates a b =
     (λ p. date_is a b cc)
     (λ e. ((λ i. (e i).year, λ i. (e i).month), λ i. (e i).day))
 
-instants : (a b : Timestamp) → Decides (same_instant a b) (a ≡ b)
+pub instants : (a b : Timestamp) → Decides (same_instant a b) (a ≡ b)
 instants a b =
     decides (same_instant a b) (Decides-int_eq a.nanosecond b.nanosecond)
     (λ p i. record {
@@ -140,7 +140,7 @@ elements a b =
 
 -- ---- but for the case of letters
 
-parties : (a b : Party) → Decides (same_party a b) (folded_party a ≡ folded_party b)
+pub parties : (a b : Party) → Decides (same_party a b) (folded_party a ≡ folded_party b)
 parties a b =
     decides (same_party a b)
     (both _ _ (bytes_decides (folded a.country_code) (folded b.country_code)) (bytes_decides (folded a.party_id) (folded b.party_id)))

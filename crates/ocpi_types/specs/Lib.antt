@@ -1,3 +1,6 @@
+pub mod Cdr
+pub mod CdrToken
+pub mod ChargingPeriod
 pub mod Component
 pub mod Config
 pub mod ConfigFaults
@@ -6,11 +9,13 @@ pub mod ConfigText
 pub mod Currency
 pub mod DayOfWeek
 pub mod Different
+pub mod Dimension
 pub mod Element
 pub mod Members
 pub mod Party
 pub mod Refusal
 pub mod Restrictions
+pub mod SameCdr
 pub mod SameTariff
 pub mod Tariff
 pub mod Token

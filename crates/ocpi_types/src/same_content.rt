@@ -15,7 +15,11 @@ use jiff::Timestamp;
 use jiff::civil::{Date, Time};
 use ocpi_json::text::Text;
 
-/// Parts of a tariff that may be the same.
+mod cdrs;
+
+pub use cdrs::same_cdr;
+
+/// Parts of a tariff or of a CDR that may be the same.
 trait Part {
     ghost use Rattle.std.specs.Prelude.{◌≡◌, Bool};
 

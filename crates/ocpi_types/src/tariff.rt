@@ -84,6 +84,3 @@ impl TryCopy for Tariff {
         })
     }
 }
-
-#[cfg(test)]
-mod tests;

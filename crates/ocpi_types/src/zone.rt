@@ -128,6 +128,3 @@ impl TryCopy for Zone {
         Ok(Zone { rules: self.rules })
     }
 }
-
-#[cfg(test)]
-mod tests;

@@ -14,6 +14,3 @@ pub use event::{Event, Hold};
 pub use house::PlainHouse;
 pub use laws::{commands_keep_lists_legal, legal_lists_keep_limits};
 pub use sequential::Sequential;
-
-#[cfg(test)]
-mod tests;

@@ -194,6 +194,3 @@ pub fn answer_line(alloc: Global, reply: &Result<Replied, Refused>) -> Result<Ve
     text.push(NEWLINE)?;
     Ok(text)
 }
-
-#[cfg(test)]
-mod tests;

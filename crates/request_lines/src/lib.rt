@@ -20,6 +20,3 @@ pub use one_line::respond;
 pub use requests::{CommandName, request_of};
 pub use script::run_script;
 pub use streams::{MOST_READ_BYTES, Sink, Source, write_all};
-
-#[cfg(test)]
-mod tests;

@@ -144,6 +144,3 @@ pub fn request_of(alloc: Global, line: &[u8]) -> Result<Request, Refusal>
         Err(FieldFault::NoMemory) => Err(Refusal::NoMemory),
     }
 }
-
-#[cfg(test)]
-mod tests;

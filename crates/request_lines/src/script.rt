@@ -62,6 +62,3 @@ pub fn run_script<R: Source, W: Sink, S: Sequential>(
     let mut scripted = Scripted { config, house };
     run_lines(alloc, reader, writer, &mut scripted)
 }
-
-#[cfg(test)]
-mod tests;

@@ -19,6 +19,3 @@ pub use moments::Moment;
 pub use ocpi_types::Zone;
 pub use placing::moment;
 pub use support::supported;
-
-#[cfg(test)]
-mod tests;

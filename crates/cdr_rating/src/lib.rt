@@ -1,0 +1,15 @@
+//! What the sessions of charge detail records cost by their tariffs (OCPI 2.2.1, CDR object and Tariff object).
+#![tactic(auto)]
+
+mod charging;
+mod laws;
+mod measure;
+mod price;
+mod pricing;
+mod tally;
+mod volumes;
+
+pub use laws::{rounded_is_half_up, splits_at_no_cost, up_to_step_is_least};
+pub use ocpi_types::Zone;
+pub use price::rate;
+pub use tally::Priced;

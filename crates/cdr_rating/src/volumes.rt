@@ -1,0 +1,68 @@
+ghost use Rattle.std.specs.Prelude.{◌≡◌, ◌*◌, ◌^◌, ◌≤◌, ℤ, unsigned_abs};
+ghost use Rattle.cdr_rating.specs.Volumes.{counts, millionths_in, seconds_of_hours, volume_in};
+
+use ocpi_types::{ChargingPeriod, ComponentKind, Dimension, DimensionKind};
+
+fn counts(kind: ComponentKind, dimension: &DimensionKind) -> bool
+    ensures { result ≡ counts kind dimension.now }
+{
+    match (kind, dimension) {
+        (ComponentKind::Energy, DimensionKind::Energy) => true,
+        (ComponentKind::ParkingTime, DimensionKind::ParkingTime) => true,
+        (ComponentKind::Time, DimensionKind::Time) => true,
+        _ => false,
+    }
+}
+
+fn size_of(dimension: &Dimension) -> u128
+    ensures value { result ≡ unsigned_abs dimension.now.volume }
+    ensures bound { result ≤ 10 ^ 15 }
+{
+    u128::from(dimension.volume.get().unsigned_abs())
+}
+
+fn millionths_in(kind: ComponentKind, period: &ChargingPeriod) -> u128
+    ensures value { result ≡ millionths_in kind period.now }
+    ensures bound { result ≤ 10 ^ 17 }
+{
+    let dimensions = period.dimensions.as_slice();
+    let mut total = 0;
+    for dimension in dimensions {
+        if counts(kind, &dimension.kind) {
+            total += size_of(dimension);
+        }
+    }
+    total
+}
+
+fn seconds_of_hours(millionths: u128) -> u128
+    requires { millionths ≤ 10 ^ 17 }
+    ensures value { result ≡ seconds_of_hours millionths }
+    ensures bound { result ≤ 4 * 10 ^ 14 }
+{
+    (millionths * 3_600 + 500_000) / 1_000_000
+}
+
+/// The energy of a period, in millionths of a kWh.
+pub(crate) fn energy_in(period: &ChargingPeriod) -> u128
+    ensures value { result ≡ volume_in ComponentKind.Energy period.now }
+    ensures bound { result ≤ 10 ^ 17 }
+{
+    millionths_in(ComponentKind::Energy, period)
+}
+
+/// The seconds of parking in a period.
+pub(crate) fn parking_in(period: &ChargingPeriod) -> u128
+    ensures value { result ≡ volume_in ComponentKind.ParkingTime period.now }
+    ensures bound { result ≤ 4 * 10 ^ 14 }
+{
+    seconds_of_hours(millionths_in(ComponentKind::ParkingTime, period))
+}
+
+/// The seconds of charging in a period.
+pub(crate) fn time_in(period: &ChargingPeriod) -> u128
+    ensures value { result ≡ volume_in ComponentKind.Time period.now }
+    ensures bound { result ≤ 4 * 10 ^ 14 }
+{
+    seconds_of_hours(millionths_in(ComponentKind::Time, period))
+}

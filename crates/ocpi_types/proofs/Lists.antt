@@ -1,0 +1,39 @@
+-- How long the lists are that stand in nodes.
+use Rattle.std.proofs.Common.{◌≡◌, ℕ, ◌+◌, ◌≤◌, List, [], ◌∷◌, length, Option, Some, None, Result, Ok, Err, refl, arith}
+use Rattle.std.specs.Prelude.{map, option_and_then}
+use Rattle.std.proofs.lemmas.List.{length-map}
+use Rattle.std.proofs.lemmas.Bool.Decides.{nat_tests}
+use Rattle.serde_json.specs.Data.{Data, Items}
+use Rattle.serde_json.specs.Find.{as_array}
+use Rattle.ocpi_json.specs.Fields.{required, list_of, if_between, items_list, member_at}
+use Rattle.ocpi_json.specs.Members.{each, or_name, ◌>>=◌}
+use Rattle.ocpi_json.specs.declared.name.Name.{Name}
+
+one_longer : {X : Type 0} (first : Result X Name) (later : Result (List X) Name) (n : ℕ) (xs : List X) → ((ys : List X) → later ≡ Ok ys → length ys ≡ n) → first >>= (λ x. later >>= (λ ys. Ok (x ∷ ys))) ≡ Ok xs → length xs ≡ n + 1
+one_longer (Err called) later n xs as_long h = cc
+one_longer (Ok x) (Err called) n xs as_long h = cc
+one_longer (Ok x) (Ok ys) n xs as_long h = let e : x ∷ ys ≡ xs = cc in rw (← e) (omega (arith, as_long ys refl))
+
+-- each item gives one value
+pub each_keeps_length : {X : Type 0} (read : Data → Result X Name) (ds : List Data) (xs : List X) → each read ds ≡ Ok xs → length xs ≡ length ds
+each_keeps_length read [] xs h = let e : [] ≡ xs = cc in rw (← e) refl
+each_keeps_length read (d ∷ ds) xs h = let e = one_longer (read d) (each read ds) (length ds) xs (λ ys. each_keeps_length read ds ys) h in omega (arith, e)
+
+between : (least most : ℕ) (ds items : List Data) → if_between least most ds ≡ Some items → length items ≤ most
+between least most ds items h = grind (arith, nat_tests)
+
+some_from_ok : {X : Type 0} (n : Name) (found : Option X) (x : X) → or_name n found ≡ Ok x → found ≡ Some x
+some_from_ok n None x h = cc
+some_from_ok n (Some y) x h = cc
+
+in_array : (least most : ℕ) (found : Option Items) (items : List Data) → option_and_then (λ ds. if_between least most (items_list ds)) found ≡ Some items → length items ≤ most
+in_array least most None items h = cc
+in_array least most (Some ds) items h = between least most (items_list ds) items h
+
+in_member : (least most : ℕ) (n : Name) (found : Option Data) (items : List Data) → or_name n found >>= (λ d. or_name n (list_of least most d)) ≡ Ok items → length items ≤ most
+in_member least most n None items h = cc
+in_member least most n (Some d) items h = in_array least most (as_array d) items (some_from_ok n (list_of least most d) items h)
+
+-- a list that is read has at most as many items as it may
+pub list_within : {N : Type 0} (view : N → Data) (least most : ℕ) (n : Name) (node : Data) (nodes : List N) → required (list_of least most) n node ≡ Ok (map view nodes) → length nodes ≤ most
+list_within view least most n node nodes h = let within = in_member least most n (member_at n node) (map view nodes) h in omega (arith, within, length-map nodes view)

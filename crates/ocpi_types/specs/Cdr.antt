@@ -1,0 +1,102 @@
+-- A charge detail record (OCPI 2.2.1, CDR object). One with `credit` true is a Credit CDR.
+use Rattle.std.specs.Prelude.{ℕ, ℤ, pos, int_le, nat_le, length, List, Bool, true, false, ◌||◌, Option, Some, None, Result, Ok, is_some, unwrap_or}
+use Rattle.std.specs.List.{list_all}
+use Rattle.serde_json.specs.Data.{Data}
+use Rattle.serde_json.specs.Find.{as_bool}
+use Rattle.ocpi_json.specs.Fields.{required, optional, ci_of, list_of, list_or_empty, number_of, object_of, parsed_of}
+use Rattle.ocpi_json.specs.Members.{◌>>=◌, each}
+use Rattle.ocpi_json.specs.MomentText.{instant_of}
+use Rattle.ocpi_json.specs.declared.name.Name.{Name}
+use Rattle.ocpi_json.specs.declared.name.Name.TheVariants as name
+use Rattle.ocpi_types.specs.CdrToken.{cdr_token_at, method_of}
+use Rattle.ocpi_types.specs.ChargingPeriod.{period_at, has_volumes_in_range}
+use Rattle.ocpi_types.specs.Currency.{currency_of}
+use Rattle.ocpi_types.specs.Members.{ensure}
+use Rattle.ocpi_types.specs.Party.{party_at}
+use Rattle.ocpi_types.specs.Tariff.{tariff_at}
+use Rattle.ocpi_types.specs.declared.cdr.Cdr.{Cdr}
+use Rattle.ocpi_types.specs.declared.cdr_token.CdrToken.{CdrToken}
+use Rattle.ocpi_types.specs.declared.charging_period.ChargingPeriod.{ChargingPeriod}
+use Rattle.ocpi_types.specs.declared.tariff.Tariff.{Tariff}
+
+unfoldable pub token_at : Data → Result CdrToken Name
+token_at node = do
+  object ← required object_of name.CdrToken node
+  cdr_token_at object
+
+-- up to 10 tariffs
+unfoldable pub tariffs_at : Data → Result (List Tariff) Name
+tariffs_at node = do
+  items ← list_or_empty 10 name.Tariffs node
+  each tariff_at items
+
+-- 1 to 1,000 charging periods
+unfoldable pub periods_at : Data → Result (List ChargingPeriod) Name
+periods_at node = do
+  items ← required (list_of 1 1000) name.ChargingPeriods node
+  each period_at items
+
+-- the cost without tax, in millionths of the currency unit (OCPI 2.2.1, Price object)
+unfoldable pub cost_at : Data → Result ℤ Name
+cost_at node = do
+  object ← required object_of name.TotalCost node
+  required number_of name.ExclVat object
+
+-- the id of the CDR that a Credit CDR credits, which is read of a Credit CDR alone
+unfoldable pub reference_at : Bool → Data → Result (Option (List ℕ)) Name
+reference_at false node = Ok None
+reference_at true node = do
+  id ← required (ci_of 39) name.CreditReferenceId node
+  Ok (Some id)
+
+unfoldable pub credit_at : Data → Result (Option (List ℕ)) Name
+credit_at node = do
+  credit ← optional as_bool name.Credit node
+  reference_at (unwrap_or credit false) node
+
+unfoldable pub members_at : Data → Result Cdr Name
+members_at node = do
+  operator ← party_at node
+  id ← required (ci_of 39) name.Id node
+  start_date_time ← required (parsed_of instant_of) name.StartDateTime node
+  end_date_time ← required (parsed_of instant_of) name.EndDateTime node
+  cdr_token ← token_at node
+  auth_method ← required (parsed_of method_of) name.AuthMethod node
+  authorization_reference ← optional (ci_of 36) name.AuthorizationReference node
+  currency ← required (parsed_of currency_of) name.Currency node
+  tariffs ← tariffs_at node
+  charging_periods ← periods_at node
+  total_cost ← cost_at node
+  total_energy ← required number_of name.TotalEnergy node
+  total_time ← required number_of name.TotalTime node
+  credit ← credit_at node
+  last_updated ← required (parsed_of instant_of) name.LastUpdated node
+  Ok (record {
+    operator = operator;
+    id = id;
+    start_date_time = start_date_time;
+    end_date_time = end_date_time;
+    cdr_token = cdr_token;
+    auth_method = auth_method;
+    authorization_reference = authorization_reference;
+    currency = currency;
+    tariffs = tariffs;
+    charging_periods = charging_periods;
+    total_cost = total_cost;
+    total_energy = total_energy;
+    total_time = total_time;
+    credit = credit;
+    last_updated = last_updated;
+  })
+
+abbrev pub is_credit : Cdr → Bool
+is_credit cdr = is_some cdr.credit
+
+-- what holds of a CDR that is no Credit CDR: an id of up to 36 bytes, and no volume or total energy below 0
+unfoldable pub cdr_at : Data → Result Cdr Name
+cdr_at node = do
+  cdr ← members_at node
+  _ ← ensure (is_credit cdr || nat_le (length cdr.id) 36) name.Id
+  _ ← ensure (is_credit cdr || list_all has_volumes_in_range cdr.charging_periods) name.Volume
+  _ ← ensure (is_credit cdr || int_le (pos 0) cdr.total_energy) name.TotalEnergy
+  Ok cdr

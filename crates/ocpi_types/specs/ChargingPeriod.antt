@@ -1,0 +1,23 @@
+-- A charging period (OCPI 2.2.1, ChargingPeriod object): 1 to 100 dimensions from a moment on.
+use Rattle.std.specs.Prelude.{Bool, Result, Ok}
+use Rattle.std.specs.List.{list_all}
+use Rattle.serde_json.specs.Data.{Data}
+use Rattle.ocpi_json.specs.Fields.{required, optional, ci_of, list_of, parsed_of}
+use Rattle.ocpi_json.specs.Members.{◌>>=◌, each}
+use Rattle.ocpi_json.specs.MomentText.{instant_of}
+use Rattle.ocpi_json.specs.declared.name.Name.{Name}
+use Rattle.ocpi_json.specs.declared.name.Name.TheVariants as name
+use Rattle.ocpi_types.specs.Dimension.{dimension_at, is_in_range}
+use Rattle.ocpi_types.specs.declared.charging_period.ChargingPeriod.{ChargingPeriod}
+
+unfoldable pub period_at : Data → Result ChargingPeriod Name
+period_at node = do
+  start_date_time ← required (parsed_of instant_of) name.StartDateTime node
+  items ← required (list_of 1 100) name.Dimensions node
+  dimensions ← each dimension_at items
+  tariff_id ← optional (ci_of 36) name.TariffId node
+  Ok (record { start_date_time = start_date_time; dimensions = dimensions; tariff_id = tariff_id })
+
+-- no volume of energy or time is below 0
+abbrev pub has_volumes_in_range : ChargingPeriod → Bool
+has_volumes_in_range period = list_all is_in_range period.dimensions

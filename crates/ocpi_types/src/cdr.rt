@@ -1,0 +1,221 @@
+ghost use Rattle.std.specs.Prelude.{◌≡◌};
+ghost use Rattle.std.specs.List.{list_all};
+ghost use Rattle.serde_json.specs.View.{view};
+ghost use Rattle.ocpi_json.specs.Faults.{Gives};
+ghost use Rattle.ocpi_types.specs.Cdr.{cost_at, credit_at, members_at, periods_at, reference_at, tariffs_at, token_at};
+ghost use Rattle.ocpi_types.specs.ChargingPeriod.{has_volumes_in_range};
+
+use super::cdr_token::{AuthMethod, CdrToken};
+use super::charging_period::{ChargingPeriod, copy_ci_text};
+use super::copying::TryCopy;
+use super::currency::Currency;
+use super::members::{self, ensure};
+use super::party::Party;
+use super::tariff::Tariff;
+use super::up_to::{UpTo, read_up_to};
+use exact_money::Millionths;
+use jiff::Timestamp;
+use ocpi_json::Node;
+use ocpi_json::ci_text::CiText;
+use ocpi_json::fields::{self, FieldFault};
+use ocpi_json::name::Name;
+use ocpi_json::objects::{FromNode, read_each};
+use ocpi_json::sequence::Sequence;
+use std::alloc::{AllocError, Global};
+
+/// A charge detail record of an operator (OCPI 2.2.1, CDR object).
+#[derive(Drop)]
+pub struct Cdr {
+    pub operator: Party,
+    pub id: CiText,
+    pub start_date_time: Timestamp,
+    pub end_date_time: Timestamp,
+    pub cdr_token: CdrToken,
+    pub auth_method: AuthMethod,
+    pub authorization_reference: Option<CiText>,
+    pub currency: Currency,
+    pub tariffs: Sequence<Tariff>,
+    pub charging_periods: UpTo<ChargingPeriod, 1000>,
+    /// Without tax, in millionths of the currency unit.
+    pub total_cost: Millionths,
+    /// In millionths of a kWh.
+    pub total_energy: Millionths,
+    /// In millionths of an hour.
+    pub total_time: Millionths,
+    /// The id of the CDR that a Credit CDR credits; none where this is no Credit CDR.
+    pub credit: Option<CiText>,
+    pub last_updated: Timestamp,
+}
+
+#[tactic(auto, unfolding(crate::specs::Cdr::token_at))]
+fn read_token(alloc: Global, node: &Node) -> Result<CdrToken, FieldFault>
+    ensures { Gives result (token_at (view node.now)) }
+{
+    CdrToken::from_node(alloc, fields::object(node, Name::CdrToken)?)
+}
+
+#[tactic(auto, unfolding(crate::specs::Cdr::tariffs_at))]
+fn read_tariffs(alloc: Global, node: &Node) -> Result<Sequence<Tariff>, FieldFault>
+    ensures { Gives result (tariffs_at (view node.now)) }
+{
+    read_each(alloc, fields::list_or_empty(node, Name::Tariffs, 10)?)
+}
+
+#[tactic(auto, unfolding(crate::specs::Cdr::periods_at))]
+fn read_periods(alloc: Global, node: &Node) -> Result<UpTo<ChargingPeriod, 1000>, FieldFault>
+    ensures { Gives result (periods_at (view node.now)) }
+{
+    read_up_to(alloc, fields::list(node, Name::ChargingPeriods, 1, 1000)?)
+}
+
+#[tactic(auto, unfolding(crate::specs::Cdr::cost_at))]
+fn read_cost(node: &Node) -> Result<Millionths, FieldFault>
+    ensures { Gives result (cost_at (view node.now)) }
+{
+    fields::number(fields::object(node, Name::TotalCost)?, Name::ExclVat)
+}
+
+#[tactic(auto, unfolding(crate::specs::Cdr::reference_at))]
+fn read_reference(alloc: Global, is_credit: bool, node: &Node) -> Result<Option<CiText>, FieldFault>
+    ensures { Gives result (reference_at is_credit (view node.now)) }
+{
+    if is_credit {
+        let id = fields::ci_text(alloc, node, Name::CreditReferenceId, 39)?;
+        Ok(Some(id))
+    } else {
+        Ok(None)
+    }
+}
+
+#[tactic(auto, unfolding(crate::specs::Cdr::credit_at))]
+fn read_credit(alloc: Global, node: &Node) -> Result<Option<CiText>, FieldFault>
+    ensures { Gives result (credit_at (view node.now)) }
+{
+    let is_credit = fields::flag_or_none(node, Name::Credit)?.unwrap_or(false);
+    read_reference(alloc, is_credit, node)
+}
+
+#[tactic(auto, unfolding(crate::specs::Cdr::members_at))]
+fn read_members(alloc: Global, node: &Node) -> Result<Cdr, FieldFault>
+    ensures { Gives result (members_at (view node.now)) }
+{
+    let operator = Party::from_node(alloc, node)?;
+    let id = fields::ci_text(alloc, node, Name::Id, 39)?;
+    let start_date_time = fields::instant(node, Name::StartDateTime)?;
+    let end_date_time = fields::instant(node, Name::EndDateTime)?;
+    let cdr_token = read_token(alloc, node)?;
+    let auth_method = fields::parsed(node, Name::AuthMethod)?;
+    let authorization_reference = fields::ci_text_or_none(
+        alloc,
+        node,
+        Name::AuthorizationReference,
+        36,
+    )?;
+    let currency = members::currency(node, Name::Currency)?;
+    let tariffs = read_tariffs(alloc, node)?;
+    let charging_periods = read_periods(alloc, node)?;
+    let total_cost = read_cost(node)?;
+    let total_energy = fields::number(node, Name::TotalEnergy)?;
+    let total_time = fields::number(node, Name::TotalTime)?;
+    let credit = read_credit(alloc, node)?;
+    let last_updated = fields::instant(node, Name::LastUpdated)?;
+    Ok(Cdr {
+        operator,
+        id,
+        start_date_time,
+        end_date_time,
+        cdr_token,
+        auth_method,
+        authorization_reference,
+        currency,
+        tariffs,
+        charging_periods,
+        total_cost,
+        total_energy,
+        total_time,
+        credit,
+        last_updated,
+    })
+}
+
+fn have_volumes_in_range(periods: &[ChargingPeriod]) -> bool
+    ensures { result ≡ list_all has_volumes_in_range periods.now }
+{
+    periods.iter().all(|period| period.has_volumes_in_range())
+}
+
+impl Cdr {
+    ghost use Rattle.std.specs.Prelude.{◌≡◌, ◌||◌, pos, int_le, nat_le, length};
+    ghost use Rattle.std.specs.List.{list_all};
+    ghost use Rattle.ocpi_types.specs.Cdr.{is_credit};
+    ghost use Rattle.ocpi_types.specs.ChargingPeriod.{has_volumes_in_range};
+
+    /// It is a Credit CDR.
+    pub fn is_credit(&self) -> bool
+        ensures { result ≡ is_credit self.now }
+    {
+        self.credit.is_some()
+    }
+
+    fn has_id_in_range(&self) -> bool
+        ensures { result ≡ (is_credit self.now || nat_le (length self.now.id) 36) }
+    {
+        self.is_credit() || self.id.as_str().len() <= 36
+    }
+
+    fn has_volumes_in_range(&self) -> bool
+        ensures { result ≡ (is_credit self.now || list_all has_volumes_in_range self.now.charging_periods) }
+    {
+        self.is_credit() || have_volumes_in_range(self.charging_periods.as_slice())
+    }
+
+    fn has_energy_in_range(&self) -> bool
+        ensures { result ≡ (is_credit self.now || int_le (pos 0) self.now.total_energy) }
+    {
+        self.is_credit() || self.total_energy.get() >= 0
+    }
+}
+
+impl FromNode for Cdr {
+    ghost use Rattle.ocpi_types.specs.Cdr.{cdr_at};
+
+    ghost at = { cdr_at };
+
+    #[tactic(auto, unfolding(crate::specs::Cdr::cdr_at))]
+    fn from_node(alloc: Global, node: &Node) -> Result<Cdr, FieldFault> {
+        let cdr = read_members(alloc, node)?;
+        ensure(cdr.has_id_in_range(), Name::Id)?;
+        ensure(cdr.has_volumes_in_range(), Name::Volume)?;
+        ensure(cdr.has_energy_in_range(), Name::TotalEnergy)?;
+        Ok(cdr)
+    }
+}
+
+impl TryCopy for Cdr {
+    fn copy(&self, alloc: Global) -> Result<Cdr, AllocError> {
+        let operator = self.operator.copy(alloc)?;
+        let id = self.id.copy(alloc)?;
+        let cdr_token = self.cdr_token.copy(alloc)?;
+        let authorization_reference = copy_ci_text(alloc, &self.authorization_reference)?;
+        let tariffs = self.tariffs.copy(alloc)?;
+        let charging_periods = self.charging_periods.copy(alloc)?;
+        let credit = copy_ci_text(alloc, &self.credit)?;
+        Ok(Cdr {
+            operator,
+            id,
+            start_date_time: self.start_date_time,
+            end_date_time: self.end_date_time,
+            cdr_token,
+            auth_method: self.auth_method,
+            authorization_reference,
+            currency: self.currency,
+            tariffs,
+            charging_periods,
+            total_cost: self.total_cost,
+            total_energy: self.total_energy,
+            total_time: self.total_time,
+            credit,
+            last_updated: self.last_updated,
+        })
+    }
+}

@@ -1,0 +1,81 @@
+ghost use Rattle.std.specs.Prelude.{◌≡◌, IfOk};
+ghost use Rattle.std.specs.List.{list_all};
+ghost use Rattle.ocpi_types.specs.Dimension.{is_in_range};
+
+use super::copying::TryCopy;
+use super::dimension::Dimension;
+use super::up_to::{UpTo, read_up_to};
+use jiff::Timestamp;
+use ocpi_json::Node;
+use ocpi_json::ci_text::CiText;
+use ocpi_json::fields::{self, FieldFault};
+use ocpi_json::name::Name;
+use ocpi_json::objects::FromNode;
+use std::alloc::{AllocError, Global};
+
+/// What a session counted from a moment on (OCPI 2.2.1, ChargingPeriod object).
+#[derive(Drop)]
+pub struct ChargingPeriod {
+    pub start_date_time: Timestamp,
+    pub dimensions: UpTo<Dimension, 100>,
+    pub tariff_id: Option<CiText>,
+}
+
+fn are_in_range(dimensions: &[Dimension]) -> bool
+    ensures { result ≡ list_all is_in_range dimensions.now }
+{
+    dimensions.iter().all(|dimension| dimension.is_in_range())
+}
+
+impl ChargingPeriod {
+    ghost use Rattle.std.specs.Prelude.{◌≡◌};
+    ghost use Rattle.ocpi_types.specs.ChargingPeriod.{has_volumes_in_range};
+
+    /// No volume of energy or time is below 0.
+    pub fn has_volumes_in_range(&self) -> bool
+        ensures { result ≡ has_volumes_in_range self.now }
+    {
+        are_in_range(self.dimensions.as_slice())
+    }
+}
+
+impl FromNode for ChargingPeriod {
+    ghost use Rattle.ocpi_types.specs.ChargingPeriod.{period_at};
+
+    ghost at = { period_at };
+
+    #[tactic(auto, unfolding(crate::specs::ChargingPeriod::period_at))]
+    fn from_node(alloc: Global, node: &Node) -> Result<ChargingPeriod, FieldFault> {
+        let start_date_time = fields::instant(node, Name::StartDateTime)?;
+        let items = fields::list(node, Name::Dimensions, 1, 100)?;
+        let dimensions = read_up_to(alloc, items)?;
+        let tariff_id = fields::ci_text_or_none(alloc, node, Name::TariffId, 36)?;
+        Ok(ChargingPeriod {
+            start_date_time,
+            dimensions,
+            tariff_id,
+        })
+    }
+}
+
+/// A copy of a text, if there is one.
+pub fn copy_ci_text(alloc: Global, text: &Option<CiText>) -> Result<Option<CiText>, AllocError>
+    ensures { IfOk result (λ copy. copy ≡ text.now) }
+{
+    match text {
+        Some(text) => Ok(Some(text.copy(alloc)?)),
+        None => Ok(None),
+    }
+}
+
+impl TryCopy for ChargingPeriod {
+    fn copy(&self, alloc: Global) -> Result<ChargingPeriod, AllocError> {
+        let dimensions = self.dimensions.copy(alloc)?;
+        let tariff_id = copy_ci_text(alloc, &self.tariff_id)?;
+        Ok(ChargingPeriod {
+            start_date_time: self.start_date_time,
+            dimensions,
+            tariff_id,
+        })
+    }
+}

@@ -1,0 +1,94 @@
+ghost use Rattle.std.specs.Prelude.{◌≡◌};
+ghost use Rattle.serde_json.specs.View.{view};
+ghost use Rattle.ocpi_json.specs.Faults.{Gives};
+ghost use Rattle.ocpi_types.specs.Dimension.{kind_at};
+
+use super::copying::TryCopy;
+use exact_money::Millionths;
+use ocpi_json::Node;
+use ocpi_json::fields::{self, FieldFault};
+use ocpi_json::name::Name;
+use ocpi_json::objects::FromNode;
+use ocpi_json::text::Text;
+use std::alloc::{AllocError, Global};
+
+/// What a volume counts (OCPI 2.2.1, CdrDimensionType enum). Every text that is none of the four is kept.
+#[derive(Debug, Drop)]
+pub enum DimensionKind {
+    Energy,
+    ParkingTime,
+    ReservationTime,
+    Time,
+    Other(Text),
+}
+
+/// A volume of a charging period (OCPI 2.2.1, CdrDimension object). Its `type` is the field `kind`.
+#[derive(Debug, Drop)]
+pub struct Dimension {
+    pub kind: DimensionKind,
+    /// In millionths of a kWh, of an hour, or of the unit of another kind.
+    pub volume: Millionths,
+}
+
+impl Dimension {
+    ghost use Rattle.std.specs.Prelude.{◌≡◌};
+    ghost use Rattle.ocpi_types.specs.Dimension.{is_in_range};
+
+    /// A volume of energy or time is at least 0.
+    pub fn is_in_range(&self) -> bool
+        ensures { result ≡ is_in_range self.now }
+    {
+        match self.kind {
+            DimensionKind::Other(_) => true,
+            _ => self.volume.get() >= 0,
+        }
+    }
+}
+
+#[tactic(auto, unfolding(crate::specs::Dimension::kind_at))]
+fn read_kind(alloc: Global, node: &Node) -> Result<DimensionKind, FieldFault>
+    ensures { Gives result (kind_at (view node.now)) }
+{
+    match fields::word(node, Name::Type)? {
+        "ENERGY" => Ok(DimensionKind::Energy),
+        "PARKING_TIME" => Ok(DimensionKind::ParkingTime),
+        "RESERVATION_TIME" => Ok(DimensionKind::ReservationTime),
+        "TIME" => Ok(DimensionKind::Time),
+        other => Ok(DimensionKind::Other(Text::new(alloc, other)?)),
+    }
+}
+
+impl FromNode for Dimension {
+    ghost use Rattle.ocpi_types.specs.Dimension.{dimension_at};
+
+    ghost at = { dimension_at };
+
+    #[tactic(auto, unfolding(crate::specs::Dimension::dimension_at))]
+    fn from_node(alloc: Global, node: &Node) -> Result<Dimension, FieldFault> {
+        let kind = read_kind(alloc, node)?;
+        let volume = fields::number(node, Name::Volume)?;
+        Ok(Dimension { kind, volume })
+    }
+}
+
+impl TryCopy for DimensionKind {
+    fn copy(&self, alloc: Global) -> Result<DimensionKind, AllocError> {
+        match self {
+            DimensionKind::Energy => Ok(DimensionKind::Energy),
+            DimensionKind::ParkingTime => Ok(DimensionKind::ParkingTime),
+            DimensionKind::ReservationTime => Ok(DimensionKind::ReservationTime),
+            DimensionKind::Time => Ok(DimensionKind::Time),
+            DimensionKind::Other(text) => Ok(DimensionKind::Other(text.copy(alloc)?)),
+        }
+    }
+}
+
+impl TryCopy for Dimension {
+    fn copy(&self, alloc: Global) -> Result<Dimension, AllocError> {
+        let kind = self.kind.copy(alloc)?;
+        Ok(Dimension {
+            kind,
+            volume: self.volume,
+        })
+    }
+}

@@ -1,0 +1,73 @@
+ghost use Rattle.std.specs.Prelude.{◌≡◌, ◌≤◌, length, map, IfOk};
+ghost use Rattle.serde_json.specs.View.{view};
+ghost use Rattle.ocpi_json.specs.Faults.{Gives};
+ghost use Rattle.ocpi_json.specs.Members.{each};
+
+use super::copying::TryCopy;
+use ocpi_json::Node;
+use ocpi_json::fields::FieldFault;
+use ocpi_json::objects::{FromNode, read_each};
+use ocpi_json::sequence::Sequence;
+use std::alloc::{AllocError, Global};
+use std::marker::Model;
+
+/// A list of at most `MOST` items.
+#[derive(Drop)]
+pub struct UpTo<T, const MOST: usize> {
+    items: Sequence<T>,
+}
+
+impl<T, const MOST: usize> Model for UpTo<T, MOST> {
+    ghost use Rattle.std.specs.Prelude.{◌≤◌, List, length};
+
+    ghost Value = { List T };
+
+    ghost view = { λ list. list.items };
+
+    ghost invariant = { λ list. length list.items ≤ MOST };
+
+    ghost inverse = { λ items. record { items = items } };
+}
+
+impl<T: Drop, const MOST: usize> UpTo<T, MOST> {
+    ghost use Rattle.std.specs.Prelude.{◌≡◌, ◌≤◌, ◌↔◌, length, IsSome, IfSome};
+
+    /// These items, if they are at most `MOST`.
+    pub fn new(items: Sequence<T>) -> Option<UpTo<T, MOST>>
+        ensures most { IsSome result ↔ (length items ≤ MOST) }
+        ensures value { IfSome result (λ list. list ≡ items) }
+    {
+        if items.as_slice().len() <= MOST {
+            Some(UpTo { items })
+        } else {
+            None
+        }
+    }
+
+    /// The items, without taking memory.
+    pub fn as_slice(&self) -> &[T]
+        ensures value { result.now ≡ self.now }
+        ensures most { length result.now ≤ MOST }
+    {
+        self.items.as_slice()
+    }
+}
+
+/// The values that stand in at most `MOST` nodes, in order.
+pub fn read_up_to<T: FromNode + Drop, const MOST: usize>(
+    alloc: Global,
+    nodes: &[Node],
+) -> Result<UpTo<T, MOST>, FieldFault>
+    requires { length nodes.now ≤ MOST }
+    ensures { Gives result (each T.at (map view nodes.now)) }
+{
+    let values = read_each(alloc, nodes)?;
+    Ok(UpTo::new(values).unwrap())
+}
+
+impl<T: TryCopy + Drop, const MOST: usize> TryCopy for UpTo<T, MOST> {
+    fn copy(&self, alloc: Global) -> Result<UpTo<T, MOST>, AllocError> {
+        let items = self.items.copy(alloc)?;
+        Ok(UpTo { items })
+    }
+}
