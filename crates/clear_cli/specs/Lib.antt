@@ -1,2 +1,4 @@
+pub mod Commands
 pub mod Fault
 pub mod Script
+pub mod Words

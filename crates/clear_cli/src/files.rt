@@ -1,6 +1,6 @@
 //! Configuration files.
 
-ghost use Rattle.std.specs.Prelude.{◌≡◌, ◌+◌, take, IfOk, IfSome};
+ghost use Rattle.std.specs.Prelude.{◌≡◌, ◌≢◌, ◌+◌, take, IfErr, IfOk, IfSome};
 
 use crate::fault::Fault;
 use std::alloc::Global;
@@ -10,7 +10,9 @@ use std::io::{Error, ErrorKind, Read};
 /// How many bytes a configuration has at most.
 pub const MOST_CONFIG_BYTES: usize = 1_048_576;
 
-fn fault_of<'a>(error: &Error, path: &'a str) -> Fault<'a> {
+fn fault_of<'a>(error: &Error, path: &'a str) -> Fault<'a>
+    ensures { result ≢ Fault.NoMemory → result ≡ Fault.CannotRead path.entry }
+{
     match error.kind() {
         ErrorKind::OutOfMemory => Fault::NoMemory,
         _ => Fault::CannotRead { path },
@@ -23,8 +25,9 @@ pub fn read_start<'a, R: Read + Drop>(
     reader: R,
     path: &'a str,
 ) -> Result<Vec<u8>, Fault<'a>>
-    ensures { IfOk result (λ file. IfSome (R.remaining reader) (λ bytes.
+    ensures start { IfOk result (λ file. IfSome (R.remaining reader) (λ bytes.
         file.items ≡ take (MOST_CONFIG_BYTES + 1) bytes)) }
+    ensures fault { IfErr result (λ fault. fault ≢ Fault.NoMemory → fault ≡ Fault.CannotRead path.entry) }
 {
     let mut file = Vec::new(alloc);
     match reader
@@ -37,7 +40,9 @@ pub fn read_start<'a, R: Read + Drop>(
 }
 
 /// The start of the configuration file of this path.
-pub fn read_file<'a>(rt: &HostRuntime, alloc: Global, path: &'a str) -> Result<Vec<u8>, Fault<'a>> {
+pub fn read_file<'a>(rt: &HostRuntime, alloc: Global, path: &'a str) -> Result<Vec<u8>, Fault<'a>>
+    ensures { IfErr result (λ fault. fault ≢ Fault.NoMemory → fault ≡ Fault.CannotRead path.entry) }
+{
     match fs::open(rt, path) {
         Ok(file) => read_start(alloc, file, path),
         Err(error) => Err(fault_of(&error, path)),

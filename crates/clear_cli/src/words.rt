@@ -1,6 +1,11 @@
 //! What a command line asks for.
 
-ghost use Rattle.std.specs.Prelude.{◌≡◌, ◌≢◌, IfErr};
+ghost use Rattle.std.specs.Prelude.{◌≡◌, ◌≢◌, ◌↔◌, IfErr, IfOk, IfSome, MatchResult, Some, false, map};
+ghost use Rattle.std.specs.String.{string_bytes};
+ghost use Rattle.clap.specs.Words.{app_of, kind_of};
+ghost use Rattle.clap.specs.declared.builder.command.Command.TheViews.{out-Command as fields_of};
+ghost use Rattle.clear_cli.specs.Commands.{clear_command, script_command};
+ghost use Rattle.clear_cli.specs.Words.{asked_path, path_of};
 
 use crate::fault::Fault;
 use clap::error::ErrorKind;
@@ -14,14 +19,19 @@ pub enum Job<'a> {
     Script { config: &'a str },
 }
 
-fn script<'a>(alloc: Global) -> Result<Command<'a>, AllocError> {
+fn script<'a>(alloc: Global) -> Result<Command<'a>, AllocError>
+    ensures reads { IfOk result (λ command. app_of command ≡ script_command) }
+    ensures local { IfOk result (λ command. (fields_of command).has_globals ≡ false) }
+{
     let config = Arg::new(alloc, "config")
         .required(true)
         .action(ArgAction::Set);
     Command::new(alloc, "script").arg(config)
 }
 
-fn clear<'a>(alloc: Global) -> Result<Command<'a>, AllocError> {
+fn clear<'a>(alloc: Global) -> Result<Command<'a>, AllocError>
+    ensures { IfOk result (λ command. app_of command ≡ clear_command) }
+{
     Command::new(alloc, "clear")
         .subcommand_required(true)
         .subcommand(script(alloc)?)
@@ -29,7 +39,8 @@ fn clear<'a>(alloc: Global) -> Result<Command<'a>, AllocError> {
 
 // Every refused parse is the usage fault, but for want of memory.
 fn fault_of(error: &Error) -> Fault<'static>
-    ensures { result ≢ Fault.NoMemory → result ≡ Fault.Usage }
+    ensures usage { result ≢ Fault.NoMemory → result ≡ Fault.Usage }
+    ensures memory { result ≡ Fault.NoMemory ↔ kind_of error.now ≡ ErrorKind.OutOfMemory }
 {
     match error.kind() {
         ErrorKind::OutOfMemory => Fault::NoMemory,
@@ -40,6 +51,9 @@ fn fault_of(error: &Error) -> Fault<'static>
 /// What the words ask for, the program's name first. Another form, help and version are the usage fault.
 pub fn read_words<'a>(alloc: Global, words: &'a [String]) -> Result<Job<'a>, Fault<'static>>
     ensures refused { IfErr result (λ fault. fault ≢ Fault.NoMemory → fault ≡ Fault.Usage) }
+    ensures asked { IfSome (asked_path (map string_bytes words.now))
+        (λ path. MatchResult result (λ job. path_of job ≡ path) (λ fault. fault ≡ Fault.NoMemory)) }
+    ensures given { IfOk result (λ job. asked_path (map string_bytes words.now) ≡ Some (path_of job)) }
 {
     let matches = match clear(alloc)?.try_get_matches_from(words) {
         Ok(matches) => matches,

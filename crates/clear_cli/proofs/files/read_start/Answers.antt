@@ -17,7 +17,7 @@ taken remaining inner reader limit n old items inner_is limit_is old_is h =
     let at_reader = subst (λ r. IfSome (remaining r) (λ bytes. items ≡ take limit bytes)) inner_is at_inner in
     subst (λ (m : ℕ). IfSome (remaining reader) (λ bytes. items ≡ take m bytes)) limit_is at_reader
 
-pub returns-in-Ok : goal.returns-in-Ok
-returns-in-Ok g c =
+pub returns-in-Ok-clause-start : goal.returns-in-Ok-clause-start
+returns-in-Ok-clause-start g c =
     taken g.R.Read.remaining c.take.result.inner c.args.reader c.take.result.limit 1048577 c.new-file.result.items c.read_to_end.new.buf.items
     c.take.ensures.inner c.take.ensures.limit c.new-file.ensures.items c.in-Ok.ensures.bytes
