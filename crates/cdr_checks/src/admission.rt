@@ -34,7 +34,7 @@ fn acting_party(ask: &Ask) -> &Party
     }
 }
 
-fn is_not_yours(config: &Config, platform: &CiText, ask: &Ask) -> bool
+fn is_not_yours(config: &Config, platform: &CiText<36>, ask: &Ask) -> bool
     ensures { result ≡ is_not_yours config.now platform.now ask.now }
 {
     !config.may_act_for(platform, acting_party(ask))
@@ -56,11 +56,11 @@ fn is_unsupported(ask: &Ask) -> bool
 {
     match ask {
         Ask::PutTariff(tariff) => !supported(tariff),
-        _ => false,
+        Ask::PutToken(_) | Ask::Authorize(_) | Ask::Release(_) | Ask::Exposure(_) => false,
     }
 }
 
-fn first_refusal(config: &Config, platform: &CiText, ask: &Ask) -> Option<Refusal>
+fn first_refusal(config: &Config, platform: &CiText<36>, ask: &Ask) -> Option<Refusal>
     ensures { result ≡ first_refusal config.now platform.now ask.now }
 {
     if names_unknown_party(config, ask) {

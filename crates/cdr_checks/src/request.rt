@@ -3,25 +3,25 @@ use ocpi_types::{Currency, Party, Tariff, Token, TokenKind, TryCopy};
 use std::alloc::{AllocError, Global};
 
 /// An operator asks to authorise a token of a provider.
-#[derive(Drop)]
+#[derive(Clone, Copy)]
 pub struct Authorize {
     pub operator: Party,
     pub provider: Party,
-    pub uid: CiText,
+    pub uid: CiText<36>,
     pub kind: TokenKind,
     pub currency: Currency,
 }
 
 /// An operator gives a hold back.
-#[derive(Drop)]
+#[derive(Clone, Copy)]
 pub struct Release {
     pub operator: Party,
     pub provider: Party,
-    pub reference: CiText,
+    pub reference: CiText<36>,
 }
 
 /// A provider asks what it holds and owes in a currency.
-#[derive(Drop)]
+#[derive(Clone, Copy)]
 pub struct ExposureOf {
     pub provider: Party,
     pub currency: Currency,
@@ -40,7 +40,7 @@ pub enum Ask {
 /// What a line says: a platform asks for something.
 #[derive(Drop)]
 pub struct Request {
-    pub platform: CiText,
+    pub platform: CiText<36>,
     pub ask: Ask,
 }
 
@@ -54,61 +54,25 @@ pub enum Command {
     Exposure(ExposureOf),
 }
 
-impl TryCopy for Authorize {
-    fn copy(&self, alloc: Global) -> Result<Authorize, AllocError> {
-        let operator = self.operator.copy(alloc)?;
-        let provider = self.provider.copy(alloc)?;
-        let uid = self.uid.copy(alloc)?;
-        Ok(Authorize {
-            operator,
-            provider,
-            uid,
-            kind: self.kind,
-            currency: self.currency,
-        })
-    }
-}
-
-impl TryCopy for Release {
-    fn copy(&self, alloc: Global) -> Result<Release, AllocError> {
-        let operator = self.operator.copy(alloc)?;
-        let provider = self.provider.copy(alloc)?;
-        let reference = self.reference.copy(alloc)?;
-        Ok(Release {
-            operator,
-            provider,
-            reference,
-        })
-    }
-}
-
-impl TryCopy for ExposureOf {
-    fn copy(&self, alloc: Global) -> Result<ExposureOf, AllocError> {
-        let provider = self.provider.copy(alloc)?;
-        Ok(ExposureOf {
-            provider,
-            currency: self.currency,
-        })
-    }
-}
-
 impl TryCopy for Ask {
     fn copy(&self, alloc: Global) -> Result<Ask, AllocError> {
         match self {
             Ask::PutTariff(tariff) => Ok(Ask::PutTariff(tariff.copy(alloc)?)),
-            Ask::PutToken(token) => Ok(Ask::PutToken(token.copy(alloc)?)),
-            Ask::Authorize(authorize) => Ok(Ask::Authorize(authorize.copy(alloc)?)),
-            Ask::Release(release) => Ok(Ask::Release(release.copy(alloc)?)),
-            Ask::Exposure(exposure) => Ok(Ask::Exposure(exposure.copy(alloc)?)),
+            Ask::PutToken(token) => Ok(Ask::PutToken(*token)),
+            Ask::Authorize(authorize) => Ok(Ask::Authorize(*authorize)),
+            Ask::Release(release) => Ok(Ask::Release(*release)),
+            Ask::Exposure(exposure) => Ok(Ask::Exposure(*exposure)),
         }
     }
 }
 
 impl TryCopy for Request {
     fn copy(&self, alloc: Global) -> Result<Request, AllocError> {
-        let platform = self.platform.copy(alloc)?;
         let ask = self.ask.copy(alloc)?;
-        Ok(Request { platform, ask })
+        Ok(Request {
+            platform: self.platform,
+            ask,
+        })
     }
 }
 
@@ -116,10 +80,10 @@ impl TryCopy for Command {
     fn copy(&self, alloc: Global) -> Result<Command, AllocError> {
         match self {
             Command::PutTariff(tariff) => Ok(Command::PutTariff(tariff.copy(alloc)?)),
-            Command::PutToken(token) => Ok(Command::PutToken(token.copy(alloc)?)),
-            Command::Authorize(authorize) => Ok(Command::Authorize(authorize.copy(alloc)?)),
-            Command::Release(release) => Ok(Command::Release(release.copy(alloc)?)),
-            Command::Exposure(exposure) => Ok(Command::Exposure(exposure.copy(alloc)?)),
+            Command::PutToken(token) => Ok(Command::PutToken(*token)),
+            Command::Authorize(authorize) => Ok(Command::Authorize(*authorize)),
+            Command::Release(release) => Ok(Command::Release(*release)),
+            Command::Exposure(exposure) => Ok(Command::Exposure(*exposure)),
         }
     }
 }

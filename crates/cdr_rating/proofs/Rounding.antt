@@ -1,5 +1,5 @@
 -- Rounding up to a step, rounding an amount, and splitting a volume.
-use Rattle.std.proofs.Common.{◌≡◌, ◌∙◌, ℕ, ◌+◌, ◌-◌, ◌*◌, ◌/◌, ◌%◌, ◌<◌, ◌≤◌, ◌⊎◌, inl, inr, List, [], ◌∷◌, ◌++◌, Bool, true, false, ◌||◌, Option, Some, None, refl, ap, sym, arith}
+use Rattle.std.proofs.Common.{◌≡◌, ◌∙◌, ℕ, ◌+◌, ◌-◌, ◌*◌, ◌/◌, ◌%◌, ◌<◌, ◌≤◌, ◌⊎◌, inl, inr, List, ◌∷◌, ◌++◌, Bool, true, false, ◌||◌, Option, Some, None, refl, ap, sym, arith}
 use Rattle.std.proofs.Math.Nat.{mod-lt, mod-eq_of_lt, mod_self, mul-add-mod_self_right, eq-zero-or-pos, mul-add, mod-add-div'}
 use Rattle.std.specs.Prelude.{nat_lt, sum_by, reverse, if◌then◌else◌}
 use Rattle.std.specs.Option.{option_or, option_map_or}
@@ -7,10 +7,9 @@ use Rattle.std.proofs.lemmas.Bool.Decides.{nat_tests}
 use Rattle.std.proofs.lemmas.List.{reverse-append}
 use Rattle.std.proofs.lemmas.List.Folds.{find-append}
 use Rattle.std.proofs.lemmas.List.Sums.{sum_by-append, sum_by-cons}
-use Rattle.exact_money.specs.Exact.{IsRoundedHalfUp}
 use Rattle.cdr_rating.specs.declared.tally.Priced.{Priced}
-use Rattle.cdr_rating.specs.Price.{up_to_step, step_cost, total, cost_of, rounded, last_above_zero}
-use Rattle.cdr_rating.specs.Law.{IsLeastUpTo, UpToStepIsLeast, RoundedIsHalfUp, SplitsAtNoCost, at}
+use Rattle.cdr_rating.specs.Price.{up_to_step, total_volume, cost_of, last_above_zero}
+use Rattle.cdr_rating.specs.Law.{UpToStepIsLeast, RoundedIsHalfUp, EnergySplitsAtNoCost, one_priced}
 
 -- ---- steps
 
@@ -91,16 +90,16 @@ last-between before between after =
     last-append before (between ++ after) ∙ ap (λ last. option_or last (last_above_zero before)) (last-append between after)
 
 step_cost-split : (before after : List Priced) (price step_size first second volume : ℕ) →
-    cost_by volume (last_above_zero (before ++ (at price step_size first ++ (at price step_size second ++ after))))
-    ≡ cost_by volume (last_above_zero (before ++ (at price step_size (first + second) ++ after)))
+    cost_by volume (last_above_zero (before ++ (one_priced price step_size first ++ (one_priced price step_size second ++ after))))
+    ≡ cost_by volume (last_above_zero (before ++ (one_priced price step_size (first + second) ++ after)))
 step_cost-split before after price step_size first second volume =
-    ap (cost_by volume) (last-between before (at price step_size first ++ at price step_size second) after)
+    ap (cost_by volume) (last-between before (one_priced price step_size first ++ one_priced price step_size second) after)
     ∙ by_tests volume price step_size first second (last_above_zero after) (last_above_zero before) (nat_lt 0 second) (nat_lt 0 first)
     ∙ ap (λ above. cost_by volume (option_or (option_or (last_above_zero after) (if above then Some (record { price = price; step_size = step_size; volume = first + second }) else None)) (last_above_zero before))) (sym (above_zero first second))
-    ∙ ap (cost_by volume) (sym (last-between before (at price step_size (first + second)) after))
+    ∙ ap (cost_by volume) (sym (last-between before (one_priced price step_size (first + second)) after))
 
-pub splits_at_no_cost : SplitsAtNoCost
-splits_at_no_cost before after price step_size first second =
+pub energy_splits : EnergySplitsAtNoCost
+energy_splits before after price step_size first second =
     let a : Priced = record { price = price; step_size = step_size; volume = first } in
     let b : Priced = record { price = price; step_size = step_size; volume = second } in
     let c : Priced = record { price = price; step_size = step_size; volume = first + second } in
@@ -108,6 +107,6 @@ splits_at_no_cost before after price step_size first second =
     let whole = before ++ c ∷ after in
     let volume = sum_by-split (λ p. p.volume) before after a b c refl in
     let cost = sum_by-split (λ p. 9 * p.price * p.volume) before after a b c (sym (mul-add (9 * price) first second)) in
-    ap (λ n. n + cost_by (total split) (last_above_zero split)) cost
+    ap (λ n. n + cost_by (total_volume split) (last_above_zero split)) cost
     ∙ ap (λ n. cost_of 9 whole + cost_by n (last_above_zero split)) volume
-    ∙ ap (λ n. cost_of 9 whole + n) (step_cost-split before after price step_size first second (total whole))
+    ∙ ap (λ n. cost_of 9 whole + n) (step_cost-split before after price step_size first second (total_volume whole))

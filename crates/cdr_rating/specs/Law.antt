@@ -1,4 +1,4 @@
--- Laws of rounding and of splitting a volume.
+-- Laws of rounding and of splitting a volume of energy.
 use Rattle.std.specs.Prelude.{◌≡◌, ◌↔◌, ℕ, ◌+◌, ◌%◌, ◌<◌, ◌≤◌, List, [], ◌∷◌, ◌++◌}
 use Rattle.exact_money.specs.Exact.{IsRoundedHalfUp}
 use Rattle.cdr_rating.specs.declared.tally.Priced.{Priced}
@@ -16,12 +16,13 @@ UpToStepIsLeast = (step volume : ℕ) → 0 < step → IsLeastUpTo step volume (
 abbrev pub RoundedIsHalfUp : Type 0
 RoundedIsHalfUp = (units amount : ℕ) → (rounded units ≡ amount) ↔ IsRoundedHalfUp units amount
 
-abbrev pub at : ℕ → ℕ → ℕ → List Priced
-at price step_size volume = record { price = price; step_size = step_size; volume = volume } ∷ []
+abbrev pub one_priced : ℕ → ℕ → ℕ → List Priced
+one_priced price step_size volume = record { price = price; step_size = step_size; volume = volume } ∷ []
 
--- it costs the same where a volume is split over two periods, one behind the other, with the same price and step
-abbrev pub SplitsAtNoCost : Type 0
-SplitsAtNoCost =
+-- energy costs the same, steps included, where a priced volume is split over two, one behind the other, of its price and
+-- step size; nothing is said of time
+abbrev pub EnergySplitsAtNoCost : Type 0
+EnergySplitsAtNoCost =
     (before after : List Priced) (price step_size first second : ℕ)
-    → energy_cost (before ++ (at price step_size first ++ (at price step_size second ++ after)))
-    ≡ energy_cost (before ++ (at price step_size (first + second) ++ after))
+    → energy_cost (before ++ (one_priced price step_size first ++ (one_priced price step_size second ++ after)))
+    ≡ energy_cost (before ++ (one_priced price step_size (first + second) ++ after))

@@ -1,22 +1,28 @@
 -- What the charging periods of a session count (OCPI 2.2.1, CDR object, ChargingPeriod object and CdrDimension object).
-use Rattle.std.specs.Prelude.{ℕ, ◌+◌, ◌*◌, ◌/◌, Bool, true, false, List, [], ◌∷◌, ◌++◌, filter, sum_by, unsigned_abs}
+use Rattle.std.specs.Prelude.{ℕ, ◌+◌, ◌*◌, ◌/◌, Bool, false, List, [], ◌∷◌, filter, sum_by, Option, Some, None, unsigned_abs}
+use Rattle.std.specs.Option.{option_map_or}
+use Rattle.ocpi_types.specs.Component.{same_component_kind}
 use Rattle.ocpi_types.specs.declared.charging_period.ChargingPeriod.{ChargingPeriod}
 use Rattle.ocpi_types.specs.declared.component.ComponentKind.{ComponentKind}
 use Rattle.ocpi_types.specs.declared.component.ComponentKind.TheVariants as component
-use Rattle.ocpi_types.specs.declared.dimension.Dimension.{Dimension}
 use Rattle.ocpi_types.specs.declared.dimension.DimensionKind.{DimensionKind}
 use Rattle.ocpi_types.specs.declared.dimension.DimensionKind.TheVariants as dimension
 
--- the dimension counts what components of the kind charge for
-abbrev pub counts : ComponentKind → DimensionKind → Bool
-counts component.Energy dimension.Energy = true
-counts component.ParkingTime dimension.ParkingTime = true
-counts component.Time dimension.Time = true
-counts kind other = false
+-- the kind of component that charges for what a dimension counts
+abbrev pub charging_kind : DimensionKind → Option ComponentKind
+charging_kind dimension.Energy = Some component.Energy
+charging_kind dimension.ParkingTime = Some component.ParkingTime
+charging_kind dimension.ReservationTime = None
+charging_kind dimension.Time = Some component.Time
+charging_kind (dimension.Other text) = None
+
+-- components of the kind charge for the dimension
+abbrev pub charges_for : ComponentKind → DimensionKind → Bool
+charges_for kind counted = option_map_or (λ charging. same_component_kind charging kind) (charging_kind counted) false
 
 -- the volumes of one kind in a period, added: millionths of a kWh or of an hour
 abbrev pub millionths_in : ComponentKind → ChargingPeriod → ℕ
-millionths_in kind period = sum_by (λ d. unsigned_abs d.volume) (filter (λ d. counts kind d.kind) period.dimensions)
+millionths_in kind period = sum_by (λ d. unsigned_abs d.volume) (filter (λ d. charges_for kind d.kind) period.dimensions)
 
 -- millionths of an hour in seconds, half a second and more rounded up
 abbrev pub seconds_of_hours : ℕ → ℕ
@@ -29,7 +35,7 @@ volume_in component.ParkingTime period = seconds_of_hours (millionths_in compone
 volume_in component.Time period = seconds_of_hours (millionths_in component.Time period)
 volume_in component.Flat period = 0
 
--- each period with those before it
-abbrev pub with_earlier : List ChargingPeriod → List ChargingPeriod → List (List ChargingPeriod × ChargingPeriod)
-with_earlier earlier [] = []
-with_earlier earlier (period ∷ later) = (earlier, period) ∷ with_earlier (earlier ++ period ∷ []) later
+-- each period with the energy before it
+abbrev pub with_energy_before : ℕ → List ChargingPeriod → List (ℕ × ChargingPeriod)
+with_energy_before energy [] = []
+with_energy_before energy (period ∷ later) = (energy, period) ∷ with_energy_before (energy + volume_in component.Energy period) later

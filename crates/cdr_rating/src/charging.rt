@@ -1,10 +1,9 @@
 ghost use Rattle.std.specs.Prelude.{◌≡◌, is_none, IfSome};
 ghost use Rattle.tariff_elements.specs.Active.{active};
-ghost use Rattle.cdr_rating.specs.Charging.{lacks_its_tariff, moment_after};
-ghost use Rattle.cdr_rating.specs.Pricing.{lacks_tariff};
-ghost use Rattle.cdr_rating.specs.Room.{HasRoom, IsOneMore};
-ghost use Rattle.cdr_rating.specs.Session.{AreOfSession, IsCharged};
-ghost use Rattle.cdr_rating.specs.Tally.{added};
+ghost use Rattle.cdr_rating.specs.Pricing.{lacks_its_tariff, lacks_tariff, moment_after};
+ghost use Rattle.cdr_rating.specs.Inner.Room.{HasRoom, IsOneMore};
+ghost use Rattle.cdr_rating.specs.Inner.Session.{AreOfSession, IsCharged};
+ghost use Rattle.cdr_rating.specs.Inner.Tally.{added};
 ghost use Rattle.cdr_rating.specs.Volumes.{volume_in};
 
 use super::measure::Measure;

@@ -1,4 +1,4 @@
-ghost use Rattle.cdr_rating.specs.Law.{RoundedIsHalfUp, SplitsAtNoCost, UpToStepIsLeast};
+ghost use Rattle.cdr_rating.specs.Law.{EnergySplitsAtNoCost, RoundedIsHalfUp, UpToStepIsLeast};
 
 /// A law: a volume is rounded up to a step by the least that makes it a multiple of the step.
 pub fn up_to_step_is_least()
@@ -10,8 +10,10 @@ pub fn rounded_is_half_up()
     ensures { RoundedIsHalfUp }
 {}
 
-/// A law: a session costs the same where the energy of a period is split over two, one behind the
-/// other, in which the same component is active.
-pub fn splits_at_no_cost()
-    ensures { SplitsAtNoCost }
+/// A law of energy at one price and step size: the energy of a session costs the same, what rounding it up to the step
+/// costs included, where one of its priced volumes is split over two, one behind the other, of that price and step size.
+///
+/// It says nothing of time: seconds are rounded in each period, and of the two kinds of time one alone is rounded up.
+pub fn energy_splits_at_no_cost()
+    ensures { EnergySplitsAtNoCost }
 {}

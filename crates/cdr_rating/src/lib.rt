@@ -9,7 +9,7 @@ mod pricing;
 mod tally;
 mod volumes;
 
-pub use laws::{rounded_is_half_up, splits_at_no_cost, up_to_step_is_least};
+pub use laws::{energy_splits_at_no_cost, rounded_is_half_up, up_to_step_is_least};
 pub use ocpi_types::Zone;
 pub use price::rate;
 pub use tally::Priced;

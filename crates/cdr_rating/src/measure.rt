@@ -1,6 +1,6 @@
 ghost use Rattle.std.specs.Prelude.{◌≡◌, ◌*◌, ◌^◌, ◌≤◌, ℤ, pos};
 ghost use Rattle.cdr_rating.specs.Price.{up_to_step};
-ghost use Rattle.cdr_rating.specs.Tally.{factor_of, units_of, most_of};
+ghost use Rattle.cdr_rating.specs.Inner.Tally.{factor_of, units_of, most_of};
 
 use exact_money::{Exact, Millionths};
 use ocpi_types::StepSize;
@@ -42,7 +42,7 @@ pub(crate) fn up_to_step(step: u128, volume: u128) -> u128
 
 impl Measure {
     ghost use Rattle.std.specs.Prelude.{◌≡◌, ◌*◌, ◌^◌, ◌≤◌};
-    ghost use Rattle.cdr_rating.specs.Tally.{factor_of, units_of, most_of};
+    ghost use Rattle.cdr_rating.specs.Inner.Tally.{factor_of, units_of, most_of};
 
     /// What a volume costs at a price.
     pub(crate) fn cost(self, price: Quantity, volume: u128) -> Exact

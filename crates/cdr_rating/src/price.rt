@@ -1,10 +1,10 @@
-ghost use Rattle.std.specs.Prelude.{◌≡◌, ◌+◌, ◌*◌, ◌^◌, ◌≤◌, pos, nat_lt, if◌then◌else◌, is_none, IfSome, Ok, Err};
+ghost use Rattle.std.specs.Prelude.{◌≡◌, ◌+◌, ◌*◌, ◌^◌, ◌≤◌, nat_lt, if◌then◌else◌, false, is_none, IfSome};
 ghost use Rattle.std.specs.Option.{option_copied, option_map_or};
+ghost use Rattle.ocpi_types.specs.Cdr.{is_credit};
 ghost use Rattle.tariff_elements.specs.Active.{active};
-ghost use Rattle.cdr_rating.specs.Charging.{moment_after};
-ghost use Rattle.cdr_rating.specs.Price.{bounded, first_tariff, flat_cost, lowered, price, raised, rounded, sum_of};
-ghost use Rattle.cdr_rating.specs.Pricing.{lacks_tariff};
-ghost use Rattle.cdr_rating.specs.Tally.{step_cost_of};
+ghost use Rattle.cdr_rating.specs.Price.{bounded, first_tariff, flat_cost, lowered, price, raised, rounded, sum_of, within_limit};
+ghost use Rattle.cdr_rating.specs.Pricing.{lacks_tariff, moment_after};
+ghost use Rattle.cdr_rating.specs.Inner.Tally.{step_cost_of};
 
 use super::charging::{moment_after, tallies_of};
 use super::measure::flat;
@@ -125,8 +125,8 @@ fn bounded(tariff: Option<&Tariff>, units: Exact) -> Exact
     }
 }
 
-fn amount_of(units: Exact) -> Result<Amount, Refusal>
-    ensures { result ≡ (if nat_lt 1_000_000_000_000 (rounded units) then Err Refusal.AmountTooLarge else Ok (pos (rounded units))) }
+fn rounded(units: Exact) -> Result<Amount, Refusal>
+    ensures { result ≡ within_limit (rounded units) }
 {
     match units.round_half_up() {
         Some(amount) => Ok(amount),
@@ -134,16 +134,18 @@ fn amount_of(units: Exact) -> Result<Amount, Refusal>
     }
 }
 
-/// What a session costs by its tariffs, in its operator's zone (OCPI 2.2.1, CDR object, `total_cost`).
+/// What a session costs by its tariffs, in its operator's zone (OCPI 2.2.1, CDR object, `total_cost`). A Credit CDR is
+/// not rated: its volumes may be below 0.
 ///
 /// `TariffNotGiven` is the answer where a charging period names a tariff that the CDR does not have, and
 /// `AmountTooLarge` above 10^12 ten-thousandths.
 #[tactic(auto, unfolding(crate::specs::Price::price))]
 pub fn rate(cdr: &Cdr, zone: &Zone) -> Result<Amount, Refusal>
+    requires { is_credit cdr.now ≡ false }
     ensures { result ≡ price cdr.now zone.now }
 {
     match sum_of(cdr, zone) {
-        Some(units) => amount_of(bounded(first_tariff(cdr), units)),
+        Some(units) => rounded(bounded(first_tariff(cdr), units)),
         None => Err(Refusal::TariffNotGiven),
     }
 }

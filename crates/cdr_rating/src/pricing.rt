@@ -20,7 +20,7 @@ pub(crate) fn seconds_between(start: Timestamp, instant: Timestamp) -> u64
     }
 }
 
-fn tariff_among<'a>(tariffs: &'a [Tariff], id: &CiText) -> Option<&'a Tariff>
+fn tariff_among<'a>(tariffs: &'a [Tariff], id: &CiText<36>) -> Option<&'a Tariff>
     ensures { option_copied result ≡ find (λ tariff. same_folded tariff.id id.now) tariffs.now }
 {
     tariffs.iter().find(|tariff| tariff.id == *id)

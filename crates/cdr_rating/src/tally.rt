@@ -41,7 +41,7 @@ impl Priced {
 impl Tally {
     ghost use Rattle.std.specs.Prelude.{◌≡◌, ◌+◌, ◌*◌, ◌^◌, ◌≤◌, []};
     ghost use Rattle.std.specs.Option.{option_copied};
-    ghost use Rattle.cdr_rating.specs.Tally.{tally_of, most_of, with_one, added, step_cost_of};
+    ghost use Rattle.cdr_rating.specs.Inner.Tally.{tally_of, most_of, with_one, added, step_cost_of};
 
     /// The tally of no volume.
     pub(crate) fn new(measure: Measure) -> Tally

@@ -1,16 +1,26 @@
 ghost use Rattle.std.specs.Prelude.{◌≡◌, ◌*◌, ◌^◌, ◌≤◌, ℤ, unsigned_abs};
-ghost use Rattle.cdr_rating.specs.Volumes.{counts, millionths_in, seconds_of_hours, volume_in};
+ghost use Rattle.cdr_rating.specs.Volumes.{charges_for, charging_kind, millionths_in, seconds_of_hours, volume_in};
 
 use ocpi_types::{ChargingPeriod, ComponentKind, Dimension, DimensionKind};
 
-fn counts(kind: ComponentKind, dimension: &DimensionKind) -> bool
-    ensures { result ≡ counts kind dimension.now }
+// The kind of component that charges for what a dimension counts.
+fn charging_kind(counted: &DimensionKind) -> Option<ComponentKind>
+    ensures { result ≡ charging_kind counted.now }
 {
-    match (kind, dimension) {
-        (ComponentKind::Energy, DimensionKind::Energy) => true,
-        (ComponentKind::ParkingTime, DimensionKind::ParkingTime) => true,
-        (ComponentKind::Time, DimensionKind::Time) => true,
-        _ => false,
+    match counted {
+        DimensionKind::Energy => Some(ComponentKind::Energy),
+        DimensionKind::ParkingTime => Some(ComponentKind::ParkingTime),
+        DimensionKind::Time => Some(ComponentKind::Time),
+        DimensionKind::ReservationTime | DimensionKind::Other(_) => None,
+    }
+}
+
+fn charges_for(kind: ComponentKind, counted: &DimensionKind) -> bool
+    ensures { result ≡ charges_for kind counted.now }
+{
+    match charging_kind(counted) {
+        Some(charging) => charging.is(kind),
+        None => false,
     }
 }
 
@@ -28,7 +38,7 @@ fn millionths_in(kind: ComponentKind, period: &ChargingPeriod) -> u128
     let dimensions = period.dimensions.as_slice();
     let mut total = 0;
     for dimension in dimensions {
-        if counts(kind, &dimension.kind) {
+        if charges_for(kind, &dimension.kind) {
             total += size_of(dimension);
         }
     }

@@ -13,7 +13,7 @@ use Rattle.clap.specs.declared.error.kind.ErrorKind.TheVariants.{OutOfMemory}
 use Rattle.clap.specs.declared.parser.matches.ArgMatches.{ArgMatches}
 use Rattle.clap.specs.declared.parser.matches.ArgMatches.TheViews.{out-ArgMatches, out-SubCommand}
 use Rattle.clap.specs.declared.parser.matches.SubCommand.{SubCommand}
-use Rattle.clear_cli.specs.Commands.{clear_command}
+use Rattle.clear_cli.specs.Inner.Commands.{clear_command}
 use Rattle.clear_cli.specs.Words.{asked_path}
 use Rattle.clear_cli.proofs.ScriptWords.{AllUtf8}
 use Rattle.clear_cli.proofs.ScriptTurns.{has_fault}

@@ -7,7 +7,7 @@ use Rattle.clap.specs.Simple.{Shape, built, names_of}
 use Rattle.clap.specs.Words.{Text}
 use Rattle.clap.specs.Faults.{fault_of, flags_fault, turn_fault, walk_fault}
 use Rattle.clap.specs.Kinds.{Kinds, or_else}
-use Rattle.clear_cli.specs.Commands.{clear_command}
+use Rattle.clear_cli.specs.Inner.Commands.{clear_command}
 use Rattle.clear_cli.proofs.WordKinds.{IsDashes, IsLong, IsPlain, IsShort, WordKind, dashes, long, plain, short}
 use Rattle.clear_cli.proofs.ScriptTurns.{after_dashes, fault_first, has_fault, start}
 

@@ -9,7 +9,7 @@ use Rattle.clap.specs.Simple.{built, entered}
 use Rattle.clap.specs.Words.{Text, subcommand_of}
 use Rattle.clap.specs.Faults.{fault_of, is_simple_and_free, walk_fault}
 use Rattle.clap.specs.Kinds.{Kinds, or_else}
-use Rattle.clear_cli.specs.Commands.{clear_command}
+use Rattle.clear_cli.specs.Inner.Commands.{clear_command}
 use Rattle.clear_cli.specs.Words.{asked_path, path_among}
 use Rattle.clear_cli.proofs.WordKinds.{word_kind}
 use Rattle.clear_cli.proofs.ScriptTurns.{fault_first, has_fault, start}

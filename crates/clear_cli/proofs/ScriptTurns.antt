@@ -6,7 +6,7 @@ use Rattle.clap.specs.Simple.{Shape, built_leaf, inherited, marked_built, with_l
 use Rattle.clap.specs.Words.{Text}
 use Rattle.clap.specs.Faults.{flags_fault, turn_fault}
 use Rattle.clap.specs.Kinds.{Kinds, or_else}
-use Rattle.clear_cli.specs.Commands.{clear_command, script_command}
+use Rattle.clear_cli.specs.Inner.Commands.{clear_command, script_command}
 use Rattle.clear_cli.proofs.WordKinds.{IsDashes, IsLong, IsPlain, IsShort, WordKind, dashes, long, plain, short}
 
 -- `script`, as the program's command builds it

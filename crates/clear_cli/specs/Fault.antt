@@ -1,6 +1,6 @@
 -- The faults of the program, and the lines that tell them on standard error.
 use Rattle.std.specs.Prelude.{◌≡◌, ℕ, ◌<◌, ◌⊎◌, Bool, true, List, ◌++◌, length, take, codes, decimal}
-use Rattle.ocpi_json.specs.Name.{text_of}
+use Rattle.ocpi_json.specs.Name.{key_text}
 use Rattle.ocpi_types.specs.declared.config.reading.ConfigFault.{ConfigFault}
 use Rattle.ocpi_types.specs.declared.config.reading.ConfigFault.TheVariants.{Syntax, Member, NoMemory as ConfigNoMemory}
 use Rattle.request_lines.specs.declared.faults.ScriptFault.{ScriptFault}
@@ -11,7 +11,7 @@ use Rattle.clear_cli.specs.declared.fault.Fault.TheVariants.{Usage, ConfigSyntax
 abbrev pub fault_line : Fault → List ℕ
 fault_line Usage = codes "clear: usage\n"
 fault_line ConfigSyntax = codes "clear: config: syntax\n"
-fault_line (ConfigMember called) = codes "clear: config: " ++ (text_of called ++ codes "\n")
+fault_line (ConfigMember called) = codes "clear: config: " ++ (key_text called ++ codes "\n")
 fault_line (CannotRead path) = codes "clear: cannot read " ++ (path.now ++ codes "\n")
 fault_line CannotReadInput = codes "clear: cannot read -\n"
 fault_line CannotWrite = codes "clear: cannot write\n"
@@ -19,15 +19,15 @@ fault_line (LineTooLong line) = codes "clear: line " ++ (decimal line ++ codes "
 fault_line NoMemory = codes "clear: no memory\n"
 
 -- the exit status at a fault
-abbrev pub status_of : Fault → ℕ
-status_of Usage = 2
-status_of ConfigSyntax = 1
-status_of (ConfigMember called) = 1
-status_of (CannotRead path) = 1
-status_of CannotReadInput = 1
-status_of CannotWrite = 1
-status_of (LineTooLong line) = 1
-status_of NoMemory = 1
+abbrev pub exit_status : Fault → ℕ
+exit_status Usage = 2
+exit_status ConfigSyntax = 1
+exit_status (ConfigMember called) = 1
+exit_status (CannotRead path) = 1
+exit_status CannotReadInput = 1
+exit_status CannotWrite = 1
+exit_status (LineTooLong line) = 1
+exit_status NoMemory = 1
 
 -- the fault of bytes that are no configuration
 abbrev pub config_fault : ConfigFault → Fault

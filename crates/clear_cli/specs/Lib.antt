@@ -1,4 +1,4 @@
-pub mod Commands
 pub mod Fault
+pub mod Inner
 pub mod Script
 pub mod Words

@@ -1,11 +1,13 @@
 -- How the program answers a script.
-use Rattle.std.specs.Prelude.{◌≡◌, ◌≢◌, ℕ, ◌⊎◌, Bool, List, [], Result, Ok, Err}
+use Rattle.std.specs.Prelude.{◌≡◌, ◌≢◌, ℕ, ◌^◌, ◌≤◌, ◌⊎◌, Bool, true, false, List, [], Result, Ok, Err, All}
 use Rattle.ocpi_types.specs.declared.config.Config.{Config}
 use Rattle.ocpi_types.specs.declared.config.reading.ConfigFault.{ConfigFault}
 use Rattle.ocpi_types.specs.ConfigText.{config_of}
 use Rattle.plain_house.specs.declared.event.Event.{Event}
 use Rattle.request_lines.specs.declared.faults.ScriptFault.{ScriptFault}
-use Rattle.request_lines.specs.Script.{text, ScriptFails}
+use Rattle.request_lines.specs.Answering.{IsFault, is_read_fault, is_write_fault}
+use Rattle.request_lines.specs.Lines.{lines_of, IsShort}
+use Rattle.request_lines.specs.Script.{script_text, script_rule}
 use Rattle.clear_cli.specs.declared.fault.Fault.{Fault}
 use Rattle.clear_cli.specs.declared.fault.Fault.TheVariants.{NoMemory}
 use Rattle.clear_cli.specs.Fault.{config_fault, script_fault}
@@ -18,36 +20,71 @@ or_fault (Err cause) = Err (config_fault cause)
 abbrev pub reading : List ℕ → Result Config Fault
 reading bytes = or_fault (config_of bytes)
 
--- the configuration reads, the reader gave all its bytes, and their answers are written
-pub record IsDone {R W : Type 0} (gives : R → ℕ → List ℕ → R → Type 0) (at_end : R → Type 0) (takes : W → List ℕ → W → Type 0) (file : List ℕ) (reader reader' : R) (writer writer' : W) : Type 0 where
-  pub config : Config
+-- A reader and a writer, before a script and after it, and what they tell of themselves. `gives before calls bytes
+-- after`: so many calls gave these bytes. `takes before bytes after`: calls took these bytes.
+pub record Streams (R W : Type 0) : Type 1 where
+  pub gives : R → ℕ → List ℕ → R → Type 0
+  pub at_end : R → Type 0
+  pub reader_failed : R → Bool
+  pub takes : W → List ℕ → W → Type 0
+  pub writer_failed : W → Bool
+  pub reader : R
+  pub reader' : R
+  pub writer : W
+  pub writer' : W
+
+-- the reader gave all its bytes, and their answers are written
+pub record IsAnswered {R W : Type 0} (streams : Streams R W) (config : Config) : Type 0 where
   pub calls : ℕ
   pub bytes : List ℕ
-  pub reads : reading file ≡ Ok config
-  pub gave : gives reader calls bytes reader'
-  pub ended : at_end reader'
-  pub took : takes writer (text config [] bytes) writer'
+  pub few : calls ≤ 2 ^ 40
+  pub gave : streams.gives streams.reader calls bytes streams.reader'
+  pub ended : streams.at_end streams.reader'
+  pub took : streams.takes streams.writer (script_text config [] bytes) streams.writer'
+  pub each_short : All IsShort (lines_of bytes)
+  pub reader_kept : streams.reader_failed streams.reader' ≡ streams.reader_failed streams.reader
+  pub writer_kept : streams.writer_failed streams.writer' ≡ streams.writer_failed streams.writer
 
--- the configuration reads, and its script stopped for this cause
-pub record IsStopped {R W : Type 0} (gives : R → ℕ → List ℕ → R → Type 0) (failed : R → Bool) (takes : W → List ℕ → W → Type 0) (file : List ℕ) (reader reader' : R) (writer writer' : W) (cause : ScriptFault) : Type 0 where
-  pub config : Config
+-- the script stopped for this cause
+pub record IsStopped {R W : Type 0} (streams : Streams R W) (config : Config) (cause : ScriptFault) : Type 0 where
   pub calls : ℕ
   pub bytes : List ℕ
   pub written : List ℕ
   pub left : List Event
-  pub reads : reading file ≡ Ok config
-  pub gave : gives reader calls bytes reader'
-  pub took : takes writer written writer'
-  pub fails : ScriptFails config [] calls bytes (failed reader') written left cause
+  pub few : calls ≤ 2 ^ 40
+  pub gave : streams.gives streams.reader calls bytes streams.reader'
+  pub took : streams.takes streams.writer written streams.writer'
+  pub fails : IsFault (script_rule config)
+      (record { calls = calls; bytes = bytes; has_failed = streams.reader_failed streams.reader'; at_end = streams.at_end streams.reader' })
+      (record { start = []; written = written; now = left }) cause
+  pub reader_kept : is_read_fault cause ≡ false → streams.reader_failed streams.reader' ≡ streams.reader_failed streams.reader
+  pub writer_failed_is : is_write_fault cause ≡ true → streams.writer_failed streams.writer' ≡ true
+  pub writer_kept : is_write_fault cause ≡ false → streams.writer_failed streams.writer' ≡ streams.writer_failed streams.writer
 
--- nothing is read or written, since the configuration does not read or there is no memory
-pub record IsRefused {R W : Type 0} (file : List ℕ) (reader reader' : R) (writer writer' : W) (fault : Fault) : Type 0 where
-  pub reader_is : reader' ≡ reader
-  pub writer_is : writer' ≡ writer
+-- nothing is read or written
+pub record IsUntouched {R W : Type 0} (streams : Streams R W) : Type 0 where
+  pub reader_is : streams.reader' ≡ streams.reader
+  pub writer_is : streams.writer' ≡ streams.writer
+
+-- the configuration reads, and all lines are answered under it
+pub record IsDone {R W : Type 0} (streams : Streams R W) (file : List ℕ) : Type 0 where
+  pub config : Config
+  pub reads : reading file ≡ Ok config
+  pub answered : IsAnswered streams config
+
+-- nothing is done, since the configuration does not read or there is no memory
+pub record IsRefused {R W : Type 0} (streams : Streams R W) (file : List ℕ) (fault : Fault) : Type 0 where
+  pub untouched : IsUntouched streams
   pub reads : fault ≢ NoMemory → reading file ≡ Err fault
 
+-- the configuration reads, and its script stopped for a cause that is this fault
+pub record IsCutShort {R W : Type 0} (streams : Streams R W) (file : List ℕ) (fault : Fault) : Type 0 where
+  pub config : Config
+  pub cause : ScriptFault
+  pub reads : reading file ≡ Ok config
+  pub fault_is : fault ≡ script_fault cause
+  pub stopped : IsStopped streams config cause
+
 -- the script ended with this fault
-abbrev pub Fails : {R W : Type 0} → (R → ℕ → List ℕ → R → Type 0) → (R → Bool) → (W → List ℕ → W → Type 0) → List ℕ → R → R → W → W → Fault → Type 0
-Fails gives failed takes file reader reader' writer writer' fault =
-    IsRefused file reader reader' writer writer' fault
-    ⊎ ((cause : ScriptFault) × (fault ≡ script_fault cause) × IsStopped gives failed takes file reader reader' writer writer' cause)
+abbrev pub Fails : {R W : Type 0} → Streams R W → List ℕ → Fault → Type 0
+Fails streams file fault = IsRefused streams file fault ⊎ IsCutShort streams file fault

@@ -1,7 +1,7 @@
 //! What ends the program early, and the line that tells it.
 
 ghost use Rattle.std.specs.Prelude.{◌≡◌, ◌++◌};
-ghost use Rattle.clear_cli.specs.Fault.{IsTold, config_fault, fault_line, script_fault, status_of};
+ghost use Rattle.clear_cli.specs.Fault.{IsTold, config_fault, exit_status, fault_line, script_fault};
 ghost use Rattle.clear_cli.specs.declared.fault.Fault.TheVariants.{NoMemory};
 
 use itoa::Buffer;
@@ -9,43 +9,34 @@ use ocpi_json::name::Name;
 use ocpi_types::ConfigFault;
 use request_lines::{ScriptFault, Sink, write_all};
 use std::alloc::AllocError;
-use thiserror::Error;
 
 /// What ends the program early.
-#[derive(Debug, Clone, Copy, PartialEq, Eq, Error)]
+#[derive(Clone, Copy, Debug, PartialEq, Eq)]
 pub enum Fault<'a> {
     /// The command line has another form.
-    #[error("clear: usage")]
     Usage,
 
-    #[error("clear: config: syntax")]
     ConfigSyntax,
 
     /// The first member of the configuration that is missing, of a wrong kind or out of bounds.
-    #[error("clear: config: {}", .name.as_str())]
     ConfigMember { name: Name },
 
-    #[error("clear: cannot read {path}")]
     CannotRead { path: &'a str },
 
-    #[error("clear: cannot read -")]
     CannotReadInput,
 
-    #[error("clear: cannot write")]
     CannotWrite,
 
     /// The input's line of this number, from 1, is longer than a line may be.
-    #[error("clear: line {line} is too long")]
     LineTooLong { line: u128 },
 
-    #[error("clear: no memory")]
     NoMemory,
 }
 
 impl Fault<'_> {
     /// The exit status.
     pub fn status(&self) -> u8
-        ensures { result ≡ status_of self.now }
+        ensures { result ≡ exit_status self.now }
     {
         match self {
             Fault::Usage => 2,

@@ -1,6 +1,6 @@
 //! Configuration files.
 
-ghost use Rattle.std.specs.Prelude.{◌≡◌, ◌≢◌, ◌+◌, take, IfErr, IfOk, IfSome};
+ghost use Rattle.std.specs.Prelude.{◌≡◌, ◌≢◌, take, IfErr, IfOk, IfSome};
 
 use crate::fault::Fault;
 use std::alloc::Global;
@@ -26,7 +26,7 @@ pub fn read_start<'a, R: Read + Drop>(
     path: &'a str,
 ) -> Result<Vec<u8>, Fault<'a>>
     ensures start { IfOk result (λ file. IfSome (R.remaining reader) (λ bytes.
-        file.items ≡ take (MOST_CONFIG_BYTES + 1) bytes)) }
+        file.items ≡ take 1048577 bytes)) }
     ensures fault { IfErr result (λ fault. fault ≢ Fault.NoMemory → fault ≡ Fault.CannotRead path.entry) }
 {
     let mut file = Vec::new(alloc);

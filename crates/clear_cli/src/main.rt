@@ -1,6 +1,8 @@
 //! The program `clear`: a clearing house that answers lines.
 #![tactic(auto)]
 
+ghost use Rattle.std.specs.Prelude.{◌≡◌, ◌≢◌, IfErr};
+
 mod fault;
 mod files;
 mod script;
@@ -17,7 +19,9 @@ use std::process::ExitCode;
 use words::{Job, read_words};
 
 // The words of the command line, the program's name first.
-fn given_words(rt: &HostRuntime, alloc: Global) -> Result<Vec<String>, Fault<'static>> {
+fn given_words(rt: &HostRuntime, alloc: Global) -> Result<Vec<String>, Fault<'static>>
+    ensures { IfErr result (λ fault. fault ≢ Fault.NoMemory → fault ≡ Fault.Usage) }
+{
     let args = match env::args(rt) {
         Ok(args) => args,
         Err(error) if error.kind() == ErrorKind::OutOfMemory => return Err(Fault::NoMemory),
@@ -57,6 +61,3 @@ fn main(rt: HostRuntime) -> ExitCode {
         Err(fault) => told(&rt, &fault),
     }
 }
-
-#[cfg(test)]
-mod tests;

@@ -1,23 +1,49 @@
 //! The command `script`.
 
-ghost use Rattle.std.specs.Prelude.{◌≡◌, ◌≢◌, ◌<◌, ◌≤◌, IfOk, IfErr, OnOk, Ok, Err};
+ghost use Rattle.std.specs.Prelude.{◌≡◌, ◌≢◌, ◌≤◌, IfOk, IfErr, MatchResult, Ok, Err};
 ghost use Rattle.clear_cli.specs.declared.fault.Fault.{Fault as FaultValue};
 ghost use Rattle.clear_cli.specs.declared.fault.Fault.TheVariants.{NoMemory};
-ghost use Rattle.clear_cli.specs.Fault.{IsTold, fault_line, status_of};
-ghost use Rattle.clear_cli.specs.Script.{Fails, IsDone, reading};
+ghost use Rattle.clear_cli.specs.Fault.{IsTold, exit_status, fault_line};
+ghost use Rattle.clear_cli.specs.Script.{Fails, IsAnswered, IsDone, Streams, reading};
+ghost use Rattle.clear_cli.specs.Inner.UnderConfig.{FailsUnder};
 
 use crate::fault::{Fault, tell};
 use ocpi_types::{Config, TryCopy};
 use plain_house::PlainHouse;
-use request_lines::{Count, Sink, Source, run_script};
+use request_lines::{Sink, Source, run_script};
 use std::alloc::Global;
 
 fn read_config(alloc: Global, file: &[u8]) -> Result<Config, Fault<'static>>
     ensures ok { IfOk result (λ config. reading file.now ≡ Ok config) }
     ensures err { IfErr result (λ fault. fault ≢ NoMemory → reading file.now ≡ Err fault) }
-    ensures status { IfErr result (λ fault. status_of fault ≡ 1) }
+    ensures status { IfErr result (λ fault. exit_status fault ≡ 1) }
 {
     Ok(Config::read(alloc, file)?)
+}
+
+// Answers the lines of the reader by a house of this configuration.
+fn answer_under<R: Source, W: Sink>(
+    alloc: Global,
+    config: &Config,
+    reader: &mut R,
+    writer: &mut W,
+) -> Result<(), Fault<'static>>
+    ensures ended { let streams : Streams R W = record {
+      gives = R.gives;
+      at_end = R.at_end;
+      reader_failed = R.failed;
+      takes = W.takes;
+      writer_failed = W.failed;
+      reader = reader.old;
+      reader' = reader.new;
+      writer = writer.old;
+      writer' = writer.new;
+    } in MatchResult result (λ _. IsAnswered streams config.now) (λ fault. FailsUnder streams config.now fault) }
+    ensures status { IfErr result (λ fault. exit_status fault ≡ 1) }
+{
+    let mut house = PlainHouse::new(alloc, config.copy(alloc)?);
+    run_script(alloc, reader, writer, config, &mut house)?;
+    Ok(())
 }
 
 fn answer_lines<R: Source, W: Sink>(
@@ -25,15 +51,22 @@ fn answer_lines<R: Source, W: Sink>(
     file: &[u8],
     reader: &mut R,
     writer: &mut W,
-) -> Result<Count, Fault<'static>>
-    ensures done { OnOk result (IsDone R.gives R.at_end W.takes file.now reader.old reader.new writer.old writer.new) }
-    ensures fault { IfErr result
-        (Fails R.gives R.failed W.takes file.now reader.old reader.new writer.old writer.new) }
-    ensures status { IfErr result (λ fault. status_of fault ≡ 1) }
+) -> Result<(), Fault<'static>>
+    ensures ended { let streams : Streams R W = record {
+      gives = R.gives;
+      at_end = R.at_end;
+      reader_failed = R.failed;
+      takes = W.takes;
+      writer_failed = W.failed;
+      reader = reader.old;
+      reader' = reader.new;
+      writer = writer.old;
+      writer' = writer.new;
+    } in MatchResult result (λ _. IsDone streams file.now) (λ fault. Fails streams file.now fault) }
+    ensures status { IfErr result (λ fault. exit_status fault ≡ 1) }
 {
     let config = read_config(alloc, file)?;
-    let mut house = PlainHouse::new(alloc, config.copy(alloc)?);
-    Ok(run_script(alloc, reader, writer, &config, &mut house)?)
+    answer_under(alloc, &config, reader, writer)
 }
 
 /// Answers the lines of the reader under the configuration of these bytes, and gives the exit status. A fault is told
@@ -46,15 +79,33 @@ pub fn script<R: Source, W: Sink, F: Sink>(
     faults: &mut F,
 ) -> u8
     ensures status { result ≤ 1 }
-    ensures done { result ≡ 0 → IsDone R.gives R.at_end W.takes config.now
-        reader.old reader.new writer.old writer.new }
+    ensures done { let streams : Streams R W = record {
+      gives = R.gives;
+      at_end = R.at_end;
+      reader_failed = R.failed;
+      takes = W.takes;
+      writer_failed = W.failed;
+      reader = reader.old;
+      reader' = reader.new;
+      writer = writer.old;
+      writer' = writer.new;
+    } in result ≡ 0 → IsDone streams config.now }
     ensures silent { result ≡ 0 → faults.new ≡ faults.old }
-    ensures fault { result ≡ 1 → (fault : FaultValue)
-        × Fails R.gives R.failed W.takes config.now reader.old reader.new writer.old writer.new fault
+    ensures fault { let streams : Streams R W = record {
+      gives = R.gives;
+      at_end = R.at_end;
+      reader_failed = R.failed;
+      takes = W.takes;
+      writer_failed = W.failed;
+      reader = reader.old;
+      reader' = reader.new;
+      writer = writer.old;
+      writer' = writer.new;
+    } in result ≡ 1 → (fault : FaultValue) × Fails streams config.now fault
         × IsTold F.takes F.failed faults.old (fault_line fault) faults.new }
 {
     match answer_lines(alloc, config, reader, writer) {
-        Ok(_) => 0,
+        Ok(()) => 0,
         Err(fault) => {
             tell(faults, &fault);
             fault.status()

@@ -4,7 +4,7 @@ ghost use Rattle.std.specs.Prelude.{◌≡◌, ◌≢◌, ◌↔◌, IfErr, IfOk
 ghost use Rattle.std.specs.String.{string_bytes};
 ghost use Rattle.clap.specs.Words.{app_of, kind_of};
 ghost use Rattle.clap.specs.declared.builder.command.Command.TheViews.{out-Command as fields_of};
-ghost use Rattle.clear_cli.specs.Commands.{clear_command, script_command};
+ghost use Rattle.clear_cli.specs.Inner.Commands.{clear_command, script_command};
 ghost use Rattle.clear_cli.specs.Words.{asked_path, path_of};
 
 use crate::fault::Fault;

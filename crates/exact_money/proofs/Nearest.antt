@@ -2,7 +2,7 @@
 use Rattle.std.proofs.Common.{◌≡◌, ℕ, ◌+◌, ◌*◌, ◌<◌, arith}
 use Rattle.std.proofs.lemmas.Nat.{div-add-mod', le-div, mod_below}
 use Rattle.exact_money.specs.Numeral.{IsNearest}
-use Rattle.exact_money.specs.Millionths.{rounded_size}
+use Rattle.exact_money.specs.Inner.NumeralOf.{rounded_size}
 
 pub rounded_nearest : (digits unit : ℕ) → 0 < unit → IsNearest digits unit (rounded_size digits unit)
 rounded_nearest digits unit positive =

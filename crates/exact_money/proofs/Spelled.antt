@@ -11,7 +11,8 @@ use Rattle.std.specs.List.{prefix_len}
 use Rattle.std.specs.Str.{bytes_eq}
 use Rattle.std.specs.Str.Parse.{AllDigits, starts_with_minus}
 use Rattle.exact_money.specs.Numeral.{Numeral, IsWhole, IsPlain, behind_point, spelling, signed, digits_of, unit_of}
-use Rattle.exact_money.specs.Millionths.{IsMillionthsOf, leading_digits, parts, is_in_form, rounded_size, value_of, millionths_of}
+use Rattle.exact_money.specs.Millionths.{IsMillionthsOf, millionths_of}
+use Rattle.exact_money.specs.Inner.NumeralOf.{leading_digits, parts, is_in_form, rounded_size, value_of}
 use Rattle.exact_money.proofs.Nearest.{rounded_nearest, nearest_is}
 use Rattle.exact_money.proofs.Parts.{digits_run, run_digits, behind_no_digit}
 use Rattle.exact_money.proofs.Rounding.{digit_range}

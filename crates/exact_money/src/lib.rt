@@ -8,6 +8,3 @@ mod millionths;
 pub use amount::{Amount, amount_text_reads_back};
 pub use exact::Exact;
 pub use millionths::{Millionths, millionths_of_is_value};
-
-#[cfg(test)]
-mod tests;

@@ -6,7 +6,8 @@ use Rattle.std.proofs.Math.ListN.{length-drop}
 use Rattle.std.specs.List.{prefix_len, flat_map, list_all, AllByRecursion}
 use Rattle.json.specs.Word.{after_number}
 use Rattle.ocpi_json.specs.Cut.{begins_number, is_number_byte, inside, Piece, string, number, single, IsCut, marked, IsSound, Marks}
-use Rattle.ocpi_json.specs.Marked.{text_end, first_pieces, pieces, is_end, is_sound, marked_text, MarkingIsMarkedText}
+use Rattle.ocpi_json.specs.Inner.MarkedText.{text_end, first_pieces, pieces, is_end, is_sound, marked_text}
+use Rattle.ocpi_json.specs.Marked.{MarkingIsMarkedText}
 use Rattle.ocpi_json.proofs.Pieces.{token_at, one_cut}
 
 -- IsText, from inside a string

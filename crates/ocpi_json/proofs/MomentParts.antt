@@ -9,8 +9,9 @@ use mathlib.Core.HLevel.{is_prop→PathP}
 use Rattle.jiff.specs.Types.{Date, Time, Timestamp}
 use Rattle.jiff.specs.Words.{days_in_month, IsDate, IsYmd, IsTime, IsHms, IsTimestampNanos}
 use Rattle.jiff.proofs.Family.{same_date, same_time}
-use Rattle.ocpi_json.specs.MomentText.{some_if, is_date, date_at, is_time, time_at, is_instant, instant_at}
-use Rattle.ocpi_json.specs.Ranges.{year_in, month_in, day_in, hour_in, minute_in, second_in, subsec_in, instant_in}
+use Rattle.ocpi_json.specs.SomeIf.{some_if}
+use Rattle.ocpi_json.specs.Inner.MomentReading.{is_date, date_at, is_time, time_at, is_instant, instant_at}
+use Rattle.ocpi_json.specs.Inner.Ranges.{year_in, month_in, day_in, hour_in, minute_in, second_in, subsec_in, instant_in}
 
 some_if-passed : {X : Type 0} (b : Bool) (f : IsTrue b → X) (x : X) → IsTrue b → ((h : IsTrue b) → f h ≡ x) → some_if b f ≡ Some x
 some_if-passed true f x passed same = ap Some (same refl)
@@ -28,7 +29,7 @@ same_pos {a} {b} e = cc
 is_date_in : (y m d : ℕ) → y ≤ 9999 → IsInRange 1 12 m → IsInRange 1 (days_in_month (pos y) m) d → IsTrue (is_date y m d)
 is_date_in y m d small month day = grind (arith, nat_tests)
 
-date_at-found : (y m d : ℕ) (x : Date) → y < 10_000 → x.year ≡ pos y → x.month ≡ m → x.day ≡ d → date_at y m d ≡ Some x
+pub date_at-found : (y m d : ℕ) (x : Date) → y < 10_000 → x.year ≡ pos y → x.month ≡ m → x.day ≡ d → date_at y m d ≡ Some x
 unfolding date_at
 date_at-found y m d x small p q r =
     let month : IsInRange 1 12 m = subst (IsInRange 1 12) q x.month_in in
@@ -53,7 +54,7 @@ date_at-new y m d ys ms ds (Err e) small p q r succeeds value =
 
 -- ---- times of day
 
-time_at-found : (hour minute second nanos : ℕ) (x : Time) → x.hour ≡ hour → x.minute ≡ minute → x.second ≡ second → x.subsec_nanosecond ≡ nanos → time_at hour minute second nanos ≡ Some x
+pub time_at-found : (hour minute second nanos : ℕ) (x : Time) → x.hour ≡ hour → x.minute ≡ minute → x.second ≡ second → x.subsec_nanosecond ≡ nanos → time_at hour minute second nanos ≡ Some x
 unfolding time_at
 time_at-found hour minute second nanos x p q r s =
     let h = x.hour_in in
@@ -87,7 +88,7 @@ same_instant a b p = λ i. record {
   in_range = is_prop→PathP (λ j. IsTimestampNanos (p j)) (λ j. hlevel props) a.in_range b.in_range i;
 }
 
-instant_at-found : (n : ℤ) (x : Timestamp) → x.nanosecond ≡ n → instant_at n ≡ Some x
+pub instant_at-found : (n : ℤ) (x : Timestamp) → x.nanosecond ≡ n → instant_at n ≡ Some x
 unfolding instant_at
 instant_at-found n x p =
     let h : IsTimestampNanos n = subst IsTimestampNanos p x.in_range in

@@ -7,7 +7,7 @@ use Rattle.std.specs.Str.{IsAscii}
 use Rattle.std.proofs.lemmas.Str.Ascii.{IsAscii-nil, IsAscii-cons}
 use Rattle.std.proofs.Math.Seq.{take-append_seam, drop-append_seam}
 use Rattle.std.specs.List.{prefix_len, flat_map, AllByRecursion}
-use Rattle.ocpi_json.specs.Marked.{text_end}
+use Rattle.ocpi_json.specs.Inner.MarkedText.{text_end}
 use Rattle.ocpi_json.specs.Cut.{begins_number, is_number_byte, inside, Piece, string, number, single, IsText, IsPiece, spelling, IsCut, marked, IsSound, Marks}
 
 pub text_end-closed : (kept : Bool) (text rest : List ℕ) → inside kept text ≡ Some false → text_end kept (text ++ 34 ∷ rest) ≡ length text + 1

@@ -14,7 +14,7 @@ use Rattle.ocpi_json.specs.declared.name.Name.{Name}
 
 -- the member of that name
 abbrev pub member_at : Name → Data → Option Data
-member_at n node = get (115 ∷ name.text_of n) node
+member_at n node = get (115 ∷ name.key_text n) node
 
 -- a member that has to be there, and of the kind
 abbrev pub required : {X : Type 0} → (Data → Option X) → Name → Data → Result X Name
@@ -42,34 +42,34 @@ behind mark [] = None
 behind mark (byte ∷ bytes) = if byte == mark then Some bytes else None
 
 -- a text
-abbrev pub text_of : Data → Option (List ℕ)
-text_of d = option_and_then (behind 115) (as_str d)
+abbrev pub as_text : Data → Option (List ℕ)
+as_text d = option_and_then (behind 115) (as_str d)
 
 -- a text that stands for a value
-abbrev pub parsed_of : {X : Type 0} → (List ℕ → Option X) → Data → Option X
-parsed_of of_text d = option_and_then of_text (text_of d)
+abbrev pub as_parsed : {X : Type 0} → (List ℕ → Option X) → Data → Option X
+as_parsed of_text d = option_and_then of_text (as_text d)
 
 -- the token of a number
-abbrev pub token_of : Data → Option (List ℕ)
-token_of d = option_and_then (behind 110) (as_str d)
+abbrev pub as_token : Data → Option (List ℕ)
+as_token d = option_and_then (behind 110) (as_str d)
 
 abbrev pub if_ci : ℕ → List ℕ → Option (List ℕ)
 if_ci max text = if nat_le 1 (length text) && nat_le (length text) max && is_printable text then Some text else None
 
 -- a text of 1 to max printable ASCII characters: the CiString of OCPI 2.2.1, chapter Types
-abbrev pub ci_of : ℕ → Data → Option (List ℕ)
-ci_of max d = option_and_then (if_ci max) (text_of d)
+abbrev pub as_ci_text : ℕ → Data → Option (List ℕ)
+as_ci_text max d = option_and_then (if_ci max) (as_text d)
 
 -- a number, in millionths
-abbrev pub number_of : Data → Option ℤ
-number_of d = option_and_then millionths_of (token_of d)
+abbrev pub as_number : Data → Option ℤ
+as_number d = option_and_then millionths_of (as_token d)
 
 abbrev pub if_not_negative : ℤ → Option ℤ
 if_not_negative z = if int_le (pos 0) z then Some z else None
 
 -- a number of at least 0, in millionths
-abbrev pub unsigned_of : Data → Option ℤ
-unsigned_of d = option_and_then if_not_negative (number_of d)
+abbrev pub as_unsigned : Data → Option ℤ
+as_unsigned d = option_and_then if_not_negative (as_number d)
 
 -- 1 to 18 digits
 abbrev pub whole_value : List ℕ → Option ℕ
@@ -81,8 +81,8 @@ abbrev pub if_within : ℕ → ℕ → ℕ → Option ℕ
 if_within least most n = if nat_le least n && nat_le n most then Some n else None
 
 -- a number of 1 to 18 digits, with no sign, point or exponent, from least to most
-abbrev pub whole_of : ℕ → ℕ → Data → Option ℕ
-whole_of least most d = option_and_then (if_within least most) (option_and_then whole_value (token_of d))
+abbrev pub as_whole : ℕ → ℕ → Data → Option ℕ
+as_whole least most d = option_and_then (if_within least most) (option_and_then whole_value (as_token d))
 
 abbrev pub items_list : Items → List Data
 items_list no_items = []
@@ -92,15 +92,15 @@ abbrev pub if_between : ℕ → ℕ → List Data → Option (List Data)
 if_between least most ds = if nat_le least (length ds) && nat_le (length ds) most then Some ds else None
 
 -- an array of least to most items
-abbrev pub list_of : ℕ → ℕ → Data → Option (List Data)
-list_of least most d = option_and_then (λ ds. if_between least most (items_list ds)) (as_array d)
+abbrev pub as_list : ℕ → ℕ → Data → Option (List Data)
+as_list least most d = option_and_then (λ ds. if_between least most (items_list ds)) (as_array d)
 
 -- the items of an array of up to so many, which may be missing or null
 abbrev pub list_or_empty : ℕ → Name → Data → Result (List Data) Name
 list_or_empty most n node = do
-  found ← optional (list_of 0 most) n node
+  found ← optional (as_list 0 most) n node
   Ok (unwrap_or found [])
 
 -- an object
-abbrev pub object_of : Data → Option Data
-object_of d = if is_some (as_object d) then Some d else None
+abbrev pub as_object_node : Data → Option Data
+as_object_node d = if is_some (as_object d) then Some d else None

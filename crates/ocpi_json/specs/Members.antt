@@ -9,6 +9,11 @@ abbrev pub ◌>>=◌ : {A B : Type 0} → Result A Name → (A → Result B Name
 (Ok x) >>= f = f x
 (Err n) >>= f = Err n
 
+-- a value as it shows, or the name of the member at fault
+abbrev pub shown : {A B : Type 0} → (A → B) → Result A Name → Result B Name
+shown f (Ok x) = Ok (f x)
+shown f (Err n) = Err n
+
 -- a value, or the name of the member that has none
 abbrev pub or_name : {X : Type 0} → Name → Option X → Result X Name
 or_name n None = Err n

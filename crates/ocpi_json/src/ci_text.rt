@@ -1,13 +1,53 @@
 // A text whose ASCII letters count the same in either case.
-ghost use Rattle.std.specs.Prelude.{◌≡◌, ◌↔◌, IfOk, IsSome, IfSome, true};
+ghost use Rattle.std.specs.Prelude.{◌≡◌, ◌≤◌, ◌↔◌, length, IsSome, IfSome, nat_le, ◌&&◌, true};
 ghost use Rattle.std.specs.Cmp.Lexicographic.{slice_cmp};
 ghost use Rattle.std.specs.Ordering.{nat_cmp};
 ghost use Rattle.ocpi_json.specs.Folded.{folded, is_printable};
 
-use std::alloc::{AllocError, Global};
+use std::alloc::AllocError;
 use std::cmp::Ordering;
 use std::hash::{Hash, Hasher};
 use std::marker::Model;
+use std::{fmt, str};
+
+/// A CiString of OCPI 2.2.1, chapter 'Types': at most `MOST` bytes of printable ASCII, bytes 32 to 126. It is kept as
+/// written, and compared with its letters folded.
+pub struct CiText<const MOST: usize> {
+    len: usize,
+    cells: [u8; MOST],
+}
+
+impl<const MOST: usize> Model for CiText<MOST> {
+    ghost use Rattle.std.specs.Prelude.{ℕ, List, take, ◌++◌, ◌-◌, length};
+    ghost use Rattle.ocpi_json.specs.Inner.Cells.{Holds, zeros, length_held, refilled};
+
+    ghost Value = { List ℕ };
+
+    ghost view = { λ t. take t.len t.cells };
+
+    ghost invariant = { λ t. Holds MOST t.len t.cells };
+
+    ghost inverse = { λ s. record { len = length s; cells = s ++ zeros (MOST - length s) } };
+
+    ghost inverse_ok = { λ t h i. record {
+      len = length_held MOST t.len t.cells h i;
+      cells = refilled MOST t.len t.cells h i;
+    } };
+}
+
+impl<const MOST: usize> Clone for CiText<MOST> {
+    ghost use Rattle.std.specs.Prelude.{◌≡◌, ⊤};
+
+    ghost is_clone = { λ x y. y ≡ x };
+
+    ghost is_infallible = { λ _. ⊤ };
+
+    fn clone(&self) -> Result<CiText<MOST>, AllocError> {
+        Ok(*self)
+    }
+}
+
+impl<const MOST: usize> Copy for CiText<MOST> {}
 
 fn folded_cmp(ours: &[u8], theirs: &[u8]) -> Ordering
     ensures { result ≡ slice_cmp nat_cmp (folded ours.now) (folded theirs.now) }
@@ -16,59 +56,40 @@ fn folded_cmp(ours: &[u8], theirs: &[u8]) -> Ordering
     ours.cmp(theirs.iter().map(|byte| byte.to_ascii_lowercase()))
 }
 
-/// A CiString of OCPI 2.2.1, chapter 'Types': printable ASCII, bytes 32 to 126. It is kept as
-/// written, and compared with its letters folded.
-#[derive(Debug, Drop)]
-pub struct CiText {
-    written: String,
+fn are_printable(text: &[u8]) -> bool
+    ensures { result ≡ is_printable text.now }
+{
+    text.iter().all(|byte| 32 <= *byte && *byte <= 126)
 }
 
-impl Model for CiText {
-    ghost use Rattle.std.specs.Prelude.{ℕ, List, string_bytes, ◌≡◌, true};
-    ghost use Rattle.ocpi_json.specs.Folded.{is_printable};
-
-    ghost Value = { List ℕ };
-
-    ghost view = { λ t. string_bytes t.written };
-
-    ghost invariant = { λ t. is_printable (string_bytes t.written) ≡ true };
-}
-
-impl CiText {
-    /// The text as a `CiText`; `None` where it is not printable ASCII.
-    pub fn new(alloc: Global, text: &str) -> Result<Option<CiText>, AllocError>
-        ensures printable { IfOk result (λ o. IsSome o ↔ (is_printable text.now ≡ true)) }
-        ensures value { IfOk result (λ o. IfSome o (λ t. t ≡ text.now)) }
+impl<const MOST: usize> CiText<MOST> {
+    /// The text as a `CiText`; `None` where it is not printable ASCII, or too long.
+    pub fn new(text: &str) -> Option<CiText<MOST>>
+        ensures fits { IsSome result ↔ ((is_printable text.now && nat_le (length text.now) MOST) ≡ true) }
+        ensures value { IfSome result (λ t. t ≡ text.now) }
     {
-        for byte in text.as_bytes() {
-            if *byte < 32 || 126 < *byte {
-                return Ok(None);
-            }
+        if MOST < text.len() || !are_printable(text.as_bytes()) {
+            return None;
         }
-        Ok(Some(CiText {
-            written: String::from_str(alloc, text)?,
-        }))
+        let mut cells = [0; MOST];
+        cells[..text.len()].copy_from_slice(text.as_bytes());
+        Some(CiText {
+            len: text.len(),
+            cells,
+        })
     }
 
     /// The text as written.
     pub fn as_str(&self) -> &str
         ensures value { result.now ≡ self.now }
         ensures printable { is_printable self.now ≡ true }
+        ensures fits { length self.now ≤ MOST }
     {
-        self.written.as_str()
-    }
-
-    /// Another `CiText`, written the same.
-    pub fn copy(&self, alloc: Global) -> Result<CiText, AllocError>
-        ensures { IfOk result (λ t. t ≡ self.now) }
-    {
-        Ok(CiText {
-            written: String::from_str(alloc, self.written.as_str())?,
-        })
+        unsafe { str::from_utf8_unchecked(&self.cells[..self.len]) }
     }
 }
 
-impl PartialEq for CiText {
+impl<const MOST: usize> PartialEq for CiText<MOST> {
     ghost use Rattle.std.specs.Prelude.{◌==◌};
     ghost use Rattle.std.proofs.Common.{rules};
     ghost use Rattle.std.specs.Cmp.Rules.{comparing};
@@ -80,19 +101,19 @@ impl PartialEq for CiText {
 
     ghost laws = { Prim.search (comparing, rules) };
 
-    fn eq(&self, other: &CiText) -> bool {
+    fn eq(&self, other: &CiText<MOST>) -> bool {
         self.as_str().eq_ignore_ascii_case(other.as_str())
     }
 }
 
-impl Eq for CiText {
+impl<const MOST: usize> Eq for CiText<MOST> {
     ghost use Rattle.std.proofs.Common.{rules};
     ghost use Rattle.std.specs.Cmp.Rules.{comparing};
 
     ghost laws = { Prim.search (comparing, rules) };
 }
 
-impl Ord for CiText {
+impl<const MOST: usize> Ord for CiText<MOST> {
     ghost use Rattle.std.proofs.Common.{rules};
     ghost use Rattle.std.specs.Cmp.Rules.{comparing};
     ghost use Rattle.std.specs.Cmp.Lexicographic.{slice_cmp};
@@ -107,12 +128,12 @@ impl Ord for CiText {
 
     ghost matches_eq = { Prim.search (comparing, rules) };
 
-    fn cmp(&self, other: &CiText) -> Ordering {
-        folded_cmp(self.written.as_bytes(), other.written.as_bytes())
+    fn cmp(&self, other: &CiText<MOST>) -> Ordering {
+        folded_cmp(self.as_str().as_bytes(), other.as_str().as_bytes())
     }
 }
 
-impl PartialOrd for CiText {
+impl<const MOST: usize> PartialOrd for CiText<MOST> {
     ghost use Rattle.std.proofs.Common.{rules};
     ghost use Rattle.std.specs.Cmp.Rules.{comparing};
     ghost use Rattle.std.specs.Cmp.{partial_order_from_own_ties};
@@ -124,25 +145,31 @@ impl PartialOrd for CiText {
 
     ghost laws = { partial_order_from_own_ties (Prim.search (comparing, rules)) (Prim.search (comparing, rules)) };
 
-    fn partial_cmp(&self, other: &CiText) -> Option<Ordering> {
+    fn partial_cmp(&self, other: &CiText<MOST>) -> Option<Ordering> {
         Some(self.cmp(other))
     }
 }
 
-impl Hash for CiText {
-    ghost use Rattle.std.specs.Prelude.{flat_map};
+impl<const MOST: usize> Hash for CiText<MOST> {
+    ghost use Rattle.std.specs.Prelude.{[], ◌∷◌};
     ghost use Rattle.std.proofs.Common.{rules};
-    ghost use Rattle.std.specs.Hash as fed;
     ghost use Rattle.std.specs.Cmp.Rules.{hashing};
     ghost use Rattle.ocpi_json.specs.Folded.{folded};
 
-    ghost hash_input = { λ t. flat_map fed.u8 (folded t) };
+    ghost hash_input = { λ t. folded t ∷ [] };
 
     ghost respects_eq = { Prim.search (hashing, rules) };
 
+    #[tactic(auto, using(crate::proofs::Printable::folded_front))]
     fn hash<H: Hasher>(&self, state: &mut H) {
-        for byte in self.written.as_bytes() {
-            state.write_u8(byte.to_ascii_lowercase());
-        }
+        let mut folded = self.cells;
+        folded.make_ascii_lowercase();
+        state.write(&folded[..self.len]);
+    }
+}
+
+impl<const MOST: usize> fmt::Debug for CiText<MOST> {
+    fn fmt<W: fmt::Write>(&self, f: &mut fmt::Formatter<W>) -> fmt::Result {
+        fmt::Debug::fmt(&self.as_str(), f)
     }
 }

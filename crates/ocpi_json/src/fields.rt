@@ -1,14 +1,14 @@
 //! The members of an object, by name and kind.
 
-ghost use Rattle.std.specs.Prelude.{◌≡◌, ◌<◌, IfOk, map, option_map};
+ghost use Rattle.std.specs.Prelude.{◌≡◌, ◌<◌, map, option_map};
 ghost use Rattle.std.specs.Char.{is_ascii_digit};
 ghost use Rattle.std.specs.List.{list_all};
 ghost use Rattle.serde_json.specs.Find.{as_bool};
 ghost use Rattle.serde_json.specs.View.{view};
-ghost use Rattle.ocpi_json.specs.Faults.{Gives, GivesAs};
-ghost use Rattle.ocpi_json.specs.Fields.{member_at, present_at, required, optional, behind, text_of, token_of, ci_of, if_ci, list_of, number_of, object_of, parsed_of, whole_of, whole_value, if_within, unsigned_of, if_not_negative, list_or_empty};
+ghost use Rattle.ocpi_json.specs.Faults.{Finds};
+ghost use Rattle.ocpi_json.specs.Fields.{member_at, present_at, required, optional, behind, as_text, as_token, as_ci_text, if_ci, as_list, as_number, as_object_node, as_parsed, as_whole, whole_value, if_within, as_unsigned, if_not_negative, list_or_empty};
 ghost use Rattle.ocpi_json.specs.MomentText.{instant_of, date_of, clock_of};
-ghost use Rattle.ocpi_json.specs.Members.{or_name};
+ghost use Rattle.ocpi_json.specs.Members.{or_name, shown};
 
 use crate::Node;
 use crate::ci_text::CiText;
@@ -50,10 +50,21 @@ impl<T: Drop> From<AllocFailed<T>> for FieldFault {
     }
 }
 
-fn member(node: &Node, name: Name) -> Result<&Node, FieldFault>
-    ensures { GivesAs (λ v. view v.now) result (or_name name (member_at name (view node.now))) }
+impl From<Name> for FieldFault {
+    ghost use Rattle.std.specs.Prelude.{◌≡◌};
+    ghost use Rattle.ocpi_json.specs.declared.fields.FieldFault.TheVariants.{Field};
+
+    ghost from_gives = { λ name e. e ≡ Field name };
+
+    fn from(name: Name) -> FieldFault {
+        FieldFault::Field(name)
+    }
+}
+
+fn member(node: &Node, name: Name) -> Result<&Node, Name>
+    ensures { shown (λ v. view v.now) result ≡ or_name name (member_at name (view node.now)) }
 {
-    node.get(name.key()).ok_or(FieldFault::Field(name))
+    node.get(name.key()).ok_or(name)
 }
 
 fn present(node: &Node, name: Name) -> Option<&Node>
@@ -75,68 +86,63 @@ fn behind(mark: u8, text: &str) -> Option<&str>
     }
 }
 
-fn text_of(node: &Node) -> Option<&str>
-    ensures { option_map (λ t. t.now) result ≡ text_of (view node.now) }
+fn as_text(node: &Node) -> Option<&str>
+    ensures { option_map (λ t. t.now) result ≡ as_text (view node.now) }
 {
     behind(b's', node.as_str()?)
 }
 
-fn token_of(node: &Node) -> Option<&str>
-    ensures { option_map (λ t. t.now) result ≡ token_of (view node.now) }
+fn as_token(node: &Node) -> Option<&str>
+    ensures { option_map (λ t. t.now) result ≡ as_token (view node.now) }
 {
     behind(b'n', node.as_str()?)
 }
 
-fn if_ci(alloc: Global, text: &str, max: usize) -> Result<Option<CiText>, AllocError>
-    ensures { IfOk result (λ o. o ≡ if_ci max text.now) }
+fn if_ci<const MOST: usize>(text: &str) -> Option<CiText<MOST>>
+    ensures { result ≡ if_ci MOST text.now }
 {
-    if text.is_empty() || max < text.len() {
-        return Ok(None);
+    if text.is_empty() {
+        return None;
     }
-    CiText::new(alloc, text)
+    CiText::new(text)
 }
 
-/// A text of 1 to `max` printable ASCII characters; the node is the text itself.
-pub fn ci_text_in(
-    alloc: Global,
-    member: &Node,
-    name: Name,
-    max: usize,
-) -> Result<CiText, FieldFault>
-    ensures { Gives result (or_name name (ci_of max (view member.now))) }
+fn as_ci_text<const MOST: usize>(member: &Node) -> Option<CiText<MOST>>
+    ensures { result ≡ as_ci_text MOST (view member.now) }
 {
-    let Some(text) = text_of(member) else {
-        return Err(FieldFault::Field(name));
-    };
-    if_ci(alloc, text, max)?.ok_or(FieldFault::Field(name))
+    if_ci(as_text(member)?)
 }
 
-/// A text of 1 to `max` printable ASCII characters.
-pub fn ci_text(alloc: Global, node: &Node, name: Name, max: usize) -> Result<CiText, FieldFault>
-    ensures { Gives result (required (ci_of max) name (view node.now)) }
+fn ci_text_in<const MOST: usize>(member: &Node, name: Name) -> Result<CiText<MOST>, Name>
+    ensures { result ≡ or_name name (as_ci_text MOST (view member.now)) }
 {
-    ci_text_in(alloc, member(node, name)?, name, max)
+    as_ci_text(member).ok_or(name)
+}
+
+/// A text of 1 to `MOST` printable ASCII characters.
+pub fn ci_text<const MOST: usize>(node: &Node, name: Name) -> Result<CiText<MOST>, Name>
+    ensures { result ≡ required (as_ci_text MOST) name (view node.now) }
+{
+    ci_text_in(member(node, name)?, name)
 }
 
 /// The same, where the member may be missing or null.
-pub fn ci_text_or_none(
-    alloc: Global,
+pub fn ci_text_or_none<const MOST: usize>(
     node: &Node,
     name: Name,
-    max: usize,
-) -> Result<Option<CiText>, FieldFault>
-    ensures { Gives result (optional (ci_of max) name (view node.now)) }
+) -> Result<Option<CiText<MOST>>, Name>
+    ensures { result ≡ optional (as_ci_text MOST) name (view node.now) }
 {
     match present(node, name) {
-        Some(member) => Ok(Some(ci_text_in(alloc, member, name, max)?)),
+        Some(member) => Ok(Some(ci_text_in(member, name)?)),
         None => Ok(None),
     }
 }
 
 fn text_in(alloc: Global, member: &Node, name: Name) -> Result<Text, FieldFault>
-    ensures { Gives result (or_name name (text_of (view member.now))) }
+    ensures { Finds result (or_name name (as_text (view member.now))) }
 {
-    let Some(text) = text_of(member) else {
+    let Some(text) = as_text(member) else {
         return Err(FieldFault::Field(name));
     };
     Ok(Text::new(alloc, text)?)
@@ -144,14 +150,14 @@ fn text_in(alloc: Global, member: &Node, name: Name) -> Result<Text, FieldFault>
 
 /// A text.
 pub fn text(alloc: Global, node: &Node, name: Name) -> Result<Text, FieldFault>
-    ensures { Gives result (required text_of name (view node.now)) }
+    ensures { Finds result (required as_text name (view node.now)) }
 {
     text_in(alloc, member(node, name)?, name)
 }
 
 /// The same, where the member may be missing or null.
 pub fn text_or_none(alloc: Global, node: &Node, name: Name) -> Result<Option<Text>, FieldFault>
-    ensures { Gives result (optional text_of name (view node.now)) }
+    ensures { Finds result (optional as_text name (view node.now)) }
 {
     match present(node, name) {
         Some(member) => Ok(Some(text_in(alloc, member, name)?)),
@@ -159,22 +165,22 @@ pub fn text_or_none(alloc: Global, node: &Node, name: Name) -> Result<Option<Tex
     }
 }
 
-fn flag_in(member: &Node, name: Name) -> Result<bool, FieldFault>
-    ensures { Gives result (or_name name (as_bool (view member.now))) }
+fn flag_in(member: &Node, name: Name) -> Result<bool, Name>
+    ensures { result ≡ or_name name (as_bool (view member.now)) }
 {
-    member.as_bool().ok_or(FieldFault::Field(name))
+    member.as_bool().ok_or(name)
 }
 
 /// `true` or `false`.
-pub fn flag(node: &Node, name: Name) -> Result<bool, FieldFault>
-    ensures { Gives result (required as_bool name (view node.now)) }
+pub fn flag(node: &Node, name: Name) -> Result<bool, Name>
+    ensures { result ≡ required as_bool name (view node.now) }
 {
     flag_in(member(node, name)?, name)
 }
 
 /// The same, where the member may be missing or null.
-pub fn flag_or_none(node: &Node, name: Name) -> Result<Option<bool>, FieldFault>
-    ensures { Gives result (optional as_bool name (view node.now)) }
+pub fn flag_or_none(node: &Node, name: Name) -> Result<Option<bool>, Name>
+    ensures { result ≡ optional as_bool name (view node.now) }
 {
     match present(node, name) {
         Some(member) => Ok(Some(flag_in(member, name)?)),
@@ -183,22 +189,22 @@ pub fn flag_or_none(node: &Node, name: Name) -> Result<Option<bool>, FieldFault>
 }
 
 /// A text, lent by the node, which is the text itself.
-pub fn word_in(member: &Node, name: Name) -> Result<&str, FieldFault>
-    ensures { GivesAs (λ t. t.now) result (or_name name (text_of (view member.now))) }
+pub fn word_in(member: &Node, name: Name) -> Result<&str, Name>
+    ensures { shown (λ t. t.now) result ≡ or_name name (as_text (view member.now)) }
 {
-    text_of(member).ok_or(FieldFault::Field(name))
+    as_text(member).ok_or(name)
 }
 
 /// A text, lent by the node.
-pub fn word(node: &Node, name: Name) -> Result<&str, FieldFault>
-    ensures { GivesAs (λ t. t.now) result (required text_of name (view node.now)) }
+pub fn word(node: &Node, name: Name) -> Result<&str, Name>
+    ensures { shown (λ t. t.now) result ≡ required as_text name (view node.now) }
 {
     word_in(member(node, name)?, name)
 }
 
 /// The same, where the member may be missing or null.
-pub fn word_or_none(node: &Node, name: Name) -> Result<Option<&str>, FieldFault>
-    ensures { GivesAs (option_map (λ t. t.now)) result (optional text_of name (view node.now)) }
+pub fn word_or_none(node: &Node, name: Name) -> Result<Option<&str>, Name>
+    ensures { shown (option_map (λ t. t.now)) result ≡ optional as_text name (view node.now) }
 {
     match present(node, name) {
         Some(member) => Ok(Some(word_in(member, name)?)),
@@ -207,25 +213,25 @@ pub fn word_or_none(node: &Node, name: Name) -> Result<Option<&str>, FieldFault>
 }
 
 /// A text that stands for a value, as an enumeration of OCPI; the node is the text itself.
-pub fn parsed_in<T: FromText + Drop>(member: &Node, name: Name) -> Result<T, FieldFault>
-    ensures { Gives result (or_name name (parsed_of T.of_text (view member.now))) }
+pub fn parsed_in<T: FromText + Drop>(member: &Node, name: Name) -> Result<T, Name>
+    ensures { result ≡ or_name name (as_parsed T.of_text (view member.now)) }
 {
-    let Some(text) = text_of(member) else {
-        return Err(FieldFault::Field(name));
+    let Some(text) = as_text(member) else {
+        return Err(name);
     };
-    T::from_text(text).ok_or(FieldFault::Field(name))
+    T::from_text(text).ok_or(name)
 }
 
 /// A text that stands for a value, as an enumeration of OCPI.
-pub fn parsed<T: FromText + Drop>(node: &Node, name: Name) -> Result<T, FieldFault>
-    ensures { Gives result (required (parsed_of T.of_text) name (view node.now)) }
+pub fn parsed<T: FromText + Drop>(node: &Node, name: Name) -> Result<T, Name>
+    ensures { result ≡ required (as_parsed T.of_text) name (view node.now) }
 {
     parsed_in(member(node, name)?, name)
 }
 
 /// The same, where the member may be missing or null.
-pub fn parsed_or_none<T: FromText + Drop>(node: &Node, name: Name) -> Result<Option<T>, FieldFault>
-    ensures { Gives result (optional (parsed_of T.of_text) name (view node.now)) }
+pub fn parsed_or_none<T: FromText + Drop>(node: &Node, name: Name) -> Result<Option<T>, Name>
+    ensures { result ≡ optional (as_parsed T.of_text) name (view node.now) }
 {
     match present(node, name) {
         Some(member) => Ok(Some(parsed_in(member, name)?)),
@@ -233,28 +239,28 @@ pub fn parsed_or_none<T: FromText + Drop>(node: &Node, name: Name) -> Result<Opt
     }
 }
 
-fn number_of(node: &Node) -> Option<Millionths>
-    ensures { result ≡ number_of (view node.now) }
+fn as_number(node: &Node) -> Option<Millionths>
+    ensures { result ≡ as_number (view node.now) }
 {
-    Millionths::read(token_of(node)?.as_bytes())
+    Millionths::read(as_token(node)?.as_bytes())
 }
 
-fn number_in(member: &Node, name: Name) -> Result<Millionths, FieldFault>
-    ensures { Gives result (or_name name (number_of (view member.now))) }
+fn number_in(member: &Node, name: Name) -> Result<Millionths, Name>
+    ensures { result ≡ or_name name (as_number (view member.now)) }
 {
-    number_of(member).ok_or(FieldFault::Field(name))
+    as_number(member).ok_or(name)
 }
 
 /// A number.
-pub fn number(node: &Node, name: Name) -> Result<Millionths, FieldFault>
-    ensures { Gives result (required number_of name (view node.now)) }
+pub fn number(node: &Node, name: Name) -> Result<Millionths, Name>
+    ensures { result ≡ required as_number name (view node.now) }
 {
     number_in(member(node, name)?, name)
 }
 
 /// The same, where the member may be missing or null.
-pub fn number_or_none(node: &Node, name: Name) -> Result<Option<Millionths>, FieldFault>
-    ensures { Gives result (optional number_of name (view node.now)) }
+pub fn number_or_none(node: &Node, name: Name) -> Result<Option<Millionths>, Name>
+    ensures { result ≡ optional as_number name (view node.now) }
 {
     match present(node, name) {
         Some(member) => Ok(Some(number_in(member, name)?)),
@@ -272,28 +278,28 @@ fn if_not_negative(number: Millionths) -> Option<Millionths>
     }
 }
 
-fn unsigned_of(node: &Node) -> Option<Millionths>
-    ensures { result ≡ unsigned_of (view node.now) }
+fn as_unsigned(node: &Node) -> Option<Millionths>
+    ensures { result ≡ as_unsigned (view node.now) }
 {
-    if_not_negative(number_of(node)?)
+    if_not_negative(as_number(node)?)
 }
 
-fn unsigned_in(member: &Node, name: Name) -> Result<Millionths, FieldFault>
-    ensures { Gives result (or_name name (unsigned_of (view member.now))) }
+fn unsigned_in(member: &Node, name: Name) -> Result<Millionths, Name>
+    ensures { result ≡ or_name name (as_unsigned (view member.now)) }
 {
-    unsigned_of(member).ok_or(FieldFault::Field(name))
+    as_unsigned(member).ok_or(name)
 }
 
 /// A number of at least 0.
-pub fn unsigned(node: &Node, name: Name) -> Result<Millionths, FieldFault>
-    ensures { Gives result (required unsigned_of name (view node.now)) }
+pub fn unsigned(node: &Node, name: Name) -> Result<Millionths, Name>
+    ensures { result ≡ required as_unsigned name (view node.now) }
 {
     unsigned_in(member(node, name)?, name)
 }
 
 /// The same, where the member may be missing or null.
-pub fn unsigned_or_none(node: &Node, name: Name) -> Result<Option<Millionths>, FieldFault>
-    ensures { Gives result (optional unsigned_of name (view node.now)) }
+pub fn unsigned_or_none(node: &Node, name: Name) -> Result<Option<Millionths>, Name>
+    ensures { result ≡ optional as_unsigned name (view node.now) }
 {
     match present(node, name) {
         Some(member) => Ok(Some(unsigned_in(member, name)?)),
@@ -326,33 +332,28 @@ fn if_within(value: u64, least: u64, most: u64) -> Option<u64>
     }
 }
 
-fn whole_of(node: &Node, least: u64, most: u64) -> Option<u64>
-    ensures { result ≡ whole_of least most (view node.now) }
+fn as_whole(node: &Node, least: u64, most: u64) -> Option<u64>
+    ensures { result ≡ as_whole least most (view node.now) }
 {
-    if_within(whole_value(token_of(node)?)?, least, most)
+    if_within(whole_value(as_token(node)?)?, least, most)
 }
 
-fn whole_in(member: &Node, name: Name, least: u64, most: u64) -> Result<u64, FieldFault>
-    ensures { Gives result (or_name name (whole_of least most (view member.now))) }
+fn whole_in(member: &Node, name: Name, least: u64, most: u64) -> Result<u64, Name>
+    ensures { result ≡ or_name name (as_whole least most (view member.now)) }
 {
-    whole_of(member, least, most).ok_or(FieldFault::Field(name))
+    as_whole(member, least, most).ok_or(name)
 }
 
 /// A number of 1 to 18 digits, with no sign, point or exponent, from `least` to `most`.
-pub fn whole(node: &Node, name: Name, least: u64, most: u64) -> Result<u64, FieldFault>
-    ensures { Gives result (required (whole_of least most) name (view node.now)) }
+pub fn whole(node: &Node, name: Name, least: u64, most: u64) -> Result<u64, Name>
+    ensures { result ≡ required (as_whole least most) name (view node.now) }
 {
     whole_in(member(node, name)?, name, least, most)
 }
 
 /// The same, where the member may be missing or null.
-pub fn whole_or_none(
-    node: &Node,
-    name: Name,
-    least: u64,
-    most: u64,
-) -> Result<Option<u64>, FieldFault>
-    ensures { Gives result (optional (whole_of least most) name (view node.now)) }
+pub fn whole_or_none(node: &Node, name: Name, least: u64, most: u64) -> Result<Option<u64>, Name>
+    ensures { result ≡ optional (as_whole least most) name (view node.now) }
 {
     match present(node, name) {
         Some(member) => Ok(Some(whole_in(member, name, least, most)?)),
@@ -361,60 +362,60 @@ pub fn whole_or_none(
 }
 
 /// A moment in UTC, with or without `Z` or `+00:00`.
-pub fn instant(node: &Node, name: Name) -> Result<Timestamp, FieldFault>
-    ensures { Gives result (required (parsed_of instant_of) name (view node.now)) }
+pub fn instant(node: &Node, name: Name) -> Result<Timestamp, Name>
+    ensures { result ≡ required (as_parsed instant_of) name (view node.now) }
 {
     parsed(node, name)
 }
 
 /// The same, where the member may be missing or null.
-pub fn instant_or_none(node: &Node, name: Name) -> Result<Option<Timestamp>, FieldFault>
-    ensures { Gives result (optional (parsed_of instant_of) name (view node.now)) }
+pub fn instant_or_none(node: &Node, name: Name) -> Result<Option<Timestamp>, Name>
+    ensures { result ≡ optional (as_parsed instant_of) name (view node.now) }
 {
     parsed_or_none(node, name)
 }
 
 /// A date, `YYYY-MM-DD`.
-pub fn date(node: &Node, name: Name) -> Result<Date, FieldFault>
-    ensures { Gives result (required (parsed_of date_of) name (view node.now)) }
+pub fn date(node: &Node, name: Name) -> Result<Date, Name>
+    ensures { result ≡ required (as_parsed date_of) name (view node.now) }
 {
     parsed(node, name)
 }
 
 /// The same, where the member may be missing or null.
-pub fn date_or_none(node: &Node, name: Name) -> Result<Option<Date>, FieldFault>
-    ensures { Gives result (optional (parsed_of date_of) name (view node.now)) }
+pub fn date_or_none(node: &Node, name: Name) -> Result<Option<Date>, Name>
+    ensures { result ≡ optional (as_parsed date_of) name (view node.now) }
 {
     parsed_or_none(node, name)
 }
 
 /// A time of day, `HH:MM`.
-pub fn clock(node: &Node, name: Name) -> Result<Time, FieldFault>
-    ensures { Gives result (required (parsed_of clock_of) name (view node.now)) }
+pub fn clock(node: &Node, name: Name) -> Result<Time, Name>
+    ensures { result ≡ required (as_parsed clock_of) name (view node.now) }
 {
     parsed(node, name)
 }
 
 /// The same, where the member may be missing or null.
-pub fn clock_or_none(node: &Node, name: Name) -> Result<Option<Time>, FieldFault>
-    ensures { Gives result (optional (parsed_of clock_of) name (view node.now)) }
+pub fn clock_or_none(node: &Node, name: Name) -> Result<Option<Time>, Name>
+    ensures { result ≡ optional (as_parsed clock_of) name (view node.now) }
 {
     parsed_or_none(node, name)
 }
 
 #[tactic(auto, using(crate::proofs::NodeLists::list_facts))]
-fn list_in(member: &Node, name: Name, least: usize, most: usize) -> Result<&[Node], FieldFault>
-    ensures { GivesAs (λ v. map view v.now) result (or_name name (list_of least most (view member.now))) }
+fn list_in(member: &Node, name: Name, least: usize, most: usize) -> Result<&[Node], Name>
+    ensures { shown (λ v. map view v.now) result ≡ or_name name (as_list least most (view member.now)) }
 {
     match member.as_array() {
         Some(items) if least <= items.len() && items.len() <= most => Ok(items.as_slice()),
-        _ => Err(FieldFault::Field(name)),
+        _ => Err(name),
     }
 }
 
 /// An array of `least` to `most` items.
-pub fn list(node: &Node, name: Name, least: usize, most: usize) -> Result<&[Node], FieldFault>
-    ensures { GivesAs (λ v. map view v.now) result (required (list_of least most) name (view node.now)) }
+pub fn list(node: &Node, name: Name, least: usize, most: usize) -> Result<&[Node], Name>
+    ensures { shown (λ v. map view v.now) result ≡ required (as_list least most) name (view node.now) }
 {
     list_in(member(node, name)?, name, least, most)
 }
@@ -425,8 +426,8 @@ pub fn list_or_none(
     name: Name,
     least: usize,
     most: usize,
-) -> Result<Option<&[Node]>, FieldFault>
-    ensures { GivesAs (option_map (λ v. map view v.now)) result (optional (list_of least most) name (view node.now)) }
+) -> Result<Option<&[Node]>, Name>
+    ensures { shown (option_map (λ v. map view v.now)) result ≡ optional (as_list least most) name (view node.now) }
 {
     match present(node, name) {
         Some(member) => Ok(Some(list_in(member, name, least, most)?)),
@@ -435,8 +436,8 @@ pub fn list_or_none(
 }
 
 /// The items of an array of up to `most`, and none where the member is missing or null.
-pub fn list_or_empty(node: &Node, name: Name, most: usize) -> Result<&[Node], FieldFault>
-    ensures { GivesAs (λ v. map view v.now) result (list_or_empty most name (view node.now)) }
+pub fn list_or_empty(node: &Node, name: Name, most: usize) -> Result<&[Node], Name>
+    ensures { shown (λ v. map view v.now) result ≡ list_or_empty most name (view node.now) }
 {
     match present(node, name) {
         Some(member) => list_in(member, name, 0, most),
@@ -444,26 +445,26 @@ pub fn list_or_empty(node: &Node, name: Name, most: usize) -> Result<&[Node], Fi
     }
 }
 
-fn object_in(member: &Node, name: Name) -> Result<&Node, FieldFault>
-    ensures { GivesAs (λ v. view v.now) result (or_name name (object_of (view member.now))) }
+fn object_in(member: &Node, name: Name) -> Result<&Node, Name>
+    ensures { shown (λ v. view v.now) result ≡ or_name name (as_object_node (view member.now)) }
 {
     if member.is_object() {
         Ok(member)
     } else {
-        Err(FieldFault::Field(name))
+        Err(name)
     }
 }
 
 /// An object.
-pub fn object(node: &Node, name: Name) -> Result<&Node, FieldFault>
-    ensures { GivesAs (λ v. view v.now) result (required object_of name (view node.now)) }
+pub fn object(node: &Node, name: Name) -> Result<&Node, Name>
+    ensures { shown (λ v. view v.now) result ≡ required as_object_node name (view node.now) }
 {
     object_in(member(node, name)?, name)
 }
 
 /// The same, where the member may be missing or null.
-pub fn object_or_none(node: &Node, name: Name) -> Result<Option<&Node>, FieldFault>
-    ensures { GivesAs (option_map (λ v. view v.now)) result (optional object_of name (view node.now)) }
+pub fn object_or_none(node: &Node, name: Name) -> Result<Option<&Node>, Name>
+    ensures { shown (option_map (λ v. view v.now)) result ≡ optional as_object_node name (view node.now) }
 {
     match present(node, name) {
         Some(member) => Ok(Some(object_in(member, name)?)),

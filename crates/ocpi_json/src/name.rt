@@ -2,8 +2,10 @@
 
 ghost use Rattle.std.specs.Prelude.{◌≡◌, ◌∷◌};
 
+use std::fmt;
+
 /// The name of a member of an object.
-#[derive(Clone, Copy, Debug, PartialEq, Eq)]
+#[derive(Clone, Copy, PartialEq, Eq)]
 pub enum Name {
     CountryCode,
     PartyId,
@@ -84,11 +86,11 @@ pub enum Name {
 }
 
 impl Name {
-    ghost use Rattle.ocpi_json.specs.Name.{text_of};
+    ghost use Rattle.ocpi_json.specs.Name.{key_text};
 
     /// The key of the member in a marked text: its name behind an `s`.
     pub fn key(self) -> &'static str
-        ensures { result.now ≡ 115 ∷ text_of self }
+        ensures { result.now ≡ 115 ∷ key_text self }
     {
         match self {
             Name::CountryCode => "scountry_code",
@@ -172,85 +174,14 @@ impl Name {
 
     /// The name as a document writes it.
     pub fn as_str(self) -> &'static str
-        ensures { result.now ≡ text_of self }
+        ensures { result.now ≡ key_text self }
     {
-        match self {
-            Name::CountryCode => "country_code",
-            Name::PartyId => "party_id",
-            Name::Uid => "uid",
-            Name::Type => "type",
-            Name::ContractId => "contract_id",
-            Name::Valid => "valid",
-            Name::Whitelist => "whitelist",
-            Name::LastUpdated => "last_updated",
-            Name::Id => "id",
-            Name::Currency => "currency",
-            Name::MinPrice => "min_price",
-            Name::MaxPrice => "max_price",
-            Name::ExclVat => "excl_vat",
-            Name::Elements => "elements",
-            Name::PriceComponents => "price_components",
-            Name::Price => "price",
-            Name::StepSize => "step_size",
-            Name::Restrictions => "restrictions",
-            Name::StartTime => "start_time",
-            Name::EndTime => "end_time",
-            Name::StartDate => "start_date",
-            Name::EndDate => "end_date",
-            Name::MinKwh => "min_kwh",
-            Name::MaxKwh => "max_kwh",
-            Name::MinDuration => "min_duration",
-            Name::MaxDuration => "max_duration",
-            Name::DayOfWeek => "day_of_week",
-            Name::Reservation => "reservation",
-            Name::MinCurrent => "min_current",
-            Name::MaxCurrent => "max_current",
-            Name::MinPower => "min_power",
-            Name::MaxPower => "max_power",
-            Name::StartDateTime => "start_date_time",
-            Name::EndDateTime => "end_date_time",
-            Name::CdrToken => "cdr_token",
-            Name::AuthMethod => "auth_method",
-            Name::AuthorizationReference => "authorization_reference",
-            Name::Tariffs => "tariffs",
-            Name::ChargingPeriods => "charging_periods",
-            Name::Dimensions => "dimensions",
-            Name::Volume => "volume",
-            Name::TariffId => "tariff_id",
-            Name::TotalCost => "total_cost",
-            Name::TotalEnergy => "total_energy",
-            Name::TotalTime => "total_time",
-            Name::Credit => "credit",
-            Name::CreditReferenceId => "credit_reference_id",
-            Name::Version => "version",
-            Name::Tolerance => "tolerance",
-            Name::Currencies => "currencies",
-            Name::Operators => "operators",
-            Name::Party => "party",
-            Name::Zone => "zone",
-            Name::Providers => "providers",
-            Name::Limits => "limits",
-            Name::Limit => "limit",
-            Name::Hold => "hold",
-            Name::Platforms => "platforms",
-            Name::Name => "name",
-            Name::Parties => "parties",
-            Name::Hub => "hub",
-            Name::Cdrs => "cdrs",
-            Name::Entries => "entries",
-            Name::Order => "order",
-            Name::Periods => "periods",
-            Name::PairLimits => "pair_limits",
-            Name::Operator => "operator",
-            Name::Provider => "provider",
-            Name::CreditWindow => "credit_window",
-            Name::Platform => "platform",
-            Name::Do => "do",
-            Name::Token => "token",
-            Name::Tariff => "tariff",
-            Name::Cdr => "cdr",
-            Name::Reference => "reference",
-            Name::Period => "period",
-        }
+        &self.key()[1..]
+    }
+}
+
+impl fmt::Debug for Name {
+    fn fmt<W: fmt::Write>(&self, f: &mut fmt::Formatter<W>) -> fmt::Result {
+        fmt::Debug::fmt(&self.as_str(), f)
     }
 }

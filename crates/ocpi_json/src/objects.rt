@@ -1,13 +1,12 @@
 //! Types whose values stand in texts and nodes.
 
-ghost use Rattle.std.specs.Prelude.{map, option_map};
+ghost use Rattle.std.specs.Prelude.{◌≡◌, map, option_map};
 ghost use Rattle.serde_json.specs.View.{view};
-ghost use Rattle.ocpi_json.specs.Faults.{Gives};
+ghost use Rattle.ocpi_json.specs.Faults.{Finds};
 ghost use Rattle.ocpi_json.specs.Members.{each, if_any, or_name};
-ghost use Rattle.ocpi_json.specs.Fields.{parsed_of, ci_of};
+ghost use Rattle.ocpi_json.specs.Fields.{as_parsed};
 
 use crate::Node;
-use crate::ci_text::CiText;
 use crate::fields::{self, FieldFault};
 use crate::name::Name;
 use crate::sequence::Sequence;
@@ -24,19 +23,33 @@ pub trait FromText {
         ensures { result ≡ of_text text.now };
 }
 
-/// A type whose values stand in nodes.
-pub trait FromNode {
-    ghost use Rattle.std.specs.Prelude.{Result};
+/// A type whose values stand in nodes, and take no memory.
+pub trait FromNode: Sized {
+    ghost use Rattle.std.specs.Prelude.{◌≡◌, Result};
     ghost use Rattle.serde_json.specs.Data.{Data};
     ghost use Rattle.serde_json.specs.View.{view};
-    ghost use Rattle.ocpi_json.specs.Faults.{Gives};
     ghost use Rattle.ocpi_json.specs.declared.name.Name.{Name};
 
     // the value that stands in the data, or the name of the member at fault
     ghost at: { Data → Result Self Name };
 
-    fn from_node(alloc: Global, node: &Node) -> Result<Self, FieldFault>
-        ensures { Gives result (at (view node.now)) };
+    fn from_node(node: &Node) -> Result<Self, Name>
+        ensures { result ≡ at (view node.now) };
+}
+
+/// A type whose values stand in nodes, and take memory.
+pub trait FromNodeIn: Sized {
+    ghost use Rattle.std.specs.Prelude.{Result};
+    ghost use Rattle.serde_json.specs.Data.{Data};
+    ghost use Rattle.serde_json.specs.View.{view};
+    ghost use Rattle.ocpi_json.specs.Faults.{Finds};
+    ghost use Rattle.ocpi_json.specs.declared.name.Name.{Name};
+
+    // the value that stands in the data, or the name of the member at fault
+    ghost at: { Data → Result Self Name };
+
+    fn from_node_in(alloc: Global, node: &Node) -> Result<Self, FieldFault>
+        ensures { Finds result (at (view node.now)) };
 }
 
 /// The values that stand in the nodes, in order.
@@ -44,24 +57,48 @@ pub fn read_each<T: FromNode + Drop>(
     alloc: Global,
     nodes: &[Node],
 ) -> Result<Sequence<T>, FieldFault>
-    ensures { Gives result (each T.at (map view nodes.now)) }
+    ensures { Finds result (each T.at (map view nodes.now)) }
 {
     let mut values = Sequence::new(alloc);
     for node in nodes {
-        values.push(T::from_node(alloc, node)?)?;
+        values.push(T::from_node(node)?)?;
+    }
+    Ok(values)
+}
+
+/// The same of a type whose values take memory.
+pub fn read_each_in<T: FromNodeIn + Drop>(
+    alloc: Global,
+    nodes: &[Node],
+) -> Result<Sequence<T>, FieldFault>
+    ensures { Finds result (each T.at (map view nodes.now)) }
+{
+    let mut values = Sequence::new(alloc);
+    for node in nodes {
+        values.push(T::from_node_in(alloc, node)?)?;
     }
     Ok(values)
 }
 
 /// The value that stands in a node, if there is one.
-pub fn read_if_any<T: FromNode + Drop>(
+pub fn read_if_any<T: FromNode + Drop>(found: Option<&Node>) -> Result<Option<T>, Name>
+    ensures { result ≡ if_any T.at (option_map (λ v. view v.now) found.entry) }
+{
+    match found {
+        Some(node) => Ok(Some(T::from_node(node)?)),
+        None => Ok(None),
+    }
+}
+
+/// The same of a type whose values take memory.
+pub fn read_if_any_in<T: FromNodeIn + Drop>(
     alloc: Global,
     found: Option<&Node>,
 ) -> Result<Option<T>, FieldFault>
-    ensures { Gives result (if_any T.at (option_map (λ v. view v.now) found.entry)) }
+    ensures { Finds result (if_any T.at (option_map (λ v. view v.now) found.entry)) }
 {
     match found {
-        Some(node) => Ok(Some(T::from_node(alloc, node)?)),
+        Some(node) => Ok(Some(T::from_node_in(alloc, node)?)),
         None => Ok(None),
     }
 }
@@ -72,27 +109,11 @@ pub fn parsed_each<T: FromText + Drop>(
     nodes: &[Node],
     name: Name,
 ) -> Result<Sequence<T>, FieldFault>
-    ensures { Gives result (each (λ d. or_name name (parsed_of T.of_text d)) (map view nodes.now)) }
+    ensures { Finds result (each (λ d. or_name name (as_parsed T.of_text d)) (map view nodes.now)) }
 {
     let mut values = Sequence::new(alloc);
     for node in nodes {
         values.push(fields::parsed_in(node, name)?)?;
-    }
-    Ok(values)
-}
-
-/// The texts of 1 to `max` printable ASCII characters in a list; the fault names the list.
-pub fn ci_text_each(
-    alloc: Global,
-    nodes: &[Node],
-    name: Name,
-    max: usize,
-) -> Result<Sequence<CiText>, FieldFault>
-    ensures { Gives result (each (λ d. or_name name (ci_of max d)) (map view nodes.now)) }
-{
-    let mut values = Sequence::new(alloc);
-    for node in nodes {
-        values.push(fields::ci_text_in(alloc, node, name, max)?)?;
     }
     Ok(values)
 }

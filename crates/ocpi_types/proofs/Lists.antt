@@ -5,7 +5,7 @@ use Rattle.std.proofs.lemmas.List.{length-map}
 use Rattle.std.proofs.lemmas.Bool.Decides.{nat_tests}
 use Rattle.serde_json.specs.Data.{Data, Items}
 use Rattle.serde_json.specs.Find.{as_array}
-use Rattle.ocpi_json.specs.Fields.{required, list_of, if_between, items_list, member_at}
+use Rattle.ocpi_json.specs.Fields.{required, as_list, if_between, items_list, member_at}
 use Rattle.ocpi_json.specs.Members.{each, or_name, ◌>>=◌}
 use Rattle.ocpi_json.specs.declared.name.Name.{Name}
 
@@ -30,10 +30,10 @@ in_array : (least most : ℕ) (found : Option Items) (items : List Data) → opt
 in_array least most None items h = cc
 in_array least most (Some ds) items h = between least most (items_list ds) items h
 
-in_member : (least most : ℕ) (n : Name) (found : Option Data) (items : List Data) → or_name n found >>= (λ d. or_name n (list_of least most d)) ≡ Ok items → length items ≤ most
+in_member : (least most : ℕ) (n : Name) (found : Option Data) (items : List Data) → or_name n found >>= (λ d. or_name n (as_list least most d)) ≡ Ok items → length items ≤ most
 in_member least most n None items h = cc
-in_member least most n (Some d) items h = in_array least most (as_array d) items (some_from_ok n (list_of least most d) items h)
+in_member least most n (Some d) items h = in_array least most (as_array d) items (some_from_ok n (as_list least most d) items h)
 
 -- a list that is read has at most as many items as it may
-pub list_within : {N : Type 0} (view : N → Data) (least most : ℕ) (n : Name) (node : Data) (nodes : List N) → required (list_of least most) n node ≡ Ok (map view nodes) → length nodes ≤ most
+pub list_within : {N : Type 0} (view : N → Data) (least most : ℕ) (n : Name) (node : Data) (nodes : List N) → required (as_list least most) n node ≡ Ok (map view nodes) → length nodes ≤ most
 list_within view least most n node nodes h = let within = in_member least most n (member_at n node) (map view nodes) h in omega (arith, within, length-map nodes view)

@@ -9,10 +9,11 @@ use Rattle.std.proofs.lemmas.Bool.Decides.{Decides-int_eq}
 use Rattle.std.proofs.lemmas.Slice.Eq.{bytes_eq-Decides}
 use Rattle.ocpi_json.specs.Folded.{folded, same_folded}
 use Rattle.ocpi_types.specs.CdrToken.{same_method}
-use Rattle.ocpi_types.specs.Dimension.{same_kind as same_dimension_kind}
-use Rattle.ocpi_types.specs.SameCdr.{same_cdr_token, same_dimension, same_period, same_cdr, folded_cdr_token, folded_period, folded_cdr}
+use Rattle.ocpi_types.specs.Dimension.{same_dimension_kind}
+use Rattle.ocpi_types.specs.Inner.SameCdr.{same_cdr_token, same_dimension, same_period, same_cdr}
+use Rattle.ocpi_types.specs.SameCdr.{folded_cdr_token, folded_period, folded_cdr}
 use Rattle.ocpi_types.specs.SameTariff.{same_tariff, folded_tariff}
-use Rattle.ocpi_types.specs.TokenKind.{same_kind as same_token_kind}
+use Rattle.ocpi_types.specs.TokenKind.{same_token_kind}
 use Rattle.ocpi_types.specs.declared.cdr.Cdr.{Cdr}
 use Rattle.ocpi_types.specs.declared.cdr_token.AuthMethod.{AuthMethod}
 use Rattle.ocpi_types.specs.declared.cdr_token.AuthMethod.TheVariants.{AuthRequest, Command, Whitelist}

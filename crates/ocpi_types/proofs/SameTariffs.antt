@@ -13,10 +13,11 @@ use Rattle.jiff.specs.Types.{Date, Time, Timestamp}
 use Rattle.jiff.specs.Words.{IsTimestampNanos}
 use Rattle.jiff.proofs.Family.{same_date as date_is, same_time as time_is}
 use Rattle.ocpi_json.specs.Folded.{folded}
-use Rattle.ocpi_types.specs.Component.{same_kind}
+use Rattle.ocpi_types.specs.Component.{same_component_kind}
 use Rattle.ocpi_types.specs.DayOfWeek.{same_day}
 use Rattle.ocpi_types.specs.Party.{same_party}
-use Rattle.ocpi_types.specs.SameTariff.{same_time, same_date, same_instant, same_component, same_bounds, same_restrictions, same_element, same_tariff, folded_party, folded_tariff}
+use Rattle.ocpi_types.specs.Inner.SameTariff.{same_time, same_date, same_instant, same_component, same_bounds, same_restrictions, same_element, same_tariff}
+use Rattle.ocpi_types.specs.SameTariff.{folded_party, folded_tariff}
 use Rattle.ocpi_types.specs.declared.component.ComponentKind.{ComponentKind}
 use Rattle.ocpi_types.specs.declared.component.ComponentKind.TheVariants.{Energy, Flat, ParkingTime, Time as PerTime}
 use Rattle.ocpi_types.specs.declared.component.PriceComponent.{PriceComponent}
@@ -81,7 +82,7 @@ days Saturday Saturday = (λ _. refl, λ _. refl)
 days Sunday Sunday = (λ _. refl, λ _. refl)
 days a b = (λ h. cc, λ e. cc)
 
-kinds : (a b : ComponentKind) → Decides (same_kind a b) (a ≡ b)
+kinds : (a b : ComponentKind) → Decides (same_component_kind a b) (a ≡ b)
 kinds Energy Energy = (λ _. refl, λ _. refl)
 kinds Flat Flat = (λ _. refl, λ _. refl)
 kinds ParkingTime ParkingTime = (λ _. refl, λ _. refl)

@@ -15,9 +15,9 @@ use Rattle.jiff_tz.specs.Zone.{offset_at}
 use Rattle.jiff_tz.specs.declared.posix.DayTime.{DayTime}
 use Rattle.jiff_tz.specs.declared.posix.Dst.{Dst}
 use Rattle.jiff_tz.specs.declared.posix.TimeZone.{TimeZone as Rule}
-use Rattle.ocpi_json.specs.MomentText.{some_if}
+use Rattle.ocpi_json.specs.SomeIf.{some_if}
 use Rattle.ocpi_types.specs.Zone.{◌>>=◌, is_within, offset_of, day_time_of, dst_of, dst_if_any, rule_of, rule_zone_of, nameless_dst, nameless_rule, nameless}
-use Rattle.ocpi_types.specs.ZoneRanges.{offset_in}
+use Rattle.ocpi_types.specs.Inner.ZoneRanges.{offset_in}
 
 some_if-passed : {X : Type 0} (b : Bool) (f : IsTrue b → X) (x : X) → IsTrue b → ((h : IsTrue b) → f h ≡ x) → some_if b f ≡ Some x
 some_if-passed true f x passed same = ap Some (same refl)

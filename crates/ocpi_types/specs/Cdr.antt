@@ -3,7 +3,7 @@ use Rattle.std.specs.Prelude.{ℕ, ℤ, pos, int_le, nat_le, length, List, Bool,
 use Rattle.std.specs.List.{list_all}
 use Rattle.serde_json.specs.Data.{Data}
 use Rattle.serde_json.specs.Find.{as_bool}
-use Rattle.ocpi_json.specs.Fields.{required, optional, ci_of, list_of, list_or_empty, number_of, object_of, parsed_of}
+use Rattle.ocpi_json.specs.Fields.{required, optional, as_ci_text, as_list, list_or_empty, as_number, as_object_node, as_parsed}
 use Rattle.ocpi_json.specs.Members.{◌>>=◌, each}
 use Rattle.ocpi_json.specs.MomentText.{instant_of}
 use Rattle.ocpi_json.specs.declared.name.Name.{Name}
@@ -19,9 +19,9 @@ use Rattle.ocpi_types.specs.declared.cdr_token.CdrToken.{CdrToken}
 use Rattle.ocpi_types.specs.declared.charging_period.ChargingPeriod.{ChargingPeriod}
 use Rattle.ocpi_types.specs.declared.tariff.Tariff.{Tariff}
 
-unfoldable pub token_at : Data → Result CdrToken Name
-token_at node = do
-  object ← required object_of name.CdrToken node
+unfoldable pub session_token_at : Data → Result CdrToken Name
+session_token_at node = do
+  object ← required as_object_node name.CdrToken node
   cdr_token_at object
 
 -- up to 10 tariffs
@@ -33,20 +33,20 @@ tariffs_at node = do
 -- 1 to 1,000 charging periods
 unfoldable pub periods_at : Data → Result (List ChargingPeriod) Name
 periods_at node = do
-  items ← required (list_of 1 1000) name.ChargingPeriods node
+  items ← required (as_list 1 1000) name.ChargingPeriods node
   each period_at items
 
 -- the cost without tax, in millionths of the currency unit (OCPI 2.2.1, Price object)
 unfoldable pub cost_at : Data → Result ℤ Name
 cost_at node = do
-  object ← required object_of name.TotalCost node
-  required number_of name.ExclVat object
+  object ← required as_object_node name.TotalCost node
+  required as_number name.ExclVat object
 
 -- the id of the CDR that a Credit CDR credits, which is read of a Credit CDR alone
 unfoldable pub reference_at : Bool → Data → Result (Option (List ℕ)) Name
 reference_at false node = Ok None
 reference_at true node = do
-  id ← required (ci_of 39) name.CreditReferenceId node
+  id ← required (as_ci_text 39) name.CreditReferenceId node
   Ok (Some id)
 
 unfoldable pub credit_at : Data → Result (Option (List ℕ)) Name
@@ -57,20 +57,20 @@ credit_at node = do
 unfoldable pub members_at : Data → Result Cdr Name
 members_at node = do
   operator ← party_at node
-  id ← required (ci_of 39) name.Id node
-  start_date_time ← required (parsed_of instant_of) name.StartDateTime node
-  end_date_time ← required (parsed_of instant_of) name.EndDateTime node
-  cdr_token ← token_at node
-  auth_method ← required (parsed_of method_of) name.AuthMethod node
-  authorization_reference ← optional (ci_of 36) name.AuthorizationReference node
-  currency ← required (parsed_of currency_of) name.Currency node
+  id ← required (as_ci_text 39) name.Id node
+  start_date_time ← required (as_parsed instant_of) name.StartDateTime node
+  end_date_time ← required (as_parsed instant_of) name.EndDateTime node
+  cdr_token ← session_token_at node
+  auth_method ← required (as_parsed method_of) name.AuthMethod node
+  authorization_reference ← optional (as_ci_text 36) name.AuthorizationReference node
+  currency ← required (as_parsed currency_of) name.Currency node
   tariffs ← tariffs_at node
   charging_periods ← periods_at node
   total_cost ← cost_at node
-  total_energy ← required number_of name.TotalEnergy node
-  total_time ← required number_of name.TotalTime node
+  total_energy ← required as_number name.TotalEnergy node
+  total_time ← required as_number name.TotalTime node
   credit ← credit_at node
-  last_updated ← required (parsed_of instant_of) name.LastUpdated node
+  last_updated ← required (as_parsed instant_of) name.LastUpdated node
   Ok (record {
     operator = operator;
     id = id;

@@ -2,12 +2,12 @@
 use Rattle.std.specs.Prelude.{ℕ, List, Bool, true, false, Option, Some, None, codes, Result, Ok, if◌then◌else◌}
 use Rattle.std.specs.Str.{bytes_eq}
 use Rattle.serde_json.specs.Data.{Data}
-use Rattle.ocpi_json.specs.Fields.{required, ci_of, parsed_of}
+use Rattle.ocpi_json.specs.Fields.{required, as_ci_text, as_parsed}
 use Rattle.ocpi_json.specs.Members.{◌>>=◌}
 use Rattle.ocpi_json.specs.declared.name.Name.{Name}
 use Rattle.ocpi_json.specs.declared.name.Name.TheVariants as name
 use Rattle.ocpi_types.specs.Party.{party_at}
-use Rattle.ocpi_types.specs.TokenKind.{kind_of}
+use Rattle.ocpi_types.specs.TokenKind.{token_kind_of}
 use Rattle.ocpi_types.specs.declared.cdr_token.AuthMethod.{AuthMethod}
 use Rattle.ocpi_types.specs.declared.cdr_token.AuthMethod.TheVariants.{AuthRequest, Command, Whitelist}
 use Rattle.ocpi_types.specs.declared.cdr_token.CdrToken.{CdrToken}
@@ -28,7 +28,7 @@ same_method a b = false
 unfoldable pub cdr_token_at : Data → Result CdrToken Name
 cdr_token_at node = do
   provider ← party_at node
-  uid ← required (ci_of 36) name.Uid node
-  kind ← required (parsed_of kind_of) name.«Type» node
-  contract_id ← required (ci_of 36) name.ContractId node
+  uid ← required (as_ci_text 36) name.Uid node
+  kind ← required (as_parsed token_kind_of) name.«Type» node
+  contract_id ← required (as_ci_text 36) name.ContractId node
   Ok (record { provider = provider; uid = uid; kind = kind; contract_id = contract_id })

@@ -2,7 +2,7 @@
 use Rattle.std.specs.Prelude.{Bool, Result, Ok}
 use Rattle.std.specs.List.{list_all}
 use Rattle.serde_json.specs.Data.{Data}
-use Rattle.ocpi_json.specs.Fields.{required, optional, ci_of, list_of, parsed_of}
+use Rattle.ocpi_json.specs.Fields.{required, optional, as_ci_text, as_list, as_parsed}
 use Rattle.ocpi_json.specs.Members.{◌>>=◌, each}
 use Rattle.ocpi_json.specs.MomentText.{instant_of}
 use Rattle.ocpi_json.specs.declared.name.Name.{Name}
@@ -12,10 +12,10 @@ use Rattle.ocpi_types.specs.declared.charging_period.ChargingPeriod.{ChargingPer
 
 unfoldable pub period_at : Data → Result ChargingPeriod Name
 period_at node = do
-  start_date_time ← required (parsed_of instant_of) name.StartDateTime node
-  items ← required (list_of 1 100) name.Dimensions node
+  start_date_time ← required (as_parsed instant_of) name.StartDateTime node
+  items ← required (as_list 1 100) name.Dimensions node
   dimensions ← each dimension_at items
-  tariff_id ← optional (ci_of 36) name.TariffId node
+  tariff_id ← optional (as_ci_text 36) name.TariffId node
   Ok (record { start_date_time = start_date_time; dimensions = dimensions; tariff_id = tariff_id })
 
 -- no volume of energy or time is below 0

@@ -17,8 +17,8 @@ from_field (field.Field n) = Member n
 from_field field.NoMemory = NoMemory
 
 -- what a reader gives is what was found, unless memory ran out
-abbrev pub Reads : Result Config ConfigFault → Result Config ConfigFault → Type 0
-Reads (Ok config) found = found ≡ Ok config
-Reads (Err Syntax) found = found ≡ Err Syntax
-Reads (Err (Member n)) found = found ≡ Err (Member n)
-Reads (Err NoMemory) found = Unit {0}
+abbrev pub ReadsConfig : Result Config ConfigFault → Result Config ConfigFault → Type 0
+ReadsConfig (Ok config) found = found ≡ Ok config
+ReadsConfig (Err Syntax) found = found ≡ Err Syntax
+ReadsConfig (Err (Member n)) found = found ≡ Err (Member n)
+ReadsConfig (Err NoMemory) found = Unit {0}

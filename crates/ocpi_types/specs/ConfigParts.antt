@@ -3,7 +3,7 @@
 use Rattle.std.specs.Prelude.{ℕ, List, Bool, false, ◌||◌, Result, Ok, is_some, unwrap_or}
 use Rattle.serde_json.specs.Data.{Data}
 use Rattle.serde_json.specs.Find.{as_bool}
-use Rattle.ocpi_json.specs.Fields.{required, optional, ci_of, parsed_of, whole_of, list_or_empty}
+use Rattle.ocpi_json.specs.Fields.{required, optional, as_ci_text, as_parsed, as_whole, list_or_empty}
 use Rattle.ocpi_json.specs.Members.{◌>>=◌, each, or_name}
 use Rattle.ocpi_json.specs.declared.name.Name.{Name}
 use Rattle.ocpi_json.specs.declared.name.Name.TheVariants as name
@@ -26,19 +26,19 @@ use Rattle.ocpi_types.specs.declared.config.parts.Known.{Known}
 
 unfoldable pub currency_at : List (List ℕ) → Data → Result (List ℕ) Name
 currency_at currencies node = do
-  currency ← required (parsed_of currency_of) name.Currency node
+  currency ← required (as_parsed currency_of) name.Currency node
   _ ← ensure (has_currency_among currencies currency) name.Currency
   Ok currency
 
 unfoldable pub operator_at : Known → Data → Result Party Name
 operator_at known node = do
-  operator ← required (parsed_of party_of) name.Operator node
+  operator ← required (as_parsed party_of) name.Operator node
   _ ← ensure (is_some (operator_among known.operators operator)) name.Operator
   Ok operator
 
 unfoldable pub provider_at : Known → Data → Result Party Name
 provider_at known node = do
-  provider ← required (parsed_of party_of) name.Provider node
+  provider ← required (as_parsed party_of) name.Provider node
   _ ← ensure (is_some (provider_among known.providers provider)) name.Provider
   Ok provider
 
@@ -48,37 +48,37 @@ has_party known party = is_some (operator_among known.operators party) || is_som
 -- an item of a platform's list of parties
 unfoldable pub platform_party_at : Known → Data → Result Party Name
 platform_party_at known d = do
-  party ← or_name name.Parties (parsed_of party_of d)
+  party ← or_name name.Parties (as_parsed party_of d)
   _ ← ensure (has_party known party) name.Parties
   Ok party
 
--- ---- items of the lists
+-- ---- items of the lists: a provider may have as many limits and a platform as many parties as a text has room for
 
 unfoldable pub operator_entry_at : Data → Result Operator Name
 operator_entry_at node = do
-  party ← required (parsed_of party_of) name.Party node
-  zone ← required (parsed_of zone_of) name.Zone node
+  party ← required (as_parsed party_of) name.Party node
+  zone ← required (as_parsed zone_of) name.Zone node
   Ok (record { party = party; zone = zone })
 
 unfoldable pub provider_limit_at : List (List ℕ) → Data → Result ProviderLimit Name
 provider_limit_at currencies node = do
   currency ← currency_at currencies node
-  limit ← required (whole_of 0 1_000_000_000_000_000) name.Limit node
-  hold ← required (whole_of 1 1_000_000_000_000) name.Hold node
+  limit ← required (as_whole 0 1_000_000_000_000_000) name.Limit node
+  hold ← required (as_whole 1 1_000_000_000_000) name.Hold node
   Ok (record { currency = currency; limit = limit; hold = hold })
 
 unfoldable pub provider_entry_at : List (List ℕ) → Data → Result Provider Name
 provider_entry_at currencies node = do
-  party ← required (parsed_of party_of) name.Party node
-  items ← list_or_empty 16 name.Limits node
+  party ← required (as_parsed party_of) name.Party node
+  items ← list_or_empty 1_048_576 name.Limits node
   limits ← each (provider_limit_at currencies) items
   _ ← ensure (all_different alike_rows limits) name.Limits
   Ok (record { party = party; limits = limits })
 
 unfoldable pub platform_at : Known → Data → Result Platform Name
 platform_at known node = do
-  called ← required (ci_of 36) name.Name node
-  items ← list_or_empty 128 name.Parties node
+  called ← required (as_ci_text 36) name.Name node
+  items ← list_or_empty 1_048_576 name.Parties node
   parties ← each (platform_party_at known) items
   hub ← optional as_bool name.Hub node
   Ok (record { name = called; parties = parties; hub = unwrap_or hub false })
@@ -88,7 +88,7 @@ pair_limit_at known node = do
   operator ← operator_at known node
   provider ← provider_at known node
   currency ← currency_at known.currencies node
-  limit ← required (whole_of 0 1_000_000_000_000_000) name.Limit node
+  limit ← required (as_whole 0 1_000_000_000_000_000) name.Limit node
   Ok (record { operator = operator; provider = provider; currency = currency; limit = limit })
 
 -- ---- how many of each the house keeps
@@ -98,11 +98,11 @@ largest = record { cdrs = 100_000; tariffs = 10_000; entries = 10_000_000; order
 
 unfoldable pub limits_at : Data → Result Limits Name
 limits_at node = do
-  cdrs ← optional (whole_of 1 100_000) name.Cdrs node
-  tariffs ← optional (whole_of 1 10_000) name.Tariffs node
-  entries ← optional (whole_of 1 10_000_000) name.Entries node
-  order ← optional (whole_of 1 10_000_000) name.Order node
-  periods ← optional (whole_of 1 10_000) name.Periods node
+  cdrs ← optional (as_whole 1 100_000) name.Cdrs node
+  tariffs ← optional (as_whole 1 10_000) name.Tariffs node
+  entries ← optional (as_whole 1 10_000_000) name.Entries node
+  order ← optional (as_whole 1 10_000_000) name.Order node
+  periods ← optional (as_whole 1 10_000) name.Periods node
   Ok (record {
     cdrs = unwrap_or cdrs 100_000;
     tariffs = unwrap_or tariffs 10_000;

@@ -2,7 +2,7 @@
 -- the first in this order. Members not named here are passed over.
 use Rattle.std.specs.Prelude.{ℕ, List, [], length, ◌==◌, nat_le, if◌then◌else◌, Option, Some, None, Result, Ok, Err, unwrap_or}
 use Rattle.serde_json.specs.Data.{Data}
-use Rattle.ocpi_json.specs.Fields.{required, optional, object_of, parsed_of, whole_of, list_of, list_or_empty}
+use Rattle.ocpi_json.specs.Fields.{required, optional, as_object_node, as_parsed, as_whole, as_list, list_or_empty}
 use Rattle.ocpi_json.specs.Members.{◌>>=◌, each, if_any, or_name}
 use Rattle.ocpi_json.specs.Reading.{data_of}
 use Rattle.ocpi_json.specs.declared.name.Name.{Name}
@@ -25,15 +25,15 @@ use Rattle.ocpi_types.specs.declared.config.reading.ConfigFault.TheVariants.{Syn
 -- 1 to 16 currencies
 unfoldable pub currencies_at : Data → Result (List (List ℕ)) Name
 currencies_at node = do
-  items ← required (list_of 1 16) name.Currencies node
-  currencies ← each (λ d. or_name name.Currencies (parsed_of currency_of d)) items
+  items ← required (as_list 1 16) name.Currencies node
+  currencies ← each (λ d. or_name name.Currencies (as_parsed currency_of d)) items
   _ ← ensure (all_different same_currency currencies) name.Currencies
   Ok currencies
 
 -- 1 to 64 operators
 unfoldable pub operators_at : Data → Result (List Operator) Name
 operators_at node = do
-  items ← required (list_of 1 64) name.Operators node
+  items ← required (as_list 1 64) name.Operators node
   operators ← each operator_entry_at items
   _ ← ensure (all_different alike_operators operators) name.Operators
   Ok operators
@@ -41,15 +41,23 @@ operators_at node = do
 -- 1 to 64 providers
 unfoldable pub providers_at : List (List ℕ) → Data → Result (List Provider) Name
 providers_at currencies node = do
-  items ← required (list_of 1 64) name.Providers node
+  items ← required (as_list 1 64) name.Providers node
   providers ← each (provider_entry_at currencies) items
   _ ← ensure (all_different alike_providers providers) name.Providers
   Ok providers
 
+-- the currencies and parties, which the other parts name
+unfoldable pub known_at : Data → Result Known Name
+known_at node = do
+  currencies ← currencies_at node
+  operators ← operators_at node
+  providers ← providers_at currencies node
+  Ok (record { currencies = currencies; operators = operators; providers = providers })
+
 -- 1 to 128 platforms
 unfoldable pub platforms_at : Known → Data → Result (List Platform) Name
 platforms_at known node = do
-  items ← required (list_of 1 128) name.Platforms node
+  items ← required (as_list 1 128) name.Platforms node
   platforms ← each (platform_at known) items
   _ ← ensure (all_different alike_platforms platforms) name.Platforms
   Ok platforms
@@ -57,7 +65,7 @@ platforms_at known node = do
 -- how many of each the house keeps: as many as there may be, where nothing is said
 unfoldable pub house_limits_at : Data → Result Limits Name
 house_limits_at node = do
-  found ← optional object_of name.Limits node
+  found ← optional as_object_node name.Limits node
   limits ← if_any limits_at found
   Ok (unwrap_or limits largest)
 
@@ -74,25 +82,22 @@ pair_limits_at version known node = if version == 2 then stated_pair_limits_at k
 
 -- the credit window, which version 2 brought
 unfoldable pub credit_window_at : ℕ → Data → Result (Option ℕ) Name
-credit_window_at version node = if version == 2 then optional (whole_of 0 10_000) name.CreditWindow node else Ok None
+credit_window_at version node = if version == 2 then optional (as_whole 0 10_000) name.CreditWindow node else Ok None
 
 unfoldable pub config_at : Data → Result Config Name
 config_at node = do
-  version ← required (whole_of 1 2) name.Version node
-  tolerance ← optional (whole_of 0 1_000_000_000_000) name.Tolerance node
-  currencies ← currencies_at node
-  operators ← operators_at node
-  providers ← providers_at currencies node
-  let known : Known = record { currencies = currencies; operators = operators; providers = providers }
+  version ← required (as_whole 1 2) name.Version node
+  tolerance ← optional (as_whole 0 1_000_000_000_000) name.Tolerance node
+  known ← known_at node
   platforms ← platforms_at known node
   limits ← house_limits_at node
   pair_limits ← pair_limits_at version known node
   credit_window ← credit_window_at version node
   Ok (record {
     tolerance = unwrap_or tolerance 100;
-    currencies = currencies;
-    operators = operators;
-    providers = providers;
+    currencies = known.currencies;
+    operators = known.operators;
+    providers = known.providers;
     platforms = platforms;
     limits = limits;
     pair_limits = pair_limits;

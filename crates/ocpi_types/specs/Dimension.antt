@@ -2,7 +2,7 @@
 use Rattle.std.specs.Prelude.{ℕ, ℤ, pos, int_le, List, Bool, true, false, codes, Result, Ok, if◌then◌else◌}
 use Rattle.std.specs.Str.{bytes_eq}
 use Rattle.serde_json.specs.Data.{Data}
-use Rattle.ocpi_json.specs.Fields.{required, text_of, number_of}
+use Rattle.ocpi_json.specs.Fields.{required, as_text, as_number}
 use Rattle.ocpi_json.specs.Members.{◌>>=◌}
 use Rattle.ocpi_json.specs.declared.name.Name.{Name}
 use Rattle.ocpi_json.specs.declared.name.Name.TheVariants as name
@@ -11,37 +11,40 @@ use Rattle.ocpi_types.specs.declared.dimension.DimensionKind.{DimensionKind}
 use Rattle.ocpi_types.specs.declared.dimension.DimensionKind.TheVariants.{Energy, ParkingTime, ReservationTime, Time, Other}
 
 -- the kind that a text names (OCPI 2.2.1, CdrDimensionType enum); every other text is kept
-abbrev pub kind_of : List ℕ → DimensionKind
-kind_of text =
+abbrev pub dimension_kind_of : List ℕ → DimensionKind
+dimension_kind_of text =
     if bytes_eq text (codes "ENERGY") then Energy
     else (if bytes_eq text (codes "PARKING_TIME") then ParkingTime
     else (if bytes_eq text (codes "RESERVATION_TIME") then ReservationTime
     else (if bytes_eq text (codes "TIME") then Time else Other text)))
 
 -- the same kind; the texts of other kinds are compared byte by byte
-abbrev pub same_kind : DimensionKind → DimensionKind → Bool
-same_kind Energy Energy = true
-same_kind ParkingTime ParkingTime = true
-same_kind ReservationTime ReservationTime = true
-same_kind Time Time = true
-same_kind (Other a) (Other b) = bytes_eq a b
-same_kind a b = false
+abbrev pub same_dimension_kind : DimensionKind → DimensionKind → Bool
+same_dimension_kind Energy Energy = true
+same_dimension_kind ParkingTime ParkingTime = true
+same_dimension_kind ReservationTime ReservationTime = true
+same_dimension_kind Time Time = true
+same_dimension_kind (Other a) (Other b) = bytes_eq a b
+same_dimension_kind a b = false
 
-unfoldable pub kind_at : Data → Result DimensionKind Name
-kind_at node = do
-  text ← required text_of name.«Type» node
-  Ok (kind_of text)
+unfoldable pub dimension_kind_at : Data → Result DimensionKind Name
+dimension_kind_at node = do
+  text ← required as_text name.«Type» node
+  Ok (dimension_kind_of text)
 
 unfoldable pub dimension_at : Data → Result Dimension Name
 dimension_at node = do
-  kind ← kind_at node
-  volume ← required number_of name.Volume node
+  kind ← dimension_kind_at node
+  volume ← required as_number name.Volume node
   Ok (record { kind = kind; volume = volume })
 
 -- a volume of energy or time is at least 0; others may be below
 abbrev pub is_in_range_of : DimensionKind → ℤ → Bool
+is_in_range_of Energy volume = int_le (pos 0) volume
+is_in_range_of ParkingTime volume = int_le (pos 0) volume
+is_in_range_of ReservationTime volume = int_le (pos 0) volume
+is_in_range_of Time volume = int_le (pos 0) volume
 is_in_range_of (Other text) volume = true
-is_in_range_of kind volume = int_le (pos 0) volume
 
 abbrev pub is_in_range : Dimension → Bool
 is_in_range dimension = is_in_range_of dimension.kind dimension.volume

@@ -11,6 +11,7 @@ pub mod DayOfWeek
 pub mod Different
 pub mod Dimension
 pub mod Element
+pub mod Inner
 pub mod Members
 pub mod Party
 pub mod Refusal
@@ -21,4 +22,3 @@ pub mod Tariff
 pub mod Token
 pub mod TokenKind
 pub mod Zone
-pub mod ZoneRanges

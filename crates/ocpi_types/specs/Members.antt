@@ -1,7 +1,7 @@
 -- Kinds of members, and checks between the members of an object.
 use Rattle.std.specs.Prelude.{ℕ, Bool, true, false, Option, option_map, Result, Ok, Err, unsigned_abs}
 use Rattle.serde_json.specs.Data.{Data}
-use Rattle.ocpi_json.specs.Fields.{unsigned_of}
+use Rattle.ocpi_json.specs.Fields.{as_unsigned}
 use Rattle.ocpi_json.specs.declared.name.Name.{Name}
 
 -- nothing where it holds, and else the name of the member at fault
@@ -10,5 +10,5 @@ ensure true n = Ok tt
 ensure false n = Err n
 
 -- a number of at least 0, in millionths
-abbrev pub quantity_of : Data → Option ℕ
-quantity_of d = option_map unsigned_abs (unsigned_of d)
+abbrev pub as_quantity : Data → Option ℕ
+as_quantity d = option_map unsigned_abs (as_unsigned d)

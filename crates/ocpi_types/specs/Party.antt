@@ -3,7 +3,7 @@ use Rattle.std.specs.Prelude.{ℕ, List, length, take, drop, slice_index, ◌==�
 use Rattle.std.specs.Char.{is_ascii_alphabetic, is_ascii_alphanumeric}
 use Rattle.std.specs.List.{list_all}
 use Rattle.serde_json.specs.Data.{Data}
-use Rattle.ocpi_json.specs.Fields.{required, ci_of}
+use Rattle.ocpi_json.specs.Fields.{required, as_ci_text}
 use Rattle.ocpi_json.specs.Folded.{same_folded}
 use Rattle.ocpi_json.specs.Members.{◌>>=◌}
 use Rattle.ocpi_json.specs.declared.name.Name.{Name}
@@ -27,6 +27,6 @@ party_of text = if is_party text then Some (record { country_code = take 2 text;
 -- the party of an object (OCPI 2.2.1, the objects Token, Tariff, CDR and CdrToken)
 unfoldable pub party_at : Data → Result Party Name
 party_at node = do
-  country_code ← required (ci_of 2) name.CountryCode node
-  party_id ← required (ci_of 3) name.PartyId node
+  country_code ← required (as_ci_text 2) name.CountryCode node
+  party_id ← required (as_ci_text 3) name.PartyId node
   Ok (record { country_code = country_code; party_id = party_id })

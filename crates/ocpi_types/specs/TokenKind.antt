@@ -4,16 +4,16 @@ use Rattle.std.specs.Str.{bytes_eq}
 use Rattle.ocpi_types.specs.declared.token.TokenKind.{TokenKind}
 use Rattle.ocpi_types.specs.declared.token.TokenKind.TheVariants.{AdHocUser, AppUser, Other, Rfid}
 
-abbrev pub same_kind : TokenKind → TokenKind → Bool
-same_kind AdHocUser AdHocUser = true
-same_kind AppUser AppUser = true
-same_kind Other Other = true
-same_kind Rfid Rfid = true
-same_kind a b = false
+abbrev pub same_token_kind : TokenKind → TokenKind → Bool
+same_token_kind AdHocUser AdHocUser = true
+same_token_kind AppUser AppUser = true
+same_token_kind Other Other = true
+same_token_kind Rfid Rfid = true
+same_token_kind a b = false
 
 -- the type that a text names
-abbrev pub kind_of : List ℕ → Option TokenKind
-kind_of text =
+abbrev pub token_kind_of : List ℕ → Option TokenKind
+token_kind_of text =
     if bytes_eq text (codes "AD_HOC_USER") then Some AdHocUser
     else (if bytes_eq text (codes "APP_USER") then Some AppUser
     else (if bytes_eq text (codes "OTHER") then Some Other

@@ -12,8 +12,8 @@ use Rattle.jiff_tz.specs.declared.posix.Day.{Day}
 use Rattle.jiff_tz.specs.declared.posix.DayTime.{DayTime}
 use Rattle.jiff_tz.specs.declared.posix.Dst.{Dst}
 use Rattle.jiff_tz.specs.declared.posix.TimeZone.{TimeZone as Rule}
-use Rattle.ocpi_json.specs.MomentText.{some_if}
-use Rattle.ocpi_types.specs.ZoneRanges as range
+use Rattle.ocpi_json.specs.SomeIf.{some_if}
+use Rattle.ocpi_types.specs.Inner.ZoneRanges as range
 
 infixl 10 ◌>>=◌
 abbrev pub ◌>>=◌ : {A B : Type 0} → Option A → (A → Option B) → Option B

@@ -22,6 +22,12 @@ impl<const MOST: u64> Model for AtMost<MOST> {
 }
 
 impl<const MOST: u64> Clone for AtMost<MOST> {
+    ghost use Rattle.std.specs.Prelude.{◌≡◌, ⊤};
+
+    ghost is_clone = { λ x y. y ≡ x };
+
+    ghost is_infallible = { λ _. ⊤ };
+
     fn clone(&self) -> Result<AtMost<MOST>, AllocError> {
         Ok(*self)
     }

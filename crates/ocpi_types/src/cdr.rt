@@ -1,12 +1,13 @@
 ghost use Rattle.std.specs.Prelude.{◌≡◌};
 ghost use Rattle.std.specs.List.{list_all};
 ghost use Rattle.serde_json.specs.View.{view};
-ghost use Rattle.ocpi_json.specs.Faults.{Gives};
-ghost use Rattle.ocpi_types.specs.Cdr.{cost_at, credit_at, members_at, periods_at, reference_at, tariffs_at, token_at};
+ghost use Rattle.ocpi_json.specs.Faults.{Finds};
+ghost use Rattle.ocpi_types.specs.Cdr.{cost_at, credit_at, members_at, periods_at, reference_at, session_token_at, tariffs_at};
 ghost use Rattle.ocpi_types.specs.ChargingPeriod.{has_volumes_in_range};
+ghost use Rattle.ocpi_types.specs.Inner.CdrParts.{opening_at, authorised_at, totals_at, cdr_in_parts};
 
 use super::cdr_token::{AuthMethod, CdrToken};
-use super::charging_period::{ChargingPeriod, copy_ci_text};
+use super::charging_period::ChargingPeriod;
 use super::copying::TryCopy;
 use super::currency::Currency;
 use super::members::{self, ensure};
@@ -19,7 +20,7 @@ use ocpi_json::Node;
 use ocpi_json::ci_text::CiText;
 use ocpi_json::fields::{self, FieldFault};
 use ocpi_json::name::Name;
-use ocpi_json::objects::{FromNode, read_each};
+use ocpi_json::objects::{FromNode, FromNodeIn, read_each_in};
 use ocpi_json::sequence::Sequence;
 use std::alloc::{AllocError, Global};
 
@@ -27,12 +28,12 @@ use std::alloc::{AllocError, Global};
 #[derive(Drop)]
 pub struct Cdr {
     pub operator: Party,
-    pub id: CiText,
+    pub id: CiText<39>,
     pub start_date_time: Timestamp,
     pub end_date_time: Timestamp,
     pub cdr_token: CdrToken,
     pub auth_method: AuthMethod,
-    pub authorization_reference: Option<CiText>,
+    pub authorization_reference: Option<CiText<36>>,
     pub currency: Currency,
     pub tariffs: Sequence<Tariff>,
     pub charging_periods: UpTo<ChargingPeriod, 1000>,
@@ -43,44 +44,44 @@ pub struct Cdr {
     /// In millionths of an hour.
     pub total_time: Millionths,
     /// The id of the CDR that a Credit CDR credits; none where this is no Credit CDR.
-    pub credit: Option<CiText>,
+    pub credit: Option<CiText<39>>,
     pub last_updated: Timestamp,
 }
 
-#[tactic(auto, unfolding(crate::specs::Cdr::token_at))]
-fn read_token(alloc: Global, node: &Node) -> Result<CdrToken, FieldFault>
-    ensures { Gives result (token_at (view node.now)) }
+#[tactic(auto, unfolding(crate::specs::Cdr::session_token_at))]
+fn read_session_token(node: &Node) -> Result<CdrToken, Name>
+    ensures { result ≡ session_token_at (view node.now) }
 {
-    CdrToken::from_node(alloc, fields::object(node, Name::CdrToken)?)
+    CdrToken::from_node(fields::object(node, Name::CdrToken)?)
 }
 
 #[tactic(auto, unfolding(crate::specs::Cdr::tariffs_at))]
 fn read_tariffs(alloc: Global, node: &Node) -> Result<Sequence<Tariff>, FieldFault>
-    ensures { Gives result (tariffs_at (view node.now)) }
+    ensures { Finds result (tariffs_at (view node.now)) }
 {
-    read_each(alloc, fields::list_or_empty(node, Name::Tariffs, 10)?)
+    read_each_in(alloc, fields::list_or_empty(node, Name::Tariffs, 10)?)
 }
 
 #[tactic(auto, unfolding(crate::specs::Cdr::periods_at))]
 fn read_periods(alloc: Global, node: &Node) -> Result<UpTo<ChargingPeriod, 1000>, FieldFault>
-    ensures { Gives result (periods_at (view node.now)) }
+    ensures { Finds result (periods_at (view node.now)) }
 {
     read_up_to(alloc, fields::list(node, Name::ChargingPeriods, 1, 1000)?)
 }
 
 #[tactic(auto, unfolding(crate::specs::Cdr::cost_at))]
-fn read_cost(node: &Node) -> Result<Millionths, FieldFault>
-    ensures { Gives result (cost_at (view node.now)) }
+fn read_cost(node: &Node) -> Result<Millionths, Name>
+    ensures { result ≡ cost_at (view node.now) }
 {
     fields::number(fields::object(node, Name::TotalCost)?, Name::ExclVat)
 }
 
 #[tactic(auto, unfolding(crate::specs::Cdr::reference_at))]
-fn read_reference(alloc: Global, is_credit: bool, node: &Node) -> Result<Option<CiText>, FieldFault>
-    ensures { Gives result (reference_at is_credit (view node.now)) }
+fn read_reference(is_credit: bool, node: &Node) -> Result<Option<CiText<39>>, Name>
+    ensures { result ≡ reference_at is_credit (view node.now) }
 {
     if is_credit {
-        let id = fields::ci_text(alloc, node, Name::CreditReferenceId, 39)?;
+        let id = fields::ci_text(node, Name::CreditReferenceId)?;
         Ok(Some(id))
     } else {
         Ok(None)
@@ -88,54 +89,123 @@ fn read_reference(alloc: Global, is_credit: bool, node: &Node) -> Result<Option<
 }
 
 #[tactic(auto, unfolding(crate::specs::Cdr::credit_at))]
-fn read_credit(alloc: Global, node: &Node) -> Result<Option<CiText>, FieldFault>
-    ensures { Gives result (credit_at (view node.now)) }
+fn read_credit(node: &Node) -> Result<Option<CiText<39>>, Name>
+    ensures { result ≡ credit_at (view node.now) }
 {
     let is_credit = fields::flag_or_none(node, Name::Credit)?.unwrap_or(false);
-    read_reference(alloc, is_credit, node)
+    read_reference(is_credit, node)
 }
 
-#[tactic(auto, unfolding(crate::specs::Cdr::members_at))]
-fn read_members(alloc: Global, node: &Node) -> Result<Cdr, FieldFault>
-    ensures { Gives result (members_at (view node.now)) }
+/// Whose the CDR is, and when its session was.
+#[derive(Clone, Copy)]
+struct Opening {
+    operator: Party,
+    id: CiText<39>,
+    start_date_time: Timestamp,
+    end_date_time: Timestamp,
+}
+
+/// Who charged, by which authorisation.
+#[derive(Clone, Copy)]
+struct Authorised {
+    cdr_token: CdrToken,
+    auth_method: AuthMethod,
+    authorization_reference: Option<CiText<36>>,
+    currency: Currency,
+}
+
+/// The totals, and what stands behind them.
+#[derive(Clone, Copy)]
+struct Totals {
+    total_cost: Millionths,
+    total_energy: Millionths,
+    total_time: Millionths,
+    credit: Option<CiText<39>>,
+    last_updated: Timestamp,
+}
+
+#[tactic(auto, unfolding(crate::specs::Inner::CdrParts::opening_at))]
+fn read_opening(node: &Node) -> Result<Opening, Name>
+    ensures { result ≡ opening_at (view node.now) }
 {
-    let operator = Party::from_node(alloc, node)?;
-    let id = fields::ci_text(alloc, node, Name::Id, 39)?;
+    let operator = Party::from_node(node)?;
+    let id = fields::ci_text(node, Name::Id)?;
     let start_date_time = fields::instant(node, Name::StartDateTime)?;
     let end_date_time = fields::instant(node, Name::EndDateTime)?;
-    let cdr_token = read_token(alloc, node)?;
-    let auth_method = fields::parsed(node, Name::AuthMethod)?;
-    let authorization_reference = fields::ci_text_or_none(
-        alloc,
-        node,
-        Name::AuthorizationReference,
-        36,
-    )?;
-    let currency = members::currency(node, Name::Currency)?;
-    let tariffs = read_tariffs(alloc, node)?;
-    let charging_periods = read_periods(alloc, node)?;
-    let total_cost = read_cost(node)?;
-    let total_energy = fields::number(node, Name::TotalEnergy)?;
-    let total_time = fields::number(node, Name::TotalTime)?;
-    let credit = read_credit(alloc, node)?;
-    let last_updated = fields::instant(node, Name::LastUpdated)?;
-    Ok(Cdr {
+    Ok(Opening {
         operator,
         id,
         start_date_time,
         end_date_time,
+    })
+}
+
+#[tactic(auto, unfolding(crate::specs::Inner::CdrParts::authorised_at))]
+fn read_authorised(node: &Node) -> Result<Authorised, Name>
+    ensures { result ≡ authorised_at (view node.now) }
+{
+    let cdr_token = read_session_token(node)?;
+    let auth_method = fields::parsed(node, Name::AuthMethod)?;
+    let authorization_reference = fields::ci_text_or_none(node, Name::AuthorizationReference)?;
+    let currency = members::currency(node, Name::Currency)?;
+    Ok(Authorised {
         cdr_token,
         auth_method,
         authorization_reference,
         currency,
-        tariffs,
-        charging_periods,
+    })
+}
+
+#[tactic(auto, unfolding(crate::specs::Inner::CdrParts::totals_at))]
+fn read_totals(node: &Node) -> Result<Totals, Name>
+    ensures { result ≡ totals_at (view node.now) }
+{
+    let total_cost = read_cost(node)?;
+    let total_energy = fields::number(node, Name::TotalEnergy)?;
+    let total_time = fields::number(node, Name::TotalTime)?;
+    let credit = read_credit(node)?;
+    let last_updated = fields::instant(node, Name::LastUpdated)?;
+    Ok(Totals {
         total_cost,
         total_energy,
         total_time,
         credit,
         last_updated,
     })
+}
+
+#[tactic(auto, unfolding(crate::specs::Inner::CdrParts::cdr_in_parts))]
+fn read_parts(alloc: Global, node: &Node) -> Result<Cdr, FieldFault>
+    ensures { Finds result (cdr_in_parts (view node.now)) }
+{
+    let opening = read_opening(node)?;
+    let authorised = read_authorised(node)?;
+    let tariffs = read_tariffs(alloc, node)?;
+    let charging_periods = read_periods(alloc, node)?;
+    let totals = read_totals(node)?;
+    Ok(Cdr {
+        operator: opening.operator,
+        id: opening.id,
+        start_date_time: opening.start_date_time,
+        end_date_time: opening.end_date_time,
+        cdr_token: authorised.cdr_token,
+        auth_method: authorised.auth_method,
+        authorization_reference: authorised.authorization_reference,
+        currency: authorised.currency,
+        tariffs,
+        charging_periods,
+        total_cost: totals.total_cost,
+        total_energy: totals.total_energy,
+        total_time: totals.total_time,
+        credit: totals.credit,
+        last_updated: totals.last_updated,
+    })
+}
+
+fn read_members(alloc: Global, node: &Node) -> Result<Cdr, FieldFault>
+    ensures { Finds result (members_at (view node.now)) }
+{
+    read_parts(alloc, node)
 }
 
 fn have_volumes_in_range(periods: &[ChargingPeriod]) -> bool
@@ -176,13 +246,13 @@ impl Cdr {
     }
 }
 
-impl FromNode for Cdr {
+impl FromNodeIn for Cdr {
     ghost use Rattle.ocpi_types.specs.Cdr.{cdr_at};
 
     ghost at = { cdr_at };
 
     #[tactic(auto, unfolding(crate::specs::Cdr::cdr_at))]
-    fn from_node(alloc: Global, node: &Node) -> Result<Cdr, FieldFault> {
+    fn from_node_in(alloc: Global, node: &Node) -> Result<Cdr, FieldFault> {
         let cdr = read_members(alloc, node)?;
         ensure(cdr.has_id_in_range(), Name::Id)?;
         ensure(cdr.has_volumes_in_range(), Name::Volume)?;
@@ -193,28 +263,23 @@ impl FromNode for Cdr {
 
 impl TryCopy for Cdr {
     fn copy(&self, alloc: Global) -> Result<Cdr, AllocError> {
-        let operator = self.operator.copy(alloc)?;
-        let id = self.id.copy(alloc)?;
-        let cdr_token = self.cdr_token.copy(alloc)?;
-        let authorization_reference = copy_ci_text(alloc, &self.authorization_reference)?;
         let tariffs = self.tariffs.copy(alloc)?;
         let charging_periods = self.charging_periods.copy(alloc)?;
-        let credit = copy_ci_text(alloc, &self.credit)?;
         Ok(Cdr {
-            operator,
-            id,
+            operator: self.operator,
+            id: self.id,
             start_date_time: self.start_date_time,
             end_date_time: self.end_date_time,
-            cdr_token,
+            cdr_token: self.cdr_token,
             auth_method: self.auth_method,
-            authorization_reference,
+            authorization_reference: self.authorization_reference,
             currency: self.currency,
             tariffs,
             charging_periods,
             total_cost: self.total_cost,
             total_energy: self.total_energy,
             total_time: self.total_time,
-            credit,
+            credit: self.credit,
             last_updated: self.last_updated,
         })
     }

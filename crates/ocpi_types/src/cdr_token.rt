@@ -1,12 +1,9 @@
-use super::copying::TryCopy;
 use super::party::Party;
 use super::token::TokenKind;
-use ocpi_json::Node;
 use ocpi_json::ci_text::CiText;
-use ocpi_json::fields::{self, FieldFault};
 use ocpi_json::name::Name;
 use ocpi_json::objects::{FromNode, FromText};
-use std::alloc::{AllocError, Global};
+use ocpi_json::{Node, fields};
 
 /// How a session was authorised (OCPI 2.2.1, AuthMethod enum).
 #[derive(Clone, Copy, Debug, PartialEq, Eq)]
@@ -17,12 +14,12 @@ pub enum AuthMethod {
 }
 
 /// The token that a session was charged with (OCPI 2.2.1, CdrToken object). Its `type` is the field `kind`.
-#[derive(Drop)]
+#[derive(Clone, Copy)]
 pub struct CdrToken {
     pub provider: Party,
-    pub uid: CiText,
+    pub uid: CiText<36>,
     pub kind: TokenKind,
-    pub contract_id: CiText,
+    pub contract_id: CiText<36>,
 }
 
 impl FromText for AuthMethod {
@@ -46,29 +43,15 @@ impl FromNode for CdrToken {
     ghost at = { cdr_token_at };
 
     #[tactic(auto, unfolding(crate::specs::CdrToken::cdr_token_at))]
-    fn from_node(alloc: Global, node: &Node) -> Result<CdrToken, FieldFault> {
-        let provider = Party::from_node(alloc, node)?;
-        let uid = fields::ci_text(alloc, node, Name::Uid, 36)?;
+    fn from_node(node: &Node) -> Result<CdrToken, Name> {
+        let provider = Party::from_node(node)?;
+        let uid = fields::ci_text(node, Name::Uid)?;
         let kind = fields::parsed(node, Name::Type)?;
-        let contract_id = fields::ci_text(alloc, node, Name::ContractId, 36)?;
+        let contract_id = fields::ci_text(node, Name::ContractId)?;
         Ok(CdrToken {
             provider,
             uid,
             kind,
-            contract_id,
-        })
-    }
-}
-
-impl TryCopy for CdrToken {
-    fn copy(&self, alloc: Global) -> Result<CdrToken, AllocError> {
-        let provider = self.provider.copy(alloc)?;
-        let uid = self.uid.copy(alloc)?;
-        let contract_id = self.contract_id.copy(alloc)?;
-        Ok(CdrToken {
-            provider,
-            uid,
-            kind: self.kind,
             contract_id,
         })
     }

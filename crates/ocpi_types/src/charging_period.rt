@@ -1,4 +1,4 @@
-ghost use Rattle.std.specs.Prelude.{◌≡◌, IfOk};
+ghost use Rattle.std.specs.Prelude.{◌≡◌};
 ghost use Rattle.std.specs.List.{list_all};
 ghost use Rattle.ocpi_types.specs.Dimension.{is_in_range};
 
@@ -10,7 +10,7 @@ use ocpi_json::Node;
 use ocpi_json::ci_text::CiText;
 use ocpi_json::fields::{self, FieldFault};
 use ocpi_json::name::Name;
-use ocpi_json::objects::FromNode;
+use ocpi_json::objects::FromNodeIn;
 use std::alloc::{AllocError, Global};
 
 /// What a session counted from a moment on (OCPI 2.2.1, ChargingPeriod object).
@@ -18,7 +18,7 @@ use std::alloc::{AllocError, Global};
 pub struct ChargingPeriod {
     pub start_date_time: Timestamp,
     pub dimensions: UpTo<Dimension, 100>,
-    pub tariff_id: Option<CiText>,
+    pub tariff_id: Option<CiText<36>>,
 }
 
 fn are_in_range(dimensions: &[Dimension]) -> bool
@@ -39,17 +39,17 @@ impl ChargingPeriod {
     }
 }
 
-impl FromNode for ChargingPeriod {
+impl FromNodeIn for ChargingPeriod {
     ghost use Rattle.ocpi_types.specs.ChargingPeriod.{period_at};
 
     ghost at = { period_at };
 
     #[tactic(auto, unfolding(crate::specs::ChargingPeriod::period_at))]
-    fn from_node(alloc: Global, node: &Node) -> Result<ChargingPeriod, FieldFault> {
+    fn from_node_in(alloc: Global, node: &Node) -> Result<ChargingPeriod, FieldFault> {
         let start_date_time = fields::instant(node, Name::StartDateTime)?;
         let items = fields::list(node, Name::Dimensions, 1, 100)?;
         let dimensions = read_up_to(alloc, items)?;
-        let tariff_id = fields::ci_text_or_none(alloc, node, Name::TariffId, 36)?;
+        let tariff_id = fields::ci_text_or_none(node, Name::TariffId)?;
         Ok(ChargingPeriod {
             start_date_time,
             dimensions,
@@ -58,24 +58,13 @@ impl FromNode for ChargingPeriod {
     }
 }
 
-/// A copy of a text, if there is one.
-pub fn copy_ci_text(alloc: Global, text: &Option<CiText>) -> Result<Option<CiText>, AllocError>
-    ensures { IfOk result (λ copy. copy ≡ text.now) }
-{
-    match text {
-        Some(text) => Ok(Some(text.copy(alloc)?)),
-        None => Ok(None),
-    }
-}
-
 impl TryCopy for ChargingPeriod {
     fn copy(&self, alloc: Global) -> Result<ChargingPeriod, AllocError> {
         let dimensions = self.dimensions.copy(alloc)?;
-        let tariff_id = copy_ci_text(alloc, &self.tariff_id)?;
         Ok(ChargingPeriod {
             start_date_time: self.start_date_time,
             dimensions,
-            tariff_id,
+            tariff_id: self.tariff_id,
         })
     }
 }

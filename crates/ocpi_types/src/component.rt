@@ -1,11 +1,8 @@
 use super::bounded::AtMost;
-use super::copying::TryCopy;
 use super::members::{self, Quantity};
-use ocpi_json::Node;
-use ocpi_json::fields::{self, FieldFault};
 use ocpi_json::name::Name;
 use ocpi_json::objects::{FromNode, FromText};
-use std::alloc::{AllocError, Global};
+use ocpi_json::{Node, fields};
 
 /// What a price component charges for (OCPI 2.2.1, TariffDimensionType enum).
 #[derive(Clone, Copy, Debug, PartialEq, Eq)]
@@ -30,20 +27,20 @@ pub struct PriceComponent {
 
 impl ComponentKind {
     ghost use Rattle.std.specs.Prelude.{◌≡◌};
-    ghost use Rattle.ocpi_types.specs.Component.{same_kind};
+    ghost use Rattle.ocpi_types.specs.Component.{same_component_kind};
 
     /// The same kind.
     pub fn is(self, other: ComponentKind) -> bool
-        ensures { result ≡ same_kind self other }
+        ensures { result ≡ same_component_kind self other }
     {
         self == other
     }
 }
 
 impl FromText for ComponentKind {
-    ghost use Rattle.ocpi_types.specs.Component.{kind_of};
+    ghost use Rattle.ocpi_types.specs.Component.{component_kind_of};
 
-    ghost of_text = { kind_of };
+    ghost of_text = { component_kind_of };
 
     fn from_text(text: &str) -> Option<ComponentKind> {
         match text {
@@ -62,7 +59,7 @@ impl FromNode for PriceComponent {
     ghost at = { component_at };
 
     #[tactic(auto, unfolding(crate::specs::Component::component_at))]
-    fn from_node(_alloc: Global, node: &Node) -> Result<PriceComponent, FieldFault> {
+    fn from_node(node: &Node) -> Result<PriceComponent, Name> {
         let kind = fields::parsed(node, Name::Type)?;
         let price = members::quantity(node, Name::Price)?;
         let step_size = members::at_most(node, Name::StepSize, 0)?;
@@ -71,11 +68,5 @@ impl FromNode for PriceComponent {
             price,
             step_size,
         })
-    }
-}
-
-impl TryCopy for PriceComponent {
-    fn copy(&self, _alloc: Global) -> Result<PriceComponent, AllocError> {
-        Ok(*self)
     }
 }

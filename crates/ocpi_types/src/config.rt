@@ -32,7 +32,7 @@ pub struct Operator {
 }
 
 /// A provider's credit limit and hold in one currency.
-#[derive(Drop)]
+#[derive(Clone, Copy)]
 pub struct ProviderLimit {
     pub currency: Currency,
     pub limit: CreditLimit,
@@ -49,7 +49,7 @@ pub struct Provider {
 /// A platform and the parties that it acts for.
 #[derive(Drop)]
 pub struct Platform {
-    pub name: CiText,
+    pub name: CiText<36>,
     pub parties: Sequence<Party>,
     pub hub: bool,
 }
@@ -70,7 +70,7 @@ pub struct Limits {
 }
 
 /// A provider's credit limit with one operator in one currency.
-#[derive(Drop)]
+#[derive(Clone, Copy)]
 pub struct PairLimit {
     pub operator: Party,
     pub provider: Party,

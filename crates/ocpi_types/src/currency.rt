@@ -2,10 +2,9 @@ ghost use Rattle.std.specs.Prelude.{◌≡◌};
 ghost use Rattle.std.specs.Char.{is_ascii_uppercase};
 ghost use Rattle.ocpi_types.specs.Currency.{currency_of, same_currency};
 
-use super::copying::TryCopy;
 use super::different::Alike;
 use ocpi_json::objects::FromText;
-use std::alloc::{AllocError, Global};
+use std::alloc::AllocError;
 use std::marker::Model;
 
 /// A currency by its ISO 4217 code of three letters A to Z, compared exactly (OCPI 2.2.1, CDR object, `currency`).
@@ -25,6 +24,12 @@ impl Model for Currency {
 }
 
 impl Clone for Currency {
+    ghost use Rattle.std.specs.Prelude.{◌≡◌, ⊤};
+
+    ghost is_clone = { λ x y. y ≡ x };
+
+    ghost is_infallible = { λ _. ⊤ };
+
     fn clone(&self) -> Result<Currency, AllocError> {
         Ok(*self)
     }
@@ -68,12 +73,6 @@ impl Currency {
         ensures { result ≡ same_currency self.now other.now }
     {
         self.letters.as_slice() == other.letters.as_slice()
-    }
-}
-
-impl TryCopy for Currency {
-    fn copy(&self, _alloc: Global) -> Result<Currency, AllocError> {
-        Ok(*self)
     }
 }
 

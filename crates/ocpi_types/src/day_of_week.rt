@@ -1,6 +1,4 @@
-use super::copying::TryCopy;
 use ocpi_json::objects::FromText;
-use std::alloc::{AllocError, Global};
 
 /// A day of the week (OCPI 2.2.1, DayOfWeek enum).
 #[derive(Clone, Copy, Debug, PartialEq, Eq)]
@@ -50,11 +48,5 @@ impl FromText for DayOfWeek {
             "SUNDAY" => Some(DayOfWeek::Sunday),
             _ => None,
         }
-    }
-}
-
-impl TryCopy for DayOfWeek {
-    fn copy(&self, _alloc: Global) -> Result<DayOfWeek, AllocError> {
-        Ok(*self)
     }
 }

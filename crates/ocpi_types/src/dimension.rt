@@ -1,14 +1,14 @@
 ghost use Rattle.std.specs.Prelude.{◌≡◌};
 ghost use Rattle.serde_json.specs.View.{view};
-ghost use Rattle.ocpi_json.specs.Faults.{Gives};
-ghost use Rattle.ocpi_types.specs.Dimension.{kind_at};
+ghost use Rattle.ocpi_json.specs.Faults.{Finds};
+ghost use Rattle.ocpi_types.specs.Dimension.{dimension_kind_at};
 
 use super::copying::TryCopy;
 use exact_money::Millionths;
 use ocpi_json::Node;
 use ocpi_json::fields::{self, FieldFault};
 use ocpi_json::name::Name;
-use ocpi_json::objects::FromNode;
+use ocpi_json::objects::FromNodeIn;
 use ocpi_json::text::Text;
 use std::alloc::{AllocError, Global};
 
@@ -39,15 +39,18 @@ impl Dimension {
         ensures { result ≡ is_in_range self.now }
     {
         match self.kind {
+            DimensionKind::Energy
+            | DimensionKind::ParkingTime
+            | DimensionKind::ReservationTime
+            | DimensionKind::Time => self.volume.get() >= 0,
             DimensionKind::Other(_) => true,
-            _ => self.volume.get() >= 0,
         }
     }
 }
 
-#[tactic(auto, unfolding(crate::specs::Dimension::kind_at))]
+#[tactic(auto, unfolding(crate::specs::Dimension::dimension_kind_at))]
 fn read_kind(alloc: Global, node: &Node) -> Result<DimensionKind, FieldFault>
-    ensures { Gives result (kind_at (view node.now)) }
+    ensures { Finds result (dimension_kind_at (view node.now)) }
 {
     match fields::word(node, Name::Type)? {
         "ENERGY" => Ok(DimensionKind::Energy),
@@ -58,13 +61,13 @@ fn read_kind(alloc: Global, node: &Node) -> Result<DimensionKind, FieldFault>
     }
 }
 
-impl FromNode for Dimension {
+impl FromNodeIn for Dimension {
     ghost use Rattle.ocpi_types.specs.Dimension.{dimension_at};
 
     ghost at = { dimension_at };
 
     #[tactic(auto, unfolding(crate::specs::Dimension::dimension_at))]
-    fn from_node(alloc: Global, node: &Node) -> Result<Dimension, FieldFault> {
+    fn from_node_in(alloc: Global, node: &Node) -> Result<Dimension, FieldFault> {
         let kind = read_kind(alloc, node)?;
         let volume = fields::number(node, Name::Volume)?;
         Ok(Dimension { kind, volume })

@@ -1,12 +1,12 @@
 ghost use Rattle.std.specs.Prelude.{◌≡◌, IfOk};
 
 use super::component::PriceComponent;
-use super::copying::TryCopy;
+use super::copying::{TryCopy, copied};
 use super::restrictions::Restrictions;
 use ocpi_json::Node;
 use ocpi_json::fields::{self, FieldFault};
 use ocpi_json::name::Name;
-use ocpi_json::objects::{FromNode, read_each, read_if_any};
+use ocpi_json::objects::{FromNodeIn, read_each, read_if_any_in};
 use ocpi_json::sequence::Sequence;
 use std::alloc::{AllocError, Global};
 
@@ -17,17 +17,17 @@ pub struct Element {
     pub restrictions: Option<Restrictions>,
 }
 
-impl FromNode for Element {
+impl FromNodeIn for Element {
     ghost use Rattle.ocpi_types.specs.Element.{element_at};
 
     ghost at = { element_at };
 
     #[tactic(auto, unfolding(crate::specs::Element::element_at))]
-    fn from_node(alloc: Global, node: &Node) -> Result<Element, FieldFault> {
+    fn from_node_in(alloc: Global, node: &Node) -> Result<Element, FieldFault> {
         let items = fields::list(node, Name::PriceComponents, 1, 16)?;
         let price_components = read_each(alloc, items)?;
         let found = fields::object_or_none(node, Name::Restrictions)?;
-        let restrictions = read_if_any(alloc, found)?;
+        let restrictions = read_if_any_in(alloc, found)?;
         Ok(Element {
             price_components,
             restrictions,
@@ -49,7 +49,7 @@ fn copy_restrictions(
 
 impl TryCopy for Element {
     fn copy(&self, alloc: Global) -> Result<Element, AllocError> {
-        let price_components = self.price_components.copy(alloc)?;
+        let price_components = copied(alloc, &self.price_components)?;
         let restrictions = copy_restrictions(alloc, &self.restrictions)?;
         Ok(Element {
             price_components,

@@ -30,7 +30,7 @@ pub use cdr_token::{AuthMethod, CdrToken};
 pub use charging_period::ChargingPeriod;
 pub use component::{ComponentKind, PriceComponent, StepSize};
 pub use config::{Config, ConfigFault};
-pub use copying::TryCopy;
+pub use copying::{TryCopy, copied};
 pub use currency::Currency;
 pub use day_of_week::DayOfWeek;
 pub use dimension::{Dimension, DimensionKind};

@@ -2,69 +2,58 @@
 
 ghost use Rattle.std.specs.Prelude.{◌≡◌, pos, ◌≤ℤ◌, unsigned_abs};
 ghost use Rattle.serde_json.specs.View.{view};
-ghost use Rattle.ocpi_json.specs.Faults.{Gives};
-ghost use Rattle.ocpi_json.specs.Fields.{required, optional, parsed_of, whole_of};
+ghost use Rattle.ocpi_json.specs.Fields.{required, optional, as_parsed, as_whole};
 ghost use Rattle.ocpi_json.specs.Members.{or_name};
 ghost use Rattle.ocpi_types.specs.Currency.{currency_of};
-ghost use Rattle.ocpi_types.specs.Members.{ensure, quantity_of};
+ghost use Rattle.ocpi_types.specs.Members.{ensure, as_quantity};
 ghost use Rattle.ocpi_types.specs.Party.{party_of};
-ghost use Rattle.ocpi_types.specs.TokenKind.{kind_of};
+ghost use Rattle.ocpi_types.specs.TokenKind.{token_kind_of};
 
 use super::bounded::AtMost;
 use super::currency::Currency;
 use super::party::Party;
 use super::token::TokenKind;
 use exact_money::Millionths;
-use ocpi_json::Node;
-use ocpi_json::fields::{self, FieldFault};
 use ocpi_json::name::Name;
-use std::alloc::Global;
+use ocpi_json::{Node, fields};
 
 /// A price or a volume of at least 0, in millionths.
 pub type Quantity = AtMost<1_000_000_000_000_000>;
 
 /// A party, written as `NL/CPA`; the node is the text itself.
-#[tactic(auto, using(crate::proofs::Texts::no_text_in))]
-pub fn party_in(alloc: Global, member: &Node, name: Name) -> Result<Party, FieldFault>
-    ensures { Gives result (or_name name (parsed_of party_of (view member.now))) }
+pub fn party_in(member: &Node, name: Name) -> Result<Party, Name>
+    ensures { result ≡ or_name name (as_parsed party_of (view member.now)) }
 {
-    let text = fields::word_in(member, name)?;
-    Party::read(alloc, text)?.ok_or(FieldFault::Field(name))
+    fields::parsed_in(member, name)
 }
 
 /// A party, written as `NL/CPA`.
-#[tactic(auto, using(crate::proofs::Texts::no_text_at))]
-pub fn party(alloc: Global, node: &Node, name: Name) -> Result<Party, FieldFault>
-    ensures { Gives result (required (parsed_of party_of) name (view node.now)) }
+pub fn party(node: &Node, name: Name) -> Result<Party, Name>
+    ensures { result ≡ required (as_parsed party_of) name (view node.now) }
 {
-    let text = fields::word(node, name)?;
-    Party::read(alloc, text)?.ok_or(FieldFault::Field(name))
+    fields::parsed(node, name)
 }
 
 /// A currency by its code of three letters A to Z.
-pub fn currency(node: &Node, name: Name) -> Result<Currency, FieldFault>
-    ensures { Gives result (required (parsed_of currency_of) name (view node.now)) }
+pub fn currency(node: &Node, name: Name) -> Result<Currency, Name>
+    ensures { result ≡ required (as_parsed currency_of) name (view node.now) }
 {
     fields::parsed(node, name)
 }
 
 /// The type of a token, where the member may be missing or null.
-pub fn token_kind_or_none(node: &Node, name: Name) -> Result<Option<TokenKind>, FieldFault>
-    ensures { Gives result (optional (parsed_of kind_of) name (view node.now)) }
+pub fn token_kind_or_none(node: &Node, name: Name) -> Result<Option<TokenKind>, Name>
+    ensures { result ≡ optional (as_parsed token_kind_of) name (view node.now) }
 {
     fields::parsed_or_none(node, name)
 }
 
 /// A whole number from `least` to `MOST`.
-pub fn at_most<const MOST: u64>(
-    node: &Node,
-    name: Name,
-    least: u64,
-) -> Result<AtMost<MOST>, FieldFault>
-    ensures { Gives result (required (whole_of least MOST) name (view node.now)) }
+pub fn at_most<const MOST: u64>(node: &Node, name: Name, least: u64) -> Result<AtMost<MOST>, Name>
+    ensures { result ≡ required (as_whole least MOST) name (view node.now) }
 {
     let value = fields::whole(node, name, least, MOST)?;
-    AtMost::new(value).ok_or(FieldFault::Field(name))
+    AtMost::new(value).ok_or(name)
 }
 
 /// The same, where the member may be missing or null.
@@ -72,8 +61,8 @@ pub fn at_most_or_none<const MOST: u64>(
     node: &Node,
     name: Name,
     least: u64,
-) -> Result<Option<AtMost<MOST>>, FieldFault>
-    ensures { Gives result (optional (whole_of least MOST) name (view node.now)) }
+) -> Result<Option<AtMost<MOST>>, Name>
+    ensures { result ≡ optional (as_whole least MOST) name (view node.now) }
 {
     match fields::whole_or_none(node, name, least, MOST)? {
         Some(value) => Ok(AtMost::new(value)),
@@ -89,17 +78,17 @@ fn quantity_from(number: Millionths) -> Quantity
 }
 
 /// A number of at least 0.
-#[tactic(auto, using(crate::proofs::Quantities::no_quantity_at))]
-pub fn quantity(node: &Node, name: Name) -> Result<Quantity, FieldFault>
-    ensures { Gives result (required quantity_of name (view node.now)) }
+#[tactic(auto, using(crate::proofs::Quantities::quantity_at))]
+pub fn quantity(node: &Node, name: Name) -> Result<Quantity, Name>
+    ensures { result ≡ required as_quantity name (view node.now) }
 {
     Ok(quantity_from(fields::unsigned(node, name)?))
 }
 
 /// The same, where the member may be missing or null.
-#[tactic(auto, using(crate::proofs::Quantities::no_quantity_if_any))]
-pub fn quantity_or_none(node: &Node, name: Name) -> Result<Option<Quantity>, FieldFault>
-    ensures { Gives result (optional quantity_of name (view node.now)) }
+#[tactic(auto, using(crate::proofs::Quantities::quantity_if_any))]
+pub fn quantity_or_none(node: &Node, name: Name) -> Result<Option<Quantity>, Name>
+    ensures { result ≡ optional as_quantity name (view node.now) }
 {
     match fields::unsigned_or_none(node, name)? {
         Some(number) => Ok(Some(quantity_from(number))),
@@ -107,13 +96,9 @@ pub fn quantity_or_none(node: &Node, name: Name) -> Result<Option<Quantity>, Fie
     }
 }
 
-/// Nothing where it holds, and else the fault that names the member.
-pub fn ensure(holds: bool, name: Name) -> Result<(), FieldFault>
-    ensures { Gives result (ensure holds name) }
+/// Nothing where it holds, and else the name of the member.
+pub fn ensure(holds: bool, name: Name) -> Result<(), Name>
+    ensures { result ≡ ensure holds name }
 {
-    if holds {
-        Ok(())
-    } else {
-        Err(FieldFault::Field(name))
-    }
+    if holds { Ok(()) } else { Err(name) }
 }

@@ -1,5 +1,5 @@
 ghost use Rattle.std.specs.Prelude.{◌≡◌};
-ghost use Rattle.ocpi_types.specs.Refusal.{store_name, refusal_name, number_of, status_of};
+ghost use Rattle.ocpi_types.specs.Refusal.{store_name, refusal_name, refusal_number, refusal_status};
 
 use exact_money::Amount;
 use ocpi_json::name::Name;
@@ -148,7 +148,7 @@ impl Refusal {
 
     /// The number on an answer line.
     pub fn number(&self) -> u64
-        ensures { result ≡ number_of self.now }
+        ensures { result ≡ refusal_number self.now }
     {
         match self {
             Refusal::Syntax => 1,
@@ -185,7 +185,7 @@ impl Refusal {
     /// The status code of OCPI 2.2.1, section 'Status codes': 2001 for bad parameters, 2004 for an unknown token, 3000
     /// for the house's own want of room, 2000 for every other refusal.
     pub fn status(&self) -> u64
-        ensures { result ≡ status_of self.now }
+        ensures { result ≡ refusal_status self.now }
     {
         match self {
             Refusal::Syntax | Refusal::Field { .. } => 2001,

@@ -1,17 +1,18 @@
 ghost use Rattle.std.specs.Prelude.{◌≡◌, IfOk};
 ghost use Rattle.serde_json.specs.View.{view};
-ghost use Rattle.ocpi_json.specs.Faults.{Gives};
+ghost use Rattle.ocpi_json.specs.Faults.{Finds};
+ghost use Rattle.ocpi_types.specs.Inner.RestrictionParts.{times_at, bounds_at, restrictions_in_parts};
 ghost use Rattle.ocpi_types.specs.Restrictions.{days_at, electric_bounds_at};
 
 use super::bounded::AtMost;
-use super::copying::TryCopy;
+use super::copying::{TryCopy, copied};
 use super::day_of_week::DayOfWeek;
 use super::members::{self, Quantity};
 use jiff::civil::{Date, Time};
 use ocpi_json::Node;
 use ocpi_json::fields::{self, FieldFault};
 use ocpi_json::name::Name;
-use ocpi_json::objects::{FromNode, parsed_each};
+use ocpi_json::objects::{FromNodeIn, parsed_each};
 use ocpi_json::sequence::Sequence;
 use ocpi_json::text::Text;
 use std::alloc::{AllocError, Global};
@@ -49,15 +50,15 @@ pub struct Restrictions {
 
 #[tactic(auto, unfolding(crate::specs::Restrictions::days_at))]
 fn read_days(alloc: Global, node: &Node) -> Result<Sequence<DayOfWeek>, FieldFault>
-    ensures { Gives result (days_at (view node.now)) }
+    ensures { Finds result (days_at (view node.now)) }
 {
     let items = fields::list_or_empty(node, Name::DayOfWeek, 1_048_576)?;
     parsed_each(alloc, items, Name::DayOfWeek)
 }
 
 #[tactic(auto, unfolding(crate::specs::Restrictions::electric_bounds_at))]
-fn read_electric_bounds(node: &Node) -> Result<ElectricBounds, FieldFault>
-    ensures { Gives result (electric_bounds_at (view node.now)) }
+fn read_electric_bounds(node: &Node) -> Result<ElectricBounds, Name>
+    ensures { result ≡ electric_bounds_at (view node.now) }
 {
     let min_current = fields::number_or_none(node, Name::MinCurrent)?.is_some();
     let max_current = fields::number_or_none(node, Name::MaxCurrent)?.is_some();
@@ -71,37 +72,87 @@ fn read_electric_bounds(node: &Node) -> Result<ElectricBounds, FieldFault>
     })
 }
 
-impl FromNode for Restrictions {
+/// The times of day and dates of restrictions.
+#[derive(Clone, Copy)]
+struct Times {
+    start_time: Option<Time>,
+    end_time: Option<Time>,
+    start_date: Option<Date>,
+    end_date: Option<Date>,
+}
+
+/// The bounds of restrictions on energy and time.
+#[derive(Clone, Copy)]
+struct Bounds {
+    min_kwh: Option<Quantity>,
+    max_kwh: Option<Quantity>,
+    min_duration: Option<Seconds>,
+    max_duration: Option<Seconds>,
+}
+
+#[tactic(auto, unfolding(crate::specs::Inner::RestrictionParts::times_at))]
+fn read_times(node: &Node) -> Result<Times, Name>
+    ensures { result ≡ times_at (view node.now) }
+{
+    let start_time = fields::clock_or_none(node, Name::StartTime)?;
+    let end_time = fields::clock_or_none(node, Name::EndTime)?;
+    let start_date = fields::date_or_none(node, Name::StartDate)?;
+    let end_date = fields::date_or_none(node, Name::EndDate)?;
+    Ok(Times {
+        start_time,
+        end_time,
+        start_date,
+        end_date,
+    })
+}
+
+#[tactic(auto, unfolding(crate::specs::Inner::RestrictionParts::bounds_at))]
+fn read_bounds(node: &Node) -> Result<Bounds, Name>
+    ensures { result ≡ bounds_at (view node.now) }
+{
+    let min_kwh = members::quantity_or_none(node, Name::MinKwh)?;
+    let max_kwh = members::quantity_or_none(node, Name::MaxKwh)?;
+    let min_duration = members::at_most_or_none(node, Name::MinDuration, 0)?;
+    let max_duration = members::at_most_or_none(node, Name::MaxDuration, 0)?;
+    Ok(Bounds {
+        min_kwh,
+        max_kwh,
+        min_duration,
+        max_duration,
+    })
+}
+
+#[tactic(auto, unfolding(crate::specs::Inner::RestrictionParts::restrictions_in_parts))]
+fn read_parts(alloc: Global, node: &Node) -> Result<Restrictions, FieldFault>
+    ensures { Finds result (restrictions_in_parts (view node.now)) }
+{
+    let times = read_times(node)?;
+    let bounds = read_bounds(node)?;
+    let day_of_week = read_days(alloc, node)?;
+    let reservation = fields::text_or_none(alloc, node, Name::Reservation)?;
+    let electric = read_electric_bounds(node)?;
+    Ok(Restrictions {
+        start_time: times.start_time,
+        end_time: times.end_time,
+        start_date: times.start_date,
+        end_date: times.end_date,
+        min_kwh: bounds.min_kwh,
+        max_kwh: bounds.max_kwh,
+        min_duration: bounds.min_duration,
+        max_duration: bounds.max_duration,
+        day_of_week,
+        reservation,
+        electric,
+    })
+}
+
+impl FromNodeIn for Restrictions {
     ghost use Rattle.ocpi_types.specs.Restrictions.{restrictions_at};
 
     ghost at = { restrictions_at };
 
-    #[tactic(auto, unfolding(crate::specs::Restrictions::restrictions_at))]
-    fn from_node(alloc: Global, node: &Node) -> Result<Restrictions, FieldFault> {
-        let start_time = fields::clock_or_none(node, Name::StartTime)?;
-        let end_time = fields::clock_or_none(node, Name::EndTime)?;
-        let start_date = fields::date_or_none(node, Name::StartDate)?;
-        let end_date = fields::date_or_none(node, Name::EndDate)?;
-        let min_kwh = members::quantity_or_none(node, Name::MinKwh)?;
-        let max_kwh = members::quantity_or_none(node, Name::MaxKwh)?;
-        let min_duration = members::at_most_or_none(node, Name::MinDuration, 0)?;
-        let max_duration = members::at_most_or_none(node, Name::MaxDuration, 0)?;
-        let day_of_week = read_days(alloc, node)?;
-        let reservation = fields::text_or_none(alloc, node, Name::Reservation)?;
-        let electric = read_electric_bounds(node)?;
-        Ok(Restrictions {
-            start_time,
-            end_time,
-            start_date,
-            end_date,
-            min_kwh,
-            max_kwh,
-            min_duration,
-            max_duration,
-            day_of_week,
-            reservation,
-            electric,
-        })
+    fn from_node_in(alloc: Global, node: &Node) -> Result<Restrictions, FieldFault> {
+        read_parts(alloc, node)
     }
 }
 
@@ -116,7 +167,7 @@ fn copy_text(alloc: Global, text: &Option<Text>) -> Result<Option<Text>, AllocEr
 
 impl TryCopy for Restrictions {
     fn copy(&self, alloc: Global) -> Result<Restrictions, AllocError> {
-        let day_of_week = self.day_of_week.copy(alloc)?;
+        let day_of_week = copied(alloc, &self.day_of_week)?;
         let reservation = copy_text(alloc, &self.reservation)?;
         Ok(Restrictions {
             start_time: self.start_time,

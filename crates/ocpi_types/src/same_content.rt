@@ -56,7 +56,7 @@ fn are_same_if_any<T: Part>(a: &Option<T>, b: &Option<T>) -> bool
 }
 
 impl Part for Time {
-    ghost use Rattle.ocpi_types.specs.SameTariff.{same_time};
+    ghost use Rattle.ocpi_types.specs.Inner.SameTariff.{same_time};
 
     ghost same = { same_time };
 
@@ -70,7 +70,7 @@ impl Part for Time {
 }
 
 impl Part for Date {
-    ghost use Rattle.ocpi_types.specs.SameTariff.{same_date};
+    ghost use Rattle.ocpi_types.specs.Inner.SameTariff.{same_date};
 
     ghost same = { same_date };
 
@@ -81,7 +81,7 @@ impl Part for Date {
 }
 
 impl Part for Timestamp {
-    ghost use Rattle.ocpi_types.specs.SameTariff.{same_instant};
+    ghost use Rattle.ocpi_types.specs.Inner.SameTariff.{same_instant};
 
     ghost same = { same_instant };
 
@@ -121,7 +121,7 @@ impl Part for DayOfWeek {
 }
 
 impl Part for PriceComponent {
-    ghost use Rattle.ocpi_types.specs.SameTariff.{same_component};
+    ghost use Rattle.ocpi_types.specs.Inner.SameTariff.{same_component};
 
     ghost same = { same_component };
 
@@ -133,7 +133,7 @@ impl Part for PriceComponent {
 }
 
 impl Part for ElectricBounds {
-    ghost use Rattle.ocpi_types.specs.SameTariff.{same_bounds};
+    ghost use Rattle.ocpi_types.specs.Inner.SameTariff.{same_bounds};
 
     ghost same = { same_bounds };
 
@@ -146,11 +146,11 @@ impl Part for ElectricBounds {
 }
 
 impl Part for Restrictions {
-    ghost use Rattle.ocpi_types.specs.SameTariff.{same_restrictions};
+    ghost use Rattle.ocpi_types.specs.Inner.SameTariff.{same_restrictions};
 
     ghost same = { same_restrictions };
 
-    #[tactic(auto, unfolding(crate::specs::SameTariff::same_restrictions))]
+    #[tactic(auto, unfolding(crate::specs::Inner::SameTariff::same_restrictions))]
     fn is_same(&self, other: &Restrictions) -> bool {
         are_same_if_any(&self.start_time, &other.start_time)
             && are_same_if_any(&self.end_time, &other.end_time)
@@ -167,11 +167,11 @@ impl Part for Restrictions {
 }
 
 impl Part for Element {
-    ghost use Rattle.ocpi_types.specs.SameTariff.{same_element};
+    ghost use Rattle.ocpi_types.specs.Inner.SameTariff.{same_element};
 
     ghost same = { same_element };
 
-    #[tactic(auto, unfolding(crate::specs::SameTariff::same_element))]
+    #[tactic(auto, unfolding(crate::specs::Inner::SameTariff::same_element))]
     fn is_same(&self, other: &Element) -> bool {
         are_same(
             self.price_components.as_slice(),
@@ -181,7 +181,7 @@ impl Part for Element {
 }
 
 /// Whether two tariffs have the same content: all members agree, parties and ids with letters folded.
-#[tactic(auto, unfolding(crate::specs::SameTariff::same_tariff))]
+#[tactic(auto, unfolding(crate::specs::Inner::SameTariff::same_tariff))]
 pub fn same_tariff(a: &Tariff, b: &Tariff) -> bool
     ensures { result ≡ same_tariff a.now b.now }
 {

@@ -1,6 +1,5 @@
 ghost use Rattle.std.specs.Prelude.{◌≡◌};
 ghost use Rattle.serde_json.specs.View.{view};
-ghost use Rattle.ocpi_json.specs.Faults.{Gives};
 ghost use Rattle.ocpi_types.specs.Tariff.{price_at};
 
 use super::copying::TryCopy;
@@ -13,7 +12,7 @@ use ocpi_json::Node;
 use ocpi_json::ci_text::CiText;
 use ocpi_json::fields::{self, FieldFault};
 use ocpi_json::name::Name;
-use ocpi_json::objects::{FromNode, read_each};
+use ocpi_json::objects::{FromNode, FromNodeIn, read_each_in};
 use ocpi_json::sequence::Sequence;
 use std::alloc::{AllocError, Global};
 
@@ -21,7 +20,7 @@ use std::alloc::{AllocError, Global};
 #[derive(Drop)]
 pub struct Tariff {
     pub operator: Party,
-    pub id: CiText,
+    pub id: CiText<36>,
     pub currency: Currency,
     /// Without tax, in millionths of the currency unit.
     pub min_price: Option<Quantity>,
@@ -32,8 +31,8 @@ pub struct Tariff {
 }
 
 #[tactic(auto, unfolding(crate::specs::Tariff::price_at))]
-fn read_price(node: &Node, name: Name) -> Result<Option<Quantity>, FieldFault>
-    ensures { Gives result (price_at name (view node.now)) }
+fn read_price(node: &Node, name: Name) -> Result<Option<Quantity>, Name>
+    ensures { result ≡ price_at name (view node.now) }
 {
     match fields::object_or_none(node, name)? {
         Some(price) => Ok(Some(members::quantity(price, Name::ExclVat)?)),
@@ -41,20 +40,20 @@ fn read_price(node: &Node, name: Name) -> Result<Option<Quantity>, FieldFault>
     }
 }
 
-impl FromNode for Tariff {
+impl FromNodeIn for Tariff {
     ghost use Rattle.ocpi_types.specs.Tariff.{tariff_at};
 
     ghost at = { tariff_at };
 
     #[tactic(auto, unfolding(crate::specs::Tariff::tariff_at))]
-    fn from_node(alloc: Global, node: &Node) -> Result<Tariff, FieldFault> {
-        let operator = Party::from_node(alloc, node)?;
-        let id = fields::ci_text(alloc, node, Name::Id, 36)?;
+    fn from_node_in(alloc: Global, node: &Node) -> Result<Tariff, FieldFault> {
+        let operator = Party::from_node(node)?;
+        let id = fields::ci_text(node, Name::Id)?;
         let currency = members::currency(node, Name::Currency)?;
         let min_price = read_price(node, Name::MinPrice)?;
         let max_price = read_price(node, Name::MaxPrice)?;
         let items = fields::list(node, Name::Elements, 1, 100)?;
-        let elements = read_each(alloc, items)?;
+        let elements = read_each_in(alloc, items)?;
         let last_updated = fields::instant(node, Name::LastUpdated)?;
         Ok(Tariff {
             operator,
@@ -70,12 +69,10 @@ impl FromNode for Tariff {
 
 impl TryCopy for Tariff {
     fn copy(&self, alloc: Global) -> Result<Tariff, AllocError> {
-        let operator = self.operator.copy(alloc)?;
-        let id = self.id.copy(alloc)?;
         let elements = self.elements.copy(alloc)?;
         Ok(Tariff {
-            operator,
-            id,
+            operator: self.operator,
+            id: self.id,
             currency: self.currency,
             min_price: self.min_price,
             max_price: self.max_price,

@@ -1,13 +1,9 @@
-use super::copying::TryCopy;
 use super::party::Party;
 use jiff::Timestamp;
-use ocpi_json::Node;
 use ocpi_json::ci_text::CiText;
-use ocpi_json::fields::{self, FieldFault};
 use ocpi_json::name::Name;
 use ocpi_json::objects::{FromNode, FromText};
-use ocpi_json::text::Text;
-use std::alloc::{AllocError, Global};
+use ocpi_json::{Node, fields};
 
 /// The type of a token (OCPI 2.2.1, TokenType enum).
 #[derive(Clone, Copy, Debug, PartialEq, Eq)]
@@ -18,34 +14,34 @@ pub enum TokenKind {
     Rfid,
 }
 
-/// A token of a provider (OCPI 2.2.1, Token object). Its `type` is the field `kind`.
-#[derive(Drop)]
+/// A token of a provider (OCPI 2.2.1, Token object). Its `type` is the field `kind`; its `whitelist` decides nothing and
+/// is not kept.
+#[derive(Clone, Copy)]
 pub struct Token {
     pub provider: Party,
-    pub uid: CiText,
+    pub uid: CiText<36>,
     pub kind: TokenKind,
-    pub contract_id: CiText,
+    pub contract_id: CiText<36>,
     pub valid: bool,
-    pub whitelist: Text,
     pub last_updated: Timestamp,
 }
 
 impl TokenKind {
     ghost use Rattle.std.specs.Prelude.{◌≡◌};
-    ghost use Rattle.ocpi_types.specs.TokenKind.{same_kind};
+    ghost use Rattle.ocpi_types.specs.TokenKind.{same_token_kind};
 
     /// The same type.
     pub fn is(self, other: TokenKind) -> bool
-        ensures { result ≡ same_kind self other }
+        ensures { result ≡ same_token_kind self other }
     {
         self == other
     }
 }
 
 impl FromText for TokenKind {
-    ghost use Rattle.ocpi_types.specs.TokenKind.{kind_of};
+    ghost use Rattle.ocpi_types.specs.TokenKind.{token_kind_of};
 
-    ghost of_text = { kind_of };
+    ghost of_text = { token_kind_of };
 
     fn from_text(text: &str) -> Option<TokenKind> {
         match text {
@@ -64,13 +60,13 @@ impl FromNode for Token {
     ghost at = { token_at };
 
     #[tactic(auto, unfolding(crate::specs::Token::token_at))]
-    fn from_node(alloc: Global, node: &Node) -> Result<Token, FieldFault> {
-        let provider = Party::from_node(alloc, node)?;
-        let uid = fields::ci_text(alloc, node, Name::Uid, 36)?;
+    fn from_node(node: &Node) -> Result<Token, Name> {
+        let provider = Party::from_node(node)?;
+        let uid = fields::ci_text(node, Name::Uid)?;
         let kind = fields::parsed(node, Name::Type)?;
-        let contract_id = fields::ci_text(alloc, node, Name::ContractId, 36)?;
+        let contract_id = fields::ci_text(node, Name::ContractId)?;
         let valid = fields::flag(node, Name::Valid)?;
-        let whitelist = fields::text(alloc, node, Name::Whitelist)?;
+        fields::word(node, Name::Whitelist)?;
         let last_updated = fields::instant(node, Name::LastUpdated)?;
         Ok(Token {
             provider,
@@ -78,26 +74,7 @@ impl FromNode for Token {
             kind,
             contract_id,
             valid,
-            whitelist,
             last_updated,
-        })
-    }
-}
-
-impl TryCopy for Token {
-    fn copy(&self, alloc: Global) -> Result<Token, AllocError> {
-        let provider = self.provider.copy(alloc)?;
-        let uid = self.uid.copy(alloc)?;
-        let contract_id = self.contract_id.copy(alloc)?;
-        let whitelist = self.whitelist.copy(alloc)?;
-        Ok(Token {
-            provider,
-            uid,
-            kind: self.kind,
-            contract_id,
-            valid: self.valid,
-            whitelist,
-            last_updated: self.last_updated,
         })
     }
 }

@@ -1,12 +1,12 @@
 ghost use Rattle.std.specs.Prelude.{◌≡◌, ◌≤◌, length, map, IfOk};
 ghost use Rattle.serde_json.specs.View.{view};
-ghost use Rattle.ocpi_json.specs.Faults.{Gives};
+ghost use Rattle.ocpi_json.specs.Faults.{Finds};
 ghost use Rattle.ocpi_json.specs.Members.{each};
 
 use super::copying::TryCopy;
 use ocpi_json::Node;
 use ocpi_json::fields::FieldFault;
-use ocpi_json::objects::{FromNode, read_each};
+use ocpi_json::objects::{FromNodeIn, read_each_in};
 use ocpi_json::sequence::Sequence;
 use std::alloc::{AllocError, Global};
 use std::marker::Model;
@@ -54,14 +54,14 @@ impl<T: Drop, const MOST: usize> UpTo<T, MOST> {
 }
 
 /// The values that stand in at most `MOST` nodes, in order.
-pub fn read_up_to<T: FromNode + Drop, const MOST: usize>(
+pub fn read_up_to<T: FromNodeIn + Drop, const MOST: usize>(
     alloc: Global,
     nodes: &[Node],
 ) -> Result<UpTo<T, MOST>, FieldFault>
     requires { length nodes.now ≤ MOST }
-    ensures { Gives result (each T.at (map view nodes.now)) }
+    ensures { Finds result (each T.at (map view nodes.now)) }
 {
-    let values = read_each(alloc, nodes)?;
+    let values = read_each_in(alloc, nodes)?;
     Ok(UpTo::new(values).unwrap())
 }
 

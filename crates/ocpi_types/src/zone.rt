@@ -2,12 +2,11 @@ ghost use Rattle.std.specs.Prelude.{◌≡◌, ◌+ℤ◌, option_map};
 ghost use Rattle.jiff.specs.Words.{civil_nanos, nanos_of_seconds, offset_at, plain_zone};
 ghost use Rattle.ocpi_types.specs.Zone.{zone_of, fixed_zone_of, rule_zone_of, fixed_seconds, seconds_of, offset_of, nameless};
 
-use super::copying::TryCopy;
 use jiff::Timestamp;
 use jiff::civil::DateTime;
 use jiff::tz::{Offset, TimeZone};
 use ocpi_json::objects::FromText;
-use std::alloc::{AllocError, Global};
+use std::alloc::AllocError;
 use std::marker::Model;
 
 /// The time zone of an operator: a fixed offset from UTC, or a POSIX rule (IEEE 1003.1, Base Definitions, section 8.3).
@@ -25,6 +24,18 @@ impl Model for Zone {
     ghost Value = { PlainZone };
 
     ghost view = { λ zone. nameless (plain_zone zone.rules) };
+}
+
+impl Clone for Zone {
+    ghost use Rattle.std.specs.Prelude.{◌≡◌, ⊤};
+
+    ghost is_clone = { λ x y. y ≡ x };
+
+    ghost is_infallible = { λ _. ⊤ };
+
+    fn clone(&self) -> Result<Zone, AllocError> {
+        Ok(Zone { rules: self.rules })
+    }
 }
 
 // The seconds of hours and minutes behind a sign.
@@ -120,11 +131,5 @@ impl FromText for Zone {
 
     fn from_text(text: &str) -> Option<Zone> {
         Zone::read(text)
-    }
-}
-
-impl TryCopy for Zone {
-    fn copy(&self, _alloc: Global) -> Result<Zone, AllocError> {
-        Ok(Zone { rules: self.rules })
     }
 }

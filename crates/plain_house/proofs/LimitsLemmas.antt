@@ -1,7 +1,6 @@
 -- An admitted command keeps the limits.
 use Rattle.std.proofs.Common.{◌≡◌, ◌≤◌, ◌||◌, ◌&&◌, ℕ, ◌+◌, pos, List, [], ◌∷◌, ◌++◌, Bool, true, false, refl, sym, ap, ◌∙◌, subst, arith, filter, if◌then◌else◌, Option, Some, None}
 use Rattle.std.specs.List.{list_any}
-use Rattle.std.specs.Cmp.Lexicographic.{same_text}
 use Rattle.std.proofs.lemmas.List.{append-nil}
 use Rattle.std.proofs.lemmas.List.Folds.{list_any-append}
 use Rattle.std.proofs.lemmas.Bool.{ltb-false}
@@ -17,7 +16,7 @@ use Rattle.cdr_checks.specs.declared.request.Command.TheVariants as command
 use Rattle.plain_house.specs.declared.event.Hold.{Hold}
 use Rattle.plain_house.specs.declared.event.Event.{Event}
 use Rattle.plain_house.specs.declared.event.Event.TheVariants as event
-use Rattle.plain_house.specs.Exposure.{ends_hold, open_hold, open_holds, released_hold, amount_of, is_of_provider, is_of_pair, exposure_of, pair_exposure_of}
+use Rattle.plain_house.specs.Exposure.{ends_hold, open_hold, open_holds, released_hold, total_held, is_of_provider, is_of_pair, exposure_of, pair_exposure_of}
 use Rattle.ocpi_types.specs.declared.refusal.Refusal.TheVariants as refusal
 use Rattle.ocpi_types.specs.declared.refusal.Store.{Store}
 use Rattle.ocpi_types.specs.declared.tariff.Tariff.{Tariff}
@@ -29,22 +28,22 @@ use Rattle.plain_house.specs.Tariffs.{stored_version}
 use Rattle.plain_house.specs.House.{lacks_credit, passes, hold_for, events_after, outcome, put_tariff, authorized, release_of, allowed, Does}
 use Rattle.plain_house.specs.Tokens.{validity}
 use Rattle.plain_house.specs.Legal.{KeepsLimits, events_after_all}
-use Rattle.plain_house.proofs.HoldsLemmas.{amount_of-append}
-use Rattle.plain_house.proofs.SameParty.{SameCodes, same_codes, both_are, same_limit, same_exposure, same_pair_limit, same_pair_exposure}
+use Rattle.plain_house.proofs.HoldsLemmas.{total_held-append}
+use Rattle.plain_house.proofs.SameParty.{both_are, same_folded_party, same_folded_account, same_limit, same_exposure, same_pair_limit, same_pair_exposure}
 
 -- a later event leaves at most the hold that was open
 amount_open : (p : Hold → Bool) (hold : Hold) (ended ends : Bool)
-    → amount_of (filter p (if ended || ends then [] else hold ∷ [])) ≤ amount_of (filter p (if ended then [] else hold ∷ []))
+    → total_held (filter p (if ended || ends then [] else hold ∷ [])) ≤ total_held (filter p (if ended then [] else hold ∷ []))
 amount_open p hold true ends = omega arith
 amount_open p hold false true = omega arith
 amount_open p hold false false = omega arith
 
 amount_open-later : (p : Hold → Bool) (event : Event) (later : List Event) (x : Event)
-    → amount_of (filter p (open_hold event (later ++ x ∷ []))) ≤ amount_of (filter p (open_hold event later))
+    → total_held (filter p (open_hold event (later ++ x ∷ []))) ≤ total_held (filter p (open_hold event later))
 amount_open-later p (event.Tariff tariff) later x = omega arith
 amount_open-later p (event.Token token) later x = omega arith
 amount_open-later p (event.Authorised hold) later x =
-    subst (λ (ended : Bool). amount_of (filter p (if ended then [] else hold ∷ [])) ≤ amount_of (filter p (open_hold (event.Authorised hold) later)))
+    subst (λ (ended : Bool). total_held (filter p (if ended then [] else hold ∷ [])) ≤ total_held (filter p (open_hold (event.Authorised hold) later)))
     (sym (list_any-append (ends_hold hold) later (x ∷ [])))
     (amount_open p hold (list_any (ends_hold hold) later) (list_any (ends_hold hold) (x ∷ [])))
 amount_open-later p (event.Released release) later x = omega arith
@@ -52,34 +51,24 @@ amount_open-later p (event.Closed period) later x = omega arith
 
 -- the amounts that a test picks, with one more event
 amount_later : (p : Hold → Bool) (events : List Event) (x : Event)
-    → amount_of (filter p (open_holds (events ++ x ∷ []))) ≤ amount_of (filter p (open_holds events)) + amount_of (filter p (open_hold x []))
-amount_later p [] x = omega (arith, amount_of-append p (open_hold x []) [])
+    → total_held (filter p (open_holds (events ++ x ∷ []))) ≤ total_held (filter p (open_holds events)) + total_held (filter p (open_hold x []))
+amount_later p [] x = omega (arith, total_held-append p (open_hold x []) [])
 amount_later p (event ∷ events) x =
     omega (
       arith,
-      amount_of-append p (open_hold event (events ++ x ∷ [])) (open_holds (events ++ x ∷ [])),
-      amount_of-append p (open_hold event events) (open_holds events),
+      total_held-append p (open_hold event (events ++ x ∷ [])) (open_holds (events ++ x ∷ [])),
+      total_held-append p (open_hold event events) (open_holds events),
       amount_open-later p event events x,
       amount_later p events x,
     )
 
 -- one hold, picked or not
-amount_one : (b : Bool) (hold : Hold) → amount_of (if b then hold ∷ [] else []) ≡ (if b then hold.amount else 0)
+amount_one : (b : Bool) (hold : Hold) → total_held (if b then hold ∷ [] else []) ≡ (if b then hold.amount else 0)
 amount_one true hold = omega arith
 amount_one false hold = refl
 
-amount_picked : (p : Hold → Bool) (hold : Hold) → amount_of (filter p (hold ∷ [])) ≡ (if p hold then hold.amount else 0)
+amount_picked : (p : Hold → Bool) (hold : Hold) → total_held (filter p (hold ∷ [])) ≡ (if p hold then hold.amount else 0)
 amount_picked p hold = amount_one (p hold) hold
-
--- the hold is of the provider and currency where the test says so
-record IsFor (config : Config) (ask : Authorize) (provider : Party) (currency : List ℕ) : Type 0 where
-  codes : SameCodes ask.provider provider
-  same : ask.currency ≡ currency
-
-is_for : (config : Config) (ask : Authorize) (provider : Party) (currency : List ℕ) → (same_party ask.provider provider && same_currency ask.currency currency) ≡ true → IsFor config ask provider currency
-is_for config ask provider currency h =
-    let parts = both_are (same_party ask.provider provider) (same_currency ask.currency currency) h in
-    record { codes = same_codes ask.provider provider parts.0; same = same_text ask.currency currency (sym parts.1) }
 
 -- the two limits are kept at a hold that lacks no credit
 neither : (a b : Bool) → (a || b) ≡ false → (a ≡ false) × (b ≡ false)
@@ -98,6 +87,12 @@ passes-false (Some limit) amount most h e =
     let same : limit ≡ most = cc (e) in
     subst (λ (n : ℕ). amount ≤ n) same (ltb-false limit amount h)
 
+pub pair_within : (config : Config) (events : List Event) (ask : Authorize) (limit : ℕ) → lacks_credit config events ask ≡ false → pair_limit_of config ask.operator ask.provider ask.currency ≡ Some limit
+    → pair_exposure_of events ask.operator ask.provider ask.currency + hold_of config ask.provider ask.currency ≤ limit
+pair_within config events ask limit h has_limit =
+    passes-false (pair_limit_of config ask.operator ask.provider ask.currency)
+    (pair_exposure_of events ask.operator ask.provider ask.currency + hold_of config ask.provider ask.currency) limit (neither _ _ h).1 has_limit
+
 at_most_picked : (b : Bool) (total amount limit : ℕ) → total ≤ limit → (b ≡ true → total + amount ≤ limit) → total + (if b then amount else 0) ≤ limit
 at_most_picked true total amount limit h k = k refl
 at_most_picked false total amount limit h k = omega (arith, h)
@@ -108,16 +103,16 @@ provider_later : (config : Config) (events : List Event) (ask : Authorize) → K
 provider_later config events ask keeps has_credit provider currency =
     let hold = hold_for config events ask in
     let test : Hold → Bool = is_of_provider provider currency in
-    let total : ℕ = amount_of (filter test (open_holds events)) in
-    let sum : amount_of (filter test (open_holds (events ++ event.Authorised hold ∷ []))) ≤ total + (if test hold then hold.amount else 0) =
+    let total : ℕ = total_held (filter test (open_holds events)) in
+    let sum : total_held (filter test (open_holds (events ++ event.Authorised hold ∷ []))) ≤ total + (if test hold then hold.amount else 0) =
     omega (arith, amount_later test events (event.Authorised hold), amount_picked test hold) in
     let before : total ≤ limit_of config provider currency = omega (arith, keeps.provider provider currency) in
     let most : total + (if test hold then hold.amount else 0) ≤ limit_of config provider currency =
     at_most_picked (test hold) total hold.amount (limit_of config provider currency) before
     (λ picked.
-    let for_it = is_for config ask provider currency picked in
-    let exposure = same_exposure events ask.provider provider ask.currency currency for_it.codes for_it.same in
-    let limit = same_limit config ask.provider provider ask.currency currency for_it.codes for_it.same in
+    let same = same_folded_account ask.provider provider ask.currency currency picked in
+    let exposure = same_exposure events ask.provider provider ask.currency currency same in
+    let limit = same_limit config ask.provider provider ask.currency currency same in
     omega (arith, provider_within config events ask has_credit, exposure, limit)) in
     omega (arith, sum, most)
 
@@ -127,21 +122,19 @@ pair_later : (config : Config) (events : List Event) (ask : Authorize) → Keeps
 pair_later config events ask keeps has_credit operator provider currency limit has_limit =
     let hold = hold_for config events ask in
     let test : Hold → Bool = is_of_pair operator provider currency in
-    let total : ℕ = amount_of (filter test (open_holds events)) in
-    let sum : amount_of (filter test (open_holds (events ++ event.Authorised hold ∷ []))) ≤ total + (if test hold then hold.amount else 0) =
+    let total : ℕ = total_held (filter test (open_holds events)) in
+    let sum : total_held (filter test (open_holds (events ++ event.Authorised hold ∷ []))) ≤ total + (if test hold then hold.amount else 0) =
     omega (arith, amount_later test events (event.Authorised hold), amount_picked test hold) in
     let before : total ≤ limit = omega (arith, keeps.pair operator provider currency limit has_limit) in
     let most : total + (if test hold then hold.amount else 0) ≤ limit =
     at_most_picked (test hold) total hold.amount limit before
     (λ picked.
     let parts = both_are (same_party ask.operator operator) (same_party ask.provider provider && same_currency ask.currency currency) picked in
-    let their = same_codes ask.operator operator parts.0 in
-    let for_it = is_for config ask provider currency parts.1 in
-    let exposure = same_pair_exposure events ask.operator operator ask.provider provider ask.currency currency their for_it.codes for_it.same in
-    let same = same_pair_limit config ask.operator operator ask.provider provider ask.currency currency their for_it.codes for_it.same in
-    let within = passes-false (pair_limit_of config ask.operator ask.provider ask.currency)
-    (pair_exposure_of events ask.operator ask.provider ask.currency + hold_of config ask.provider ask.currency) limit
-    (neither _ _ has_credit).1 (same ∙ has_limit) in
+    let their = same_folded_party ask.operator operator parts.0 in
+    let same = same_folded_account ask.provider provider ask.currency currency parts.1 in
+    let exposure = same_pair_exposure events ask.operator operator ask.provider provider ask.currency currency their same in
+    let alike = same_pair_limit config ask.operator operator ask.provider provider ask.currency currency their same in
+    let within = pair_within config events ask limit has_credit (alike ∙ has_limit) in
     omega (arith, within, exposure)) in
     omega (arith, sum, most)
 
@@ -153,7 +146,7 @@ keeps_hold config events ask keeps has_credit =
 -- an event that holds nothing
 keeps_more : (config : Config) (events : List Event) (x : Event) → open_hold x [] ≡ [] → KeepsLimits config events → KeepsLimits config (events ++ x ∷ [])
 keeps_more config events x none keeps =
-    let picks_none : (p : Hold → Bool) → amount_of (filter p (open_hold x [])) ≡ 0 = λ p. ap (λ (holds : List Hold). amount_of (filter p holds)) none in
+    let picks_none : (p : Hold → Bool) → total_held (filter p (open_hold x [])) ≡ 0 = λ p. ap (λ (holds : List Hold). total_held (filter p holds)) none in
     record {
       provider = λ provider currency. omega (arith, amount_later (is_of_provider provider currency) events x, picks_none (is_of_provider provider currency), keeps.provider provider currency);
       pair = λ operator provider currency limit e. omega (arith, amount_later (is_of_pair operator provider currency) events x, picks_none (is_of_pair operator provider currency), keeps.pair operator provider currency limit e);

@@ -8,74 +8,80 @@ use Rattle.ocpi_types.specs.Party.{same_party}
 use Rattle.ocpi_types.specs.Config.{row_in, limit_of, pair_limit_of}
 use Rattle.ocpi_types.specs.Currency.{same_currency}
 use Rattle.plain_house.specs.declared.event.Event.{Event}
-use Rattle.plain_house.specs.Exposure.{open_holds, amount_of, exposure_of, pair_exposure_of}
+use Rattle.plain_house.specs.declared.event.Hold.{Hold}
+use Rattle.plain_house.specs.Exposure.{open_holds, total_held, exposure_of, pair_exposure_of}
 
--- the party has this folded country code and party id
-abbrev pub has_codes : List ℕ → List ℕ → Party → Bool
-has_codes country id party = pointwise ◌==◌ (folded party.country_code) country && pointwise ◌==◌ (folded party.party_id) id
+pub record FoldedParty : Type 0 where
+  pub country_code : List ℕ
+  pub party_id : List ℕ
 
-abbrev pub limit_by : Config → List ℕ → List ℕ → List ℕ → ℕ
-limit_by config country id currency =
-    unwrap_or (option_map (λ row. row.limit) (option_and_then (row_in currency) (find (λ provider. has_codes country id provider.party) config.providers))) 0
+-- a provider's account in a currency
+pub record FoldedAccount : Type 0 where
+  pub provider : FoldedParty
+  pub currency : List ℕ
 
-abbrev pub exposure_by : List Event → List ℕ → List ℕ → List ℕ → ℕ
-exposure_by events country id currency =
-    amount_of (filter (λ hold. has_codes country id hold.provider && same_currency hold.currency currency) (open_holds events))
+abbrev pub folded_party : Party → FoldedParty
+folded_party party = record { country_code = folded party.country_code; party_id = folded party.party_id }
 
-abbrev pub pair_limit_by : Config → List ℕ → List ℕ → List ℕ → List ℕ → List ℕ → Option ℕ
-pair_limit_by config their_country their_id country id currency =
+abbrev pub folded_account : Party → List ℕ → FoldedAccount
+folded_account provider currency = record { provider = folded_party provider; currency = currency }
+
+abbrev pub is_party_of : FoldedParty → Party → Bool
+is_party_of one party = pointwise ◌==◌ (folded party.country_code) one.country_code && pointwise ◌==◌ (folded party.party_id) one.party_id
+
+abbrev pub is_hold_of : FoldedAccount → Hold → Bool
+is_hold_of account hold = is_party_of account.provider hold.provider && same_currency hold.currency account.currency
+
+abbrev pub limit_by : Config → FoldedAccount → ℕ
+limit_by config account =
+    unwrap_or (option_map (λ row. row.limit) (option_and_then (row_in account.currency) (find (λ provider. is_party_of account.provider provider.party) config.providers))) 0
+
+abbrev pub exposure_by : List Event → FoldedAccount → ℕ
+exposure_by events account = total_held (filter (is_hold_of account) (open_holds events)) + 0
+
+abbrev pub pair_limit_by : Config → FoldedParty → FoldedAccount → Option ℕ
+pair_limit_by config operator account =
     option_map (λ row. row.limit)
-    (find (λ row. has_codes their_country their_id row.operator && has_codes country id row.provider && same_currency row.currency currency) config.pair_limits)
+    (find (λ row. is_party_of operator row.operator && is_party_of account.provider row.provider && same_currency row.currency account.currency) config.pair_limits)
 
-abbrev pub pair_exposure_by : List Event → List ℕ → List ℕ → List ℕ → List ℕ → List ℕ → ℕ
-pair_exposure_by events their_country their_id country id currency =
-    amount_of (filter (λ hold. has_codes their_country their_id hold.operator && (has_codes country id hold.provider && same_currency hold.currency currency)) (open_holds events))
-
-both : (a b : Bool) → (a && b) ≡ true → (a ≡ true) × (b ≡ true)
-both true b h = (refl, h)
-both false b h = absurd (Prim.cc)
-
-pub record SameCodes (a b : Party) : Type 0 where
-  pub country : folded a.country_code ≡ folded b.country_code
-  pub id : folded a.party_id ≡ folded b.party_id
-
-pub same_codes : (a b : Party) → same_party a b ≡ true → SameCodes a b
-same_codes a b h =
-    let parts = both (same_folded a.country_code b.country_code) (same_folded a.party_id b.party_id) h in
-    record {
-      country = same_text (folded a.country_code) (folded b.country_code) (sym parts.0);
-      id = same_text (folded a.party_id) (folded b.party_id) (sym parts.1);
-    }
+abbrev pub pair_exposure_by : List Event → FoldedParty → FoldedAccount → ℕ
+pair_exposure_by events operator account =
+    total_held (filter (λ hold. is_party_of operator hold.operator && is_hold_of account hold) (open_holds events)) + 0
 
 pub both_are : (a b : Bool) → (a && b) ≡ true → (a ≡ true) × (b ≡ true)
-both_are a b h = both a b h
+both_are true b h = (refl, h)
+both_are false b h = absurd (Prim.cc)
+
+pub same_folded_party : (a b : Party) → same_party a b ≡ true → folded_party a ≡ folded_party b
+same_folded_party a b h =
+    let parts = both_are (same_folded a.country_code b.country_code) (same_folded a.party_id b.party_id) h in
+    let party : List ℕ → List ℕ → FoldedParty = λ country_code party_id. record { country_code = country_code; party_id = party_id } in
+    ap (λ (text : List ℕ). party text (folded a.party_id)) (same_text (folded a.country_code) (folded b.country_code) (sym parts.0))
+    ∙ ap (λ (text : List ℕ). party (folded b.country_code) text) (same_text (folded a.party_id) (folded b.party_id) (sym parts.1))
+
+pub same_folded_account : (a b : Party) (c d : List ℕ) → (same_party a b && same_currency c d) ≡ true → folded_account a c ≡ folded_account b d
+same_folded_account a b c d h =
+    let parts = both_are (same_party a b) (same_currency c d) h in
+    let account : FoldedParty → List ℕ → FoldedAccount = λ provider currency. record { provider = provider; currency = currency } in
+    ap (λ (provider : FoldedParty). account provider c) (same_folded_party a b parts.0)
+    ∙ ap (λ (currency : List ℕ). account (folded_party b) currency) (same_text c d (sym parts.1))
 
 -- the provider's limit and exposure
-pub same_limit : (config : Config) (a b : Party) (c d : List ℕ) → SameCodes a b → c ≡ d → limit_of config a c ≡ limit_of config b d
-same_limit config a b c d same e =
-    ap (λ (k : List ℕ). limit_by config k (folded a.party_id) c) same.country
-    ∙ ap (λ (k : List ℕ). limit_by config (folded b.country_code) k c) same.id
-    ∙ ap (λ (k : List ℕ). limit_by config (folded b.country_code) (folded b.party_id) k) e
+pub same_limit : (config : Config) (a b : Party) (c d : List ℕ) → folded_account a c ≡ folded_account b d → limit_of config a c ≡ limit_of config b d
+same_limit config a b c d same = ap (λ (account : FoldedAccount). limit_by config account) same
 
-pub same_exposure : (events : List Event) (a b : Party) (c d : List ℕ) → SameCodes a b → c ≡ d → exposure_of events a c ≡ exposure_of events b d
-same_exposure events a b c d same e =
-    ap (λ (k : List ℕ). exposure_by events k (folded a.party_id) c + 0) same.country
-    ∙ ap (λ (k : List ℕ). exposure_by events (folded b.country_code) k c + 0) same.id
-    ∙ ap (λ (k : List ℕ). exposure_by events (folded b.country_code) (folded b.party_id) k + 0) e
+pub same_exposure : (events : List Event) (a b : Party) (c d : List ℕ) → folded_account a c ≡ folded_account b d → exposure_of events a c ≡ exposure_of events b d
+same_exposure events a b c d same = ap (λ (account : FoldedAccount). exposure_by events account) same
 
 -- the same of a pair
-pub same_pair_limit : (config : Config) (o p a b : Party) (c d : List ℕ) → SameCodes o p → SameCodes a b → c ≡ d → pair_limit_of config o a c ≡ pair_limit_of config p b d
-same_pair_limit config o p a b c d their same e =
-    ap (λ (k : List ℕ). pair_limit_by config k (folded o.party_id) (folded a.country_code) (folded a.party_id) c) their.country
-    ∙ ap (λ (k : List ℕ). pair_limit_by config (folded p.country_code) k (folded a.country_code) (folded a.party_id) c) their.id
-    ∙ ap (λ (k : List ℕ). pair_limit_by config (folded p.country_code) (folded p.party_id) k (folded a.party_id) c) same.country
-    ∙ ap (λ (k : List ℕ). pair_limit_by config (folded p.country_code) (folded p.party_id) (folded b.country_code) k c) same.id
-    ∙ ap (λ (k : List ℕ). pair_limit_by config (folded p.country_code) (folded p.party_id) (folded b.country_code) (folded b.party_id) k) e
+pub same_pair_limit : (config : Config) (o p a b : Party) (c d : List ℕ) → folded_party o ≡ folded_party p → folded_account a c ≡ folded_account b d
+    → pair_limit_of config o a c ≡ pair_limit_of config p b d
+same_pair_limit config o p a b c d their same =
+    ap (λ (operator : FoldedParty). pair_limit_by config operator (folded_account a c)) their
+    ∙ ap (λ (account : FoldedAccount). pair_limit_by config (folded_party p) account) same
 
-pub same_pair_exposure : (events : List Event) (o p a b : Party) (c d : List ℕ) → SameCodes o p → SameCodes a b → c ≡ d → pair_exposure_of events o a c ≡ pair_exposure_of events p b d
-same_pair_exposure events o p a b c d their same e =
-    ap (λ (k : List ℕ). pair_exposure_by events k (folded o.party_id) (folded a.country_code) (folded a.party_id) c + 0) their.country
-    ∙ ap (λ (k : List ℕ). pair_exposure_by events (folded p.country_code) k (folded a.country_code) (folded a.party_id) c + 0) their.id
-    ∙ ap (λ (k : List ℕ). pair_exposure_by events (folded p.country_code) (folded p.party_id) k (folded a.party_id) c + 0) same.country
-    ∙ ap (λ (k : List ℕ). pair_exposure_by events (folded p.country_code) (folded p.party_id) (folded b.country_code) k c + 0) same.id
-    ∙ ap (λ (k : List ℕ). pair_exposure_by events (folded p.country_code) (folded p.party_id) (folded b.country_code) (folded b.party_id) k + 0) e
+pub same_pair_exposure : (events : List Event) (o p a b : Party) (c d : List ℕ) → folded_party o ≡ folded_party p → folded_account a c ≡ folded_account b d
+    → pair_exposure_of events o a c ≡ pair_exposure_of events p b d
+same_pair_exposure events o p a b c d their same =
+    ap (λ (operator : FoldedParty). pair_exposure_by events operator (folded_account a c)) their
+    ∙ ap (λ (account : FoldedAccount). pair_exposure_by events (folded_party p) account) same

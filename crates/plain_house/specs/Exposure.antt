@@ -8,19 +8,25 @@ use Rattle.ocpi_types.specs.Currency.{same_currency}
 use Rattle.cdr_checks.specs.declared.request.Release.{Release}
 use Rattle.plain_house.specs.declared.event.Hold.{Hold}
 use Rattle.plain_house.specs.declared.event.Event.{Event}
-use Rattle.plain_house.specs.declared.event.Event.TheVariants.{Authorised, Released}
+use Rattle.plain_house.specs.declared.event.Event.TheVariants.{Tariff, Token, Authorised, Released, Closed}
 
 -- the event ends the hold: a release of the same operator, provider and reference
 abbrev pub ends_hold : Hold → Event → Bool
+ends_hold hold (Tariff tariff) = false
+ends_hold hold (Token token) = false
+ends_hold hold (Authorised another) = false
 ends_hold hold (Released release) =
     same_party release.operator hold.operator && same_party release.provider hold.provider
     && same_folded release.reference hold.reference
-ends_hold hold event = false
+ends_hold hold (Closed period) = false
 
 -- the hold of an authorisation that none of the later events ends
 abbrev pub open_hold : Event → List Event → List Hold
+open_hold (Tariff tariff) later = []
+open_hold (Token token) later = []
 open_hold (Authorised hold) later = if list_any (ends_hold hold) later then [] else hold ∷ []
-open_hold event later = []
+open_hold (Released release) later = []
+open_hold (Closed period) later = []
 
 abbrev pub open_holds : List Event → List Hold
 open_holds [] = []
@@ -36,16 +42,17 @@ is_of_provider provider currency hold = same_party hold.provider provider && sam
 abbrev pub is_of_pair : Party → Party → List ℕ → Hold → Bool
 is_of_pair operator provider currency hold = same_party hold.operator operator && is_of_provider provider currency hold
 
-abbrev pub amount_of : List Hold → ℕ
-amount_of holds = sum_by (λ hold. hold.amount) holds
+-- what these holds hold together
+abbrev pub total_held : List Hold → ℕ
+total_held holds = sum_by (λ hold. hold.amount) holds
 
 -- the open holds of a provider in a currency, in ten-thousandths
 abbrev pub holds_of : List Event → Party → List ℕ → ℕ
-holds_of events provider currency = amount_of (filter (is_of_provider provider currency) (open_holds events))
+holds_of events provider currency = total_held (filter (is_of_provider provider currency) (open_holds events))
 
 -- the same of the authorisations of one operator alone
 abbrev pub pair_holds_of : List Event → Party → Party → List ℕ → ℕ
-pair_holds_of events operator provider currency = amount_of (filter (is_of_pair operator provider currency) (open_holds events))
+pair_holds_of events operator provider currency = total_held (filter (is_of_pair operator provider currency) (open_holds events))
 
 -- what a provider owes in a currency: no event of these kinds makes a debt
 abbrev pub debts_of : List Event → Party → List ℕ → ℕ

@@ -18,7 +18,7 @@ use Rattle.plain_house.specs.declared.event.Event.TheVariants as event
 use Rattle.plain_house.specs.declared.answer.Answer.{Answer}
 use Rattle.plain_house.specs.declared.answer.Answer.TheVariants as answer
 use Rattle.plain_house.specs.Exposure.{released_hold, holds_of, debts_of, exposure_of, pair_exposure_of}
-use Rattle.plain_house.specs.Replies.{Reply, Outcome, Gives, refused, answered}
+use Rattle.plain_house.specs.Replies.{Reply, Outcome, Follows, refused, answered}
 use Rattle.plain_house.specs.Room.{full_for_provider, full_for_tariff, unless_full}
 use Rattle.plain_house.specs.Tariffs.{stored_version}
 use Rattle.plain_house.specs.Tokens.{validity}
@@ -26,8 +26,11 @@ use Rattle.plain_house.specs.Tokens.{validity}
 -- ---- periods
 
 abbrev pub is_close : Event → Bool
+is_close (event.Tariff tariff) = false
+is_close (event.Token token) = false
+is_close (event.Authorised hold) = false
+is_close (event.Released release) = false
 is_close (event.Closed period) = true
-is_close other = false
 
 -- the current period: periods are numbered from 0, and a close begins the next
 abbrev pub period_of : List Event → ℕ
@@ -45,8 +48,11 @@ put_tariff config events tariff (Some stored) =
 -- ---- authorisations
 
 abbrev pub is_authorisation_of : Party → Event → Bool
+is_authorisation_of provider (event.Tariff tariff) = false
+is_authorisation_of provider (event.Token token) = false
 is_authorisation_of provider (event.Authorised hold) = same_party hold.provider provider
-is_authorisation_of provider other = false
+is_authorisation_of provider (event.Released release) = false
+is_authorisation_of provider (event.Closed period) = false
 
 -- a provider as it is configured
 abbrev pub as_configured : Config → Party → Party
@@ -123,4 +129,4 @@ events_after config events command = events ++ (outcome config events command).a
 
 -- the reply and the list after a command
 abbrev pub Does : Config → List Event → Command → Reply → List Event → Type 0
-Does config events command reply now = Gives (outcome config events command) events reply now
+Does config events command reply now = Follows (outcome config events command) events reply now

@@ -1,6 +1,6 @@
-pub mod Counted
 pub mod Exposure
 pub mod House
+pub mod Inner
 pub mod Legal
 pub mod Replies
 pub mod Room

@@ -8,20 +8,24 @@ use Rattle.ocpi_types.specs.declared.refusal.Store.{Store}
 use Rattle.ocpi_types.specs.declared.refusal.Store.TheVariants as store
 use Rattle.ocpi_types.specs.Party.{same_party}
 use Rattle.plain_house.specs.declared.event.Event.{Event}
-use Rattle.plain_house.specs.declared.event.Event.TheVariants.{Tariff, Token, Authorised, Released}
+use Rattle.plain_house.specs.declared.event.Event.TheVariants.{Tariff, Token, Authorised, Released, Closed}
 use Rattle.plain_house.specs.Replies.{Outcome, refused}
 
 -- the event is an entry of the provider's account
 abbrev pub is_entry_of : Party → Event → Bool
+is_entry_of provider (Tariff tariff) = false
 is_entry_of provider (Token token) = same_party token.provider provider
 is_entry_of provider (Authorised hold) = same_party hold.provider provider
 is_entry_of provider (Released release) = same_party release.provider provider
-is_entry_of provider event = false
+is_entry_of provider (Closed period) = false
 
 -- the event is a tariff version of the operator's book
 abbrev pub is_tariff_of : Party → Event → Bool
 is_tariff_of operator (Tariff tariff) = same_party tariff.operator operator
-is_tariff_of operator event = false
+is_tariff_of operator (Token token) = false
+is_tariff_of operator (Authorised hold) = false
+is_tariff_of operator (Released release) = false
+is_tariff_of operator (Closed period) = false
 
 abbrev pub is_account_full : Config → List Event → Party → Bool
 is_account_full config events provider = nat_le config.limits.entries (count_by (is_entry_of provider) events)

@@ -1,17 +1,16 @@
 use exact_money::Amount;
 use ocpi_json::ci_text::CiText;
-use ocpi_types::{Refusal, TryCopy};
-use std::alloc::{AllocError, Global};
+use ocpi_types::Refusal;
 
 /// What an accepted command is answered.
-#[derive(Drop)]
+#[derive(Clone, Copy)]
 pub enum Answer {
     Stored,
     /// The tariff version stands already, with the same content.
     Unchanged,
     /// The authorisation stands under this reference.
     Allowed {
-        reference: CiText,
+        reference: CiText<36>,
     },
     /// The token is not valid.
     Blocked,
@@ -29,7 +28,7 @@ pub enum Answer {
 }
 
 /// An answer, and the number of events before it.
-#[derive(Drop)]
+#[derive(Clone, Copy)]
 pub struct Replied {
     pub at: u64,
     pub answer: Answer,
@@ -40,29 +39,4 @@ pub struct Replied {
 pub struct Refused {
     pub at: Option<u64>,
     pub refusal: Refusal,
-}
-
-impl TryCopy for Answer {
-    fn copy(&self, alloc: Global) -> Result<Answer, AllocError> {
-        match self {
-            Answer::Stored => Ok(Answer::Stored),
-            Answer::Unchanged => Ok(Answer::Unchanged),
-            Answer::Allowed { reference } => {
-                let reference = reference.copy(alloc)?;
-                Ok(Answer::Allowed { reference })
-            }
-            Answer::Blocked => Ok(Answer::Blocked),
-            Answer::NoCredit => Ok(Answer::NoCredit),
-            Answer::Released { amount } => Ok(Answer::Released { amount: *amount }),
-            Answer::Exposure {
-                holds,
-                debts,
-                limit,
-            } => Ok(Answer::Exposure {
-                holds: *holds,
-                debts: *debts,
-                limit: *limit,
-            }),
-        }
-    }
 }

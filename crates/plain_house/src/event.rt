@@ -5,13 +5,13 @@ use ocpi_types::{Currency, Party, Tariff, Token, TryCopy};
 use std::alloc::{AllocError, Global};
 
 /// What an allowed authorisation holds of its provider's credit.
-#[derive(Drop)]
+#[derive(Clone, Copy)]
 pub struct Hold {
     pub operator: Party,
     pub provider: Party,
     pub currency: Currency,
     pub amount: HoldAmount,
-    pub reference: CiText,
+    pub reference: CiText<36>,
 }
 
 /// What has happened in a house.
@@ -24,28 +24,13 @@ pub enum Event {
     Closed { period: u64 },
 }
 
-impl TryCopy for Hold {
-    fn copy(&self, alloc: Global) -> Result<Hold, AllocError> {
-        let operator = self.operator.copy(alloc)?;
-        let provider = self.provider.copy(alloc)?;
-        let reference = self.reference.copy(alloc)?;
-        Ok(Hold {
-            operator,
-            provider,
-            currency: self.currency,
-            amount: self.amount,
-            reference,
-        })
-    }
-}
-
 impl TryCopy for Event {
     fn copy(&self, alloc: Global) -> Result<Event, AllocError> {
         match self {
             Event::Tariff(tariff) => Ok(Event::Tariff(tariff.copy(alloc)?)),
-            Event::Token(token) => Ok(Event::Token(token.copy(alloc)?)),
-            Event::Authorised(hold) => Ok(Event::Authorised(hold.copy(alloc)?)),
-            Event::Released(release) => Ok(Event::Released(release.copy(alloc)?)),
+            Event::Token(token) => Ok(Event::Token(*token)),
+            Event::Authorised(hold) => Ok(Event::Authorised(*hold)),
+            Event::Released(release) => Ok(Event::Released(*release)),
             Event::Closed { period } => Ok(Event::Closed { period: *period }),
         }
     }

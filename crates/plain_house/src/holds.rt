@@ -2,9 +2,9 @@
 
 ghost use Rattle.std.specs.Prelude.{◌≡◌, ◌<◌, ◌^◌, find, filter, option_copied};
 ghost use Rattle.std.specs.List.{list_any};
-ghost use Rattle.plain_house.specs.Exposure.{ends_hold, open_hold, amount_of, holds_of, pair_holds_of, released_hold};
+ghost use Rattle.plain_house.specs.Exposure.{ends_hold, open_hold, total_held, holds_of, pair_holds_of, released_hold};
 ghost use Rattle.plain_house.specs.declared.event.Event.TheVariants.{Released};
-ghost use Rattle.plain_house.specs.Counted.{is_by, is_counted, counted_amount};
+ghost use Rattle.plain_house.specs.Inner.Counted.{is_by, is_counted, counted_amount};
 
 use super::event::{Event, Hold};
 use cdr_checks::Release;
@@ -56,7 +56,7 @@ fn open_amount(
     provider: &Party,
     currency: &Currency,
 ) -> u64
-    ensures value { result ≡ amount_of (filter (is_counted (option_copied operator.entry) provider.now currency.now) (open_hold event.now later.now)) }
+    ensures value { result ≡ total_held (filter (is_counted (option_copied operator.entry) provider.now currency.now) (open_hold event.now later.now)) }
 {
     match event {
         Event::Authorised(hold) => {

@@ -18,21 +18,16 @@ mod release;
 mod replies;
 mod room;
 
-fn reply(
-    alloc: Global,
-    config: &Config,
-    events: &mut Vec<Event>,
-    command: Command,
-) -> Result<Replied, Refused>
+fn reply(config: &Config, events: &mut Vec<Event>, command: Command) -> Result<Replied, Refused>
     requires { KeepsLimits config.now events.old.items }
     ensures { Does config.now events.old.items command result events.new.items }
 {
     match command {
         Command::PutTariff(tariff) => put_tariff::put_tariff(config, events, tariff),
         Command::PutToken(token) => put_token::put_token(config, events, token),
-        Command::Authorize(ask) => authorize::authorize(alloc, config, events, ask),
+        Command::Authorize(ask) => authorize::authorize(config, events, ask),
         Command::Release(release) => release::release(config, events, release),
-        Command::Exposure(ask) => Ok(exposure::exposure(config, events.as_slice(), &ask)),
+        Command::Exposure(ask) => Ok(exposure::exposure(config, events.as_slice(), ask)),
     }
 }
 
@@ -41,7 +36,6 @@ fn reply(
 pub struct PlainHouse {
     config: Config,
     events: Vec<Event>,
-    alloc: Global,
 }
 
 impl Model for PlainHouse {
@@ -64,7 +58,6 @@ impl PlainHouse {
         PlainHouse {
             config,
             events: Vec::new(alloc),
-            alloc,
         }
     }
 
@@ -82,6 +75,6 @@ impl Sequential for PlainHouse {
     ghost config = { λ house. house.config };
 
     fn do_command(&mut self, command: Command) -> Result<Replied, Refused> {
-        reply(self.alloc, &self.config, &mut self.events, command)
+        reply(&self.config, &mut self.events, command)
     }
 }

@@ -1,27 +1,41 @@
 -- What a CDR costs that is given as JSON.
-use Rattle.std.specs.Prelude.{ℕ, ℤ, List, Bool, true, false, Option, Some, None, Result, Ok, Err}
+use Rattle.std.specs.Prelude.{ℕ, ℤ, List, Bool, true, false, Option, Some, None, Result, Ok, Err, if◌then◌else◌}
 use Rattle.jiff.specs.Types.{TimeZone as PlainZone}
 use Rattle.serde_json.specs.Data.{Data}
 use Rattle.ocpi_json.specs.Reading.{data_of}
 use Rattle.ocpi_json.specs.declared.name.Name.{Name}
 use Rattle.ocpi_types.specs.declared.cdr.Cdr.{Cdr}
 use Rattle.ocpi_types.specs.declared.refusal.Refusal.{Refusal}
-use Rattle.ocpi_types.specs.declared.refusal.Refusal.TheVariants as refusal
-use Rattle.ocpi_types.specs.Cdr.{cdr_at}
+use Rattle.ocpi_types.specs.declared.refusal.Refusal.TheVariants.{Syntax, Field}
+use Rattle.ocpi_types.specs.Cdr.{cdr_at, is_credit}
 use Rattle.cdr_rating.specs.Price.{price}
+use Rattle.rate_cdr.specs.declared.amount.RatingFault.{RatingFault}
+use Rattle.rate_cdr.specs.declared.amount.RatingFault.TheVariants.{Refused, CreditCdr, NoMemory}
 
-abbrev pub is_no_memory : Refusal → Bool
-is_no_memory refusal.NoMemory = true
-is_no_memory other = false
+abbrev pub is_fault_no_memory : RatingFault → Bool
+is_fault_no_memory (Refused refusal) = false
+is_fault_no_memory CreditCdr = false
+is_fault_no_memory NoMemory = true
 
-abbrev pub priced : PlainZone → Result Cdr Name → Result ℤ Refusal
-priced zone (Ok cdr) = price cdr zone
-priced zone (Err called) = Err (refusal.Field called)
+abbrev pub amount_or_refused : Result ℤ Refusal → Result ℤ RatingFault
+amount_or_refused (Ok amount) = Ok amount
+amount_or_refused (Err refusal) = Err (Refused refusal)
 
-abbrev pub priced_in : PlainZone → Option Data → Result ℤ Refusal
-priced_in zone None = Err refusal.Syntax
-priced_in zone (Some node) = priced zone (cdr_at node)
+-- a Credit CDR is not rated
+unfoldable pub rated_cdr : PlainZone → Cdr → Result ℤ RatingFault
+rated_cdr zone cdr = if is_credit cdr then Err CreditCdr else amount_or_refused (price cdr zone)
+
+abbrev pub rated_if_read : PlainZone → Result Cdr Name → Result ℤ RatingFault
+rated_if_read zone (Ok cdr) = rated_cdr zone cdr
+rated_if_read zone (Err called) = Err (Refused (Field called))
+
+unfoldable pub rated_node : PlainZone → Data → Result ℤ RatingFault
+rated_node zone node = rated_if_read zone (cdr_at node)
+
+abbrev pub rated_if_json : PlainZone → Option Data → Result ℤ RatingFault
+rated_if_json zone None = Err (Refused Syntax)
+rated_if_json zone (Some node) = rated_node zone node
 
 -- the amount in ten-thousandths, or why there is none
-unfoldable pub amount_of : List ℕ → PlainZone → Result ℤ Refusal
-amount_of text zone = priced_in zone (data_of text)
+unfoldable pub rated_text : List ℕ → PlainZone → Result ℤ RatingFault
+rated_text text zone = rated_if_json zone (data_of text)

@@ -1,32 +1,70 @@
 //! What a CDR costs that is given as JSON.
 
 ghost use Rattle.std.specs.Prelude.{◌≡◌, IfOk, IfErr, Ok, Err, false};
-ghost use Rattle.rate_cdr.specs.Amount.{amount_of, is_no_memory};
+ghost use Rattle.serde_json.specs.View.{view};
+ghost use Rattle.rate_cdr.specs.Amount.{is_fault_no_memory, rated_cdr, rated_node, rated_text};
 
 use cdr_rating::rate;
 use exact_money::Amount;
 use ocpi_json::fields::FieldFault;
-use ocpi_json::objects::FromNode;
-use ocpi_json::{ReadFault, read};
+use ocpi_json::objects::FromNodeIn;
+use ocpi_json::{Node, ReadFault, read};
 use ocpi_types::{Cdr, Refusal, Zone};
 use std::alloc::Global;
 
-/// What the CDR costs by its tariffs in its operator's zone: `Syntax` where the text is no JSON, `Field` for the first
-/// member that is missing, of a wrong kind or out of bounds, `TariffNotGiven` and `AmountTooLarge` as `rate` has them,
-/// `NoMemory` where a growth was refused.
-#[tactic(auto, unfolding(crate::specs::Amount::amount_of))]
-pub fn amount_of(alloc: Global, text: &[u8], zone: &Zone) -> Result<Amount, Refusal>
-    ensures amount { IfOk result (λ amount. amount_of text.now zone.now ≡ Ok amount) }
-    ensures refusal { IfErr result (λ refusal. is_no_memory refusal ≡ false → amount_of text.now zone.now ≡ Err refusal) }
+/// Why a text has no amount.
+#[derive(Clone, Copy)]
+pub enum RatingFault {
+    /// The text is no CDR, or its session has no amount.
+    Refused { refusal: Refusal },
+    /// It is a Credit CDR, which is not rated.
+    CreditCdr,
+    /// Memory was refused.
+    NoMemory,
+}
+
+fn refused(refusal: Refusal) -> RatingFault
+    ensures { result ≡ RatingFault.Refused refusal }
 {
-    let node = match read(alloc, text) {
-        Ok(node) => node,
-        Err(ReadFault::Syntax) => return Err(Refusal::Syntax),
-        Err(ReadFault::NoMemory) => return Err(Refusal::NoMemory),
-    };
-    match Cdr::from_node(alloc, &node) {
-        Ok(cdr) => rate(&cdr, zone),
-        Err(FieldFault::Field(name)) => Err(Refusal::Field { name }),
-        Err(FieldFault::NoMemory) => Err(Refusal::NoMemory),
+    RatingFault::Refused { refusal }
+}
+
+#[tactic(auto, unfolding(crate::specs::Amount::rated_cdr))]
+fn rate_cdr(cdr: &Cdr, zone: &Zone) -> Result<Amount, RatingFault>
+    ensures { result ≡ rated_cdr zone.now cdr.now }
+{
+    if cdr.is_credit() {
+        return Err(RatingFault::CreditCdr);
+    }
+    match rate(cdr, zone) {
+        Ok(amount) => Ok(amount),
+        Err(refusal) => Err(refused(refusal)),
+    }
+}
+
+#[tactic(auto, unfolding(crate::specs::Amount::rated_node))]
+fn rate_node(alloc: Global, node: &Node, zone: &Zone) -> Result<Amount, RatingFault>
+    ensures amount { IfOk result (λ amount. rated_node zone.now (view node.now) ≡ Ok amount) }
+    ensures fault { IfErr result (λ fault. is_fault_no_memory fault ≡ false → rated_node zone.now (view node.now) ≡ Err fault) }
+{
+    match Cdr::from_node_in(alloc, node) {
+        Ok(cdr) => rate_cdr(&cdr, zone),
+        Err(FieldFault::Field(name)) => Err(refused(Refusal::Field { name })),
+        Err(FieldFault::NoMemory) => Err(RatingFault::NoMemory),
+    }
+}
+
+/// What the CDR costs by its tariffs in its operator's zone: `Syntax` where the text is no JSON, `Field` for the first
+/// member that is missing, of a wrong kind or out of bounds, `CreditCdr` for a Credit CDR, `TariffNotGiven` and
+/// `AmountTooLarge` as `rate` has them, `NoMemory` where a growth was refused.
+#[tactic(auto, unfolding(crate::specs::Amount::rated_text))]
+pub fn rate_text(alloc: Global, text: &[u8], zone: &Zone) -> Result<Amount, RatingFault>
+    ensures amount { IfOk result (λ amount. rated_text text.now zone.now ≡ Ok amount) }
+    ensures fault { IfErr result (λ fault. is_fault_no_memory fault ≡ false → rated_text text.now zone.now ≡ Err fault) }
+{
+    match read(alloc, text) {
+        Ok(node) => rate_node(alloc, &node, zone),
+        Err(ReadFault::Syntax) => Err(refused(Refusal::Syntax)),
+        Err(ReadFault::NoMemory) => Err(RatingFault::NoMemory),
     }
 }

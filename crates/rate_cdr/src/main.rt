@@ -1,10 +1,10 @@
 //! Rates one CDR: reads it as JSON from standard input and writes what it costs by its tariffs. The one word is the zone
-//! of its operator. Where there is no amount, standard error says why and the status is 1.
+//! of its operator. Where there is no amount, standard error says why in one line and the status is 1.
 #![tactic(auto)]
 
 mod amount;
 
-use amount::amount_of;
+use amount::{RatingFault, rate_text};
 use ocpi_types::{Refusal, Zone};
 use std::env;
 use std::io::{self, ErrorKind, Read};
@@ -18,10 +18,18 @@ fn zone(rt: &HostRuntime) -> io::Result<Option<Zone>> {
     }
 }
 
-fn tell(rt: &HostRuntime, refusal: &Refusal) -> io::Result<()> {
+fn tell_refusal(rt: &HostRuntime, refusal: Refusal) -> io::Result<()> {
     match refusal {
         Refusal::Field { name } => eprintln!(rt; "rate_cdr: Field {}", name.as_str()),
         other => eprintln!(rt; "rate_cdr: {}", other.name()),
+    }
+}
+
+fn tell(rt: &HostRuntime, fault: RatingFault) -> io::Result<()> {
+    match fault {
+        RatingFault::Refused { refusal } => tell_refusal(rt, refusal),
+        RatingFault::CreditCdr => eprintln!(rt; "rate_cdr: Credit CDR"),
+        RatingFault::NoMemory => eprintln!(rt; "rate_cdr: NoMemory"),
     }
 }
 
@@ -32,13 +40,13 @@ fn perform(rt: &HostRuntime) -> io::Result<u8> {
     };
     let mut text = Vec::new(rt.alloc());
     rt.stdin().read_to_end(&mut text)?;
-    match amount_of(rt.alloc(), text.as_slice(), &zone) {
+    match rate_text(rt.alloc(), text.as_slice(), &zone) {
         Ok(amount) => {
             println!(rt; "{amount}")?;
             Ok(0)
         }
-        Err(refusal) => {
-            tell(rt, &refusal)?;
+        Err(fault) => {
+            tell(rt, fault)?;
             Ok(1)
         }
     }

@@ -2,7 +2,7 @@
 use Rattle.std.proofs.Common.{◌≡◌, List, ◌++◌, Result, Ok, Err, append_assoc, ◌∙◌, ap}
 use Rattle.json.specs.Token.{Token}
 use Rattle.json.specs.Written.{Written}
-use Rattle.request_lines.specs.Adding.{Adds}
+use Rattle.request_lines.specs.Inner.Adding.{Adds}
 
 pub adds_more : {E : Type 0} (r : Result (Unit {0}) E) (old middle new : Written) (first second : List Token)
     → middle.tokens ≡ old.tokens ++ first → middle.before ≡ old.before → Adds r middle new second → Adds r old new (first ++ second)

@@ -2,4 +2,4 @@ pub mod AddsLemmas
 pub mod LineLaws
 pub mod LinesLemmas
 pub mod RunLemmas
-pub mod TextForm
+pub mod SeenRuns

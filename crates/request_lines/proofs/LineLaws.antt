@@ -5,7 +5,7 @@ use Rattle.std.proofs.lemmas.List.{append-nil}
 use Rattle.std.proofs.lemmas.List.Elements.{All-nil, All-cons, All-head, All-tail, All-append}
 use Rattle.std.proofs.lemmas.Bool.Decides.{nat_tests}
 use Rattle.request_lines.specs.Lines.{lines_of, whole_lines, last_line, HasNoNewline, with_newline, AreLines}
-use Rattle.request_lines.specs.Progress.{whole_from, rest_from}
+use Rattle.request_lines.specs.Inner.Progress.{whole_from, rest_from}
 use Rattle.request_lines.proofs.LinesLemmas.{whole_from_start, whole_from-append, rest_from-append, lines_end, not_ten}
 
 none_more : (p : List ℕ) (x : ℕ) → HasNoNewline p → (x ≢ 10) → HasNoNewline (p ++ x ∷ [])

@@ -5,7 +5,7 @@ use Rattle.std.proofs.lemmas.Grind.{common_steps}
 use Rattle.std.proofs.lemmas.Bool.Decides.{nat_tests}
 use Rattle.std.proofs.Math.Seq.{take-add}
 use Rattle.request_lines.specs.Lines.{onto_first, onto_line, lines_of, whole_lines, last_line}
-use Rattle.request_lines.specs.Progress.{lines_from, whole_from, rest_from}
+use Rattle.request_lines.specs.Inner.Progress.{lines_from, whole_from, rest_from}
 
 pub range_all : (i : ℕ) (xs : List ℕ) → take (length xs - i) (drop i xs) ≡ drop i xs
 range_all i xs = grind (arith, common_steps)

@@ -1,19 +1,26 @@
 -- How answered lines go on and end.
-use Rattle.std.proofs.Common.{◌≡◌, ℕ, ◌+◌, ◌^◌, ◌<◌, ◌≤◌, ◌⊎◌, inl, inr, Bool, true, List, [], ◌∷◌, ◌++◌, length, take, refl, ap, sym, ◌∙◌, append_assoc, arith, length-append, All}
-use Rattle.std.proofs.lemmas.List.{append-nil}
+use Rattle.std.proofs.Common.{◌≡◌, ℕ, ◌+◌, ◌-◌, ◌^◌, ◌<◌, ◌≤◌, ◌⊎◌, inl, inr, true, List, [], ◌∷◌, ◌++◌, length, take, refl, ap, sym, ◌∙◌, append_assoc, arith, length-append, All}
 use Rattle.std.proofs.lemmas.List.Elements.{All-nil, All-cons, All-append}
+use Rattle.request_lines.specs.declared.progress.Progress.{Progress}
 use Rattle.request_lines.specs.declared.faults.ScriptFault.{ScriptFault}
 use Rattle.request_lines.specs.declared.faults.ScriptFault.TheVariants.{Read, Write, NoMemory, LineTooLong}
-use Rattle.request_lines.specs.Lines.{lines_of, last_line, IsShort}
-use Rattle.request_lines.specs.Answering.{IsDone, IsFault, StopsAtRead, StopsAtWrite, StopsForMemory, StopsAtLongLine}
-use Rattle.request_lines.specs.Progress.{Stops, IsUnderWay, lines_from, whole_from, rest_from}
+use Rattle.request_lines.specs.Lines.{lines_of, whole_lines, last_line, IsShort}
+use Rattle.request_lines.specs.Answering.{Rule, Run, Input, LinesRead, IsComplete, lines_read, IsDone, IsFault, StopsAtRead, StopsAtWrite, StopsForMemory, StopsAtLongLine}
+use Rattle.request_lines.specs.Inner.Progress.{Stops, IsUnderWay, lines_from, whole_from, rest_from, read_from, read_line, read_last}
 use Rattle.request_lines.proofs.LinesLemmas.{whole_from-append, rest_from-append, lines_from-append, whole_from_start, lines_from_start, lines_end, first_line_more}
+
+-- answers that follow one another are answers
+abbrev pub Joins : {A : Type 0} → Rule A → Type 0
+Joins {A = A} rule = (a b c : A) (ls ms : List (List ℕ)) (t u : List ℕ) → rule.answers a ls t b → rule.answers b ms u c → rule.answers a (ls ++ ms) (t ++ u) c
 
 pub rest_step : (p xs ys part : List ℕ) → part ≡ rest_from p xs → rest_from p (xs ++ ys) ≡ rest_from part ys
 rest_step p xs ys part f = rw f (rest_from-append p xs ys)
 
 pub whole_step : (p xs ys part : List ℕ) → part ≡ rest_from p xs → whole_from p (xs ++ ys) ≡ whole_from p xs ++ whole_from part ys
 whole_step p xs ys part f = rw f (whole_from-append p xs ys)
+
+pub lines_step : (p xs ys part : List ℕ) → part ≡ rest_from p xs → lines_from p (xs ++ ys) ≡ whole_from p xs ++ lines_from part ys
+lines_step p xs ys part f = rw f (lines_from-append p xs ys)
 
 pub length_step : (p xs ys part : List ℕ) → part ≡ rest_from p xs → length (whole_from p (xs ++ ys)) ≡ length (whole_from p xs) + length (whole_from part ys)
 length_step p xs ys part f = ap length (whole_step p xs ys part f) ∙ length-append (whole_from p xs) (whole_from part ys)
@@ -28,14 +35,85 @@ last_short : (part : List ℕ) → IsShort part → All IsShort (last_line part)
 last_short [] h = All-nil IsShort
 last_short (x ∷ part) h = one_short (x ∷ part) h
 
--- lines that stop do so after earlier lines too
-pub stops_later : {A : Type 0} (answers : A → List (List ℕ) → List ℕ → A → Type 0) (gives_up : A → List ℕ → A → Type 0) →
-    ((a b c : A) (ls ms : List (List ℕ)) (t u : List ℕ) → answers a ls t b → answers b ms u c → answers a (ls ++ ms) (t ++ u) c) →
-    (a b c : A) (xs ys : List (List ℕ)) (n w : ℕ) (fault : ScriptFault) (text written : List ℕ) → answers a xs text b → All IsShort xs →
-    Stops answers gives_up b ys (n + length xs) (w + length text) fault written c →
-    Stops answers gives_up a (xs ++ ys) n w fault (text ++ written) c
-stops_later answers gives_up more a b c xs ys n w Read text written first short h = h
-stops_later answers gives_up more a b c xs ys n w (Write count) text written first short h = (
+-- ---- which lines are complete
+
+complete_weaker : (m n m' n' : ℕ) (E F : Type 0) → (m < n → m' < n') → (E → F) → (m < n) ⊎ E → (m' < n') ⊎ F
+complete_weaker m n m' n' E F f e (inl h) = inl (f h)
+complete_weaker m n m' n' E F f e (inr h) = inr (e h)
+
+-- lines that stop do so where at least the same ones are complete
+pub stops_in : {A : Type 0} (rule : Rule A) (old new : LinesRead) (n w : ℕ) (fault : ScriptFault) (run : Run A) → new.lines ≡ old.lines → ((place : ℕ) → IsComplete old place → IsComplete new place) →
+    Stops rule old n w fault run → Stops rule new n w fault run
+stops_in rule old new n w Read run e f h = h
+stops_in rule old new n w (Write count) run e f h = (
+  h.0,
+  record {
+    before = h.1.before;
+    line = h.1.line;
+    others = h.1.others;
+    middle = h.1.middle;
+    text = h.1.text;
+    answer = h.1.answer;
+    sent = h.1.sent;
+    split = e ∙ h.1.split;
+    is_complete = f (length h.1.before) h.1.is_complete;
+    each_short = h.1.each_short;
+    answered = h.1.answered;
+    answered_last = h.1.answered_last;
+    sent_is_less = h.1.sent_is_less;
+    written_is = h.1.written_is;
+  },
+)
+stops_in rule old new n w NoMemory run e f h = record {
+  before = h.before;
+  others = h.others;
+  middle = h.middle;
+  split = e ∙ h.split;
+  before_complete = λ place less. f place (h.before_complete place less);
+  each_short = h.each_short;
+  answered = h.answered;
+  left = elim h.left [ inl k ↦ inl k | inr k ↦ inr (f (length h.before) k.0, k.1) ];
+}
+stops_in rule old new n w (LineTooLong number) run e f h = (
+  h.0,
+  h.1,
+  record {
+    before = h.2.before;
+    line = h.2.line;
+    others = h.2.others;
+    split = e ∙ h.2.split;
+    number_is = h.2.number_is;
+    each_short = h.2.each_short;
+    is_long = h.2.is_long;
+    answered = h.2.answered;
+  },
+)
+
+-- ---- earlier lines
+
+-- these lines behind others that newlines end
+abbrev pub read_behind : List (List ℕ) → LinesRead → LinesRead
+read_behind xs read = record { lines = xs ++ read.lines; whole = length xs + read.whole; at_end = read.at_end }
+
+complete_later : (xs : List (List ℕ)) (read : LinesRead) (place place' : ℕ) → place' ≡ length xs + place → IsComplete read place → IsComplete (read_behind xs read) place'
+complete_later xs read place place' e h =
+    complete_weaker place read.whole place' (length xs + read.whole) read.at_end read.at_end (λ k. omega (arith, e, k)) (λ k. k) h
+
+complete_before : (xs : List (List ℕ)) (read : LinesRead) (m place : ℕ) → ((n : ℕ) → n < m → IsComplete read n) → place < length xs + m → (length xs ≤ place) ⊎ (place < length xs) → IsComplete (read_behind xs read) place
+complete_before xs read m place h less (inr k) = inl (omega (arith, k))
+complete_before xs read m place h less (inl k) =
+    let rest : (n : ℕ) × (place ≡ length xs + n) = (place - length xs, omega (arith, k)) in
+    complete_later xs read rest.0 place rest.1 (h rest.0 (omega (arith, less, rest.1)))
+
+le_or_less : (m n : ℕ) → (m ≤ n) ⊎ (n < m)
+le_or_less m n = grind arith
+
+-- lines that stop do so behind earlier lines too
+pub stops_later : {A : Type 0} (rule : Rule A) → Joins rule → (a b c : A) (xs : List (List ℕ)) (read : LinesRead) (n w : ℕ) (fault : ScriptFault) (text written : List ℕ) → rule.answers a xs text b → All IsShort xs →
+    Stops rule read (n + length xs) (w + length text) fault (record { start = b; written = written; now = c }) →
+    Stops rule (read_behind xs read) n w fault (record { start = a; written = text ++ written; now = c })
+stops_later rule more a b c xs read n w Read text written first short h = h
+stops_later rule more a b c xs read n w (Write count) text written first short h = (
   omega (arith, h.0, length-append text written),
   record {
     before = xs ++ h.1.before;
@@ -46,6 +124,7 @@ stops_later answers gives_up more a b c xs ys n w (Write count) text written fir
     answer = h.1.answer;
     sent = h.1.sent;
     split = ap (λ (ls : List (List ℕ)). xs ++ ls) h.1.split ∙ sym (append_assoc xs h.1.before (h.1.line ∷ h.1.others));
+    is_complete = complete_later xs read (length h.1.before) (length (xs ++ h.1.before)) (length-append xs h.1.before) h.1.is_complete;
     each_short = rw (append_assoc xs h.1.before (h.1.line ∷ [])) (All-append IsShort xs (h.1.before ++ h.1.line ∷ []) short h.1.each_short);
     answered = more a b h.1.middle xs h.1.before text h.1.text first h.1.answered;
     answered_last = h.1.answered_last;
@@ -53,16 +132,20 @@ stops_later answers gives_up more a b c xs ys n w (Write count) text written fir
     written_is = ap (λ (t : List ℕ). text ++ t) h.1.written_is ∙ sym (append_assoc text h.1.text (take h.1.sent h.1.answer));
   },
 )
-stops_later answers gives_up more a b c xs ys n w NoMemory text written first short h = record {
+stops_later rule more a b c xs read n w NoMemory text written first short h = record {
   before = xs ++ h.before;
   others = h.others;
   middle = h.middle;
   split = ap (λ (ls : List (List ℕ)). xs ++ ls) h.split ∙ sym (append_assoc xs h.before h.others);
+  before_complete = λ place less. complete_before xs read (length h.before) place h.before_complete (omega (arith, less, length-append xs h.before)) (le_or_less (length xs) place);
   each_short = All-append IsShort xs h.before short h.each_short;
   answered = more a b h.middle xs h.before text written first h.answered;
-  left = h.left;
+  left = elim h.left [
+    | inl k ↦ inl k
+    | inr k ↦ inr (complete_later xs read (length h.before) (length (xs ++ h.before)) (length-append xs h.before) k.0, k.1)
+  ];
 }
-stops_later answers gives_up more a b c xs ys n w (LineTooLong number) text written first short h = (
+stops_later rule more a b c xs read n w (LineTooLong number) text written first short h = (
   length xs + h.0,
   omega (arith, h.1),
   record {
@@ -77,33 +160,41 @@ stops_later answers gives_up more a b c xs ys n w (LineTooLong number) text writ
   },
 )
 
--- bytes that stop after these do so from the start
-pub stops_after : {A : Type 0} (answers : A → List (List ℕ) → List ℕ → A → Type 0) (gives_up : A → List ℕ → A → Type 0) →
-    ((a b c : A) (ls ms : List (List ℕ)) (t u : List ℕ) → answers a ls t b → answers b ms u c → answers a (ls ++ ms) (t ++ u) c) →
-    (a b c : A) (p bytes xs ys part : List ℕ) (n n' w w' : ℕ) (fault : ScriptFault) (text written : List ℕ) → bytes ≡ xs ++ ys → answers a (whole_from p xs) text b → All IsShort (whole_from p xs) → part ≡ rest_from p xs → n' ≡ n + length (whole_from p xs) → w' ≡ w + length text →
-    Stops answers gives_up b (lines_from part ys) n' w' fault written c →
-    Stops answers gives_up a (lines_from p bytes) n w fault (text ++ written) c
-stops_after answers gives_up more a b c p bytes xs ys part n n' w w' fault text written cut first short f l t h =
-    let later : Stops answers gives_up b (lines_from (rest_from p xs) ys) (n + length (whole_from p xs)) (w + length text) fault written c = rw (← f, ← l, ← t) h in
-    rw (cut, lines_from-append p xs ys) (stops_later answers gives_up more a b c (whole_from p xs) (lines_from (rest_from p xs) ys) n w fault text written first short later)
+-- bytes that stop behind these do so from the start
+pub stops_after : {A : Type 0} (rule : Rule A) → Joins rule → (a b c : A) (p bytes xs ys part : List ℕ) (n n' w w' : ℕ) (fault : ScriptFault) (text written : List ℕ) → bytes ≡ xs ++ ys →
+    rule.answers a (whole_from p xs) text b → All IsShort (whole_from p xs) → part ≡ rest_from p xs → n' ≡ n + length (whole_from p xs) → w' ≡ w + length text →
+    Stops rule (read_from part ys) n' w' fault (record { start = b; written = written; now = c }) →
+    Stops rule (read_from p bytes) n w fault (record { start = a; written = text ++ written; now = c })
+stops_after rule more a b c p bytes xs ys part n n' w w' fault text written cut first short f l t h =
+    let later : Stops rule (read_from part ys) (n + length (whole_from p xs)) (w + length text) fault (record { start = b; written = written; now = c }) = rw (← l, ← t) h in
+    let size : length (whole_from p bytes) ≡ length (whole_from p xs) + length (whole_from part ys) = ap (λ (bs : List ℕ). length (whole_from p bs)) cut ∙ length_step p xs ys part f in
+    stops_in rule (read_behind (whole_from p xs) (read_from part ys)) (read_from p bytes) n w fault (record { start = a; written = text ++ written; now = c })
+    (ap (lines_from p) cut ∙ lines_step p xs ys part f)
+    (λ place. complete_weaker place (length (whole_from p xs) + length (whole_from part ys)) place (length (whole_from p bytes)) ⊥ ⊥ (λ k. omega (arith, k, size)) (λ k. k))
+    (stops_later rule more a b c (whole_from p xs) (read_from part ys) n w fault text written first short later)
+
+-- ---- one line, and one byte
 
 -- the line that a newline ends stops
-pub stops_at_newline : {A : Type 0} (answers : A → List (List ℕ) → List ℕ → A → Type 0) (gives_up : A → List ℕ → A → Type 0) (a b : A) (part line : List ℕ) (byte n w : ℕ) (fault : ScriptFault) (written : List ℕ) → byte ≡ 10 → line ≡ part →
-    ((others : List (List ℕ)) → Stops answers gives_up a (line ∷ others) n w fault written b) →
-    (others : List ℕ) → Stops answers gives_up a (lines_from part (byte ∷ others)) n w fault written b
-stops_at_newline answers gives_up a b part line byte n w fault written e f h others = rw (e, ← f) (h (lines_from [] others))
+pub stops_at_newline : {A : Type 0} (rule : Rule A) (part line : List ℕ) (byte n w : ℕ) (fault : ScriptFault) (run : Run A) → byte ≡ 10 → line ≡ part → (others : List ℕ) →
+    Stops rule (read_line line (lines_from [] others)) n w fault run → Stops rule (read_from part (byte ∷ others)) n w fault run
+stops_at_newline rule part line byte n w fault run e f others h =
+    let same : lines_from part (byte ∷ others) ≡ line ∷ lines_from [] others = rw (e, f) refl in
+    let size : length (whole_from part (byte ∷ others)) ≡ length (whole_from [] others) + 1 = rw e (omega arith) in
+    stops_in rule (read_line line (lines_from [] others)) (read_from part (byte ∷ others)) n w fault run same
+    (λ place. complete_weaker place 1 place (length (whole_from part (byte ∷ others))) ⊥ ⊥ (λ k. omega (arith, k, size)) (λ k. k)) h
 
 -- a last line without a newline stops
-pub stops_at_last : {A : Type 0} (answers : A → List (List ℕ) → List ℕ → A → Type 0) (gives_up : A → List ℕ → A → Type 0) (a b : A) (part : List ℕ) (n w : ℕ) (fault : ScriptFault) (written : List ℕ) → 0 < length part →
-    ((others : List (List ℕ)) → Stops answers gives_up a (part ∷ others) n w fault written b) →
-    Stops answers gives_up a (last_line part) n w fault written b
-stops_at_last answers gives_up a b [] n w fault written some h = absurd (omega arith)
-stops_at_last answers gives_up a b (x ∷ part) n w fault written some h = h []
+pub stops_at_last : {A : Type 0} (rule : Rule A) (part : List ℕ) (n w : ℕ) (fault : ScriptFault) (run : Run A) → 0 < length part →
+    Stops rule (read_line part []) n w fault run → Stops rule (read_last part) n w fault run
+stops_at_last rule [] n w fault run some h = absurd (omega arith)
+stops_at_last rule (x ∷ part) n w fault run some h =
+    stops_in rule (read_line (x ∷ part) []) (read_last (x ∷ part)) n w fault run refl (λ place k. inr tt) h
 
 -- a line that is as long as it may be goes on
-pub stops_at_long : {A : Type 0} (answers : A → List (List ℕ) → List ℕ → A → Type 0) (a : A) (part : List ℕ) (byte n : ℕ) → answers a [] [] a → (byte ≡ 10 → ⊥) → 1048576 ≤ length part →
-    (others : List ℕ) → (place : ℕ) × (n + 1 ≡ n + place) × StopsAtLongLine answers a (lines_from part (byte ∷ others)) place [] a
-stops_at_long answers a part byte n none h long others =
+pub stops_at_long : {A : Type 0} (rule : Rule A) (a : A) (part : List ℕ) (byte n : ℕ) → rule.answers a [] [] a → (byte ≡ 10 → ⊥) → 1048576 ≤ length part →
+    (others : List ℕ) → (place : ℕ) × (n + 1 ≡ n + place) × StopsAtLongLine rule (lines_from part (byte ∷ others)) place (record { start = a; written = []; now = a })
+stops_at_long rule a part byte n none h long others =
     let r = first_line_more part byte others h in (
       1,
       refl,
@@ -119,15 +210,33 @@ stops_at_long answers a part byte n none h long others =
       },
     )
 
-pub stops_for_memory : {A : Type 0} (answers : A → List (List ℕ) → List ℕ → A → Type 0) (gives_up : A → List ℕ → A → Type 0) (a : A) (lines : List (List ℕ)) → answers a [] [] a → StopsForMemory answers gives_up a lines [] a
-stops_for_memory answers gives_up a lines none = record { before = []; others = lines; middle = a; split = refl; each_short = All-nil IsShort; answered = none; left = inl refl }
+pub stops_for_memory : {A : Type 0} (rule : Rule A) (a : A) (read : LinesRead) → rule.answers a [] [] a → StopsForMemory rule read (record { start = a; written = []; now = a })
+stops_for_memory rule a read none = record {
+  before = [];
+  others = read.lines;
+  middle = a;
+  split = refl;
+  before_complete = λ place less. absurd (omega (arith, less));
+  each_short = All-nil IsShort;
+  answered = none;
+  left = inl refl;
+}
 
-pub gave_up : {A : Type 0} (answers : A → List (List ℕ) → List ℕ → A → Type 0) (gives_up : A → List ℕ → A → Type 0) (a b : A) (line : List ℕ) → answers a [] [] a → gives_up a line b → (others : List (List ℕ)) → StopsForMemory answers gives_up a (line ∷ others) [] b
-gave_up answers gives_up a b line none h others = record { before = []; others = line ∷ others; middle = a; split = refl; each_short = All-nil IsShort; answered = none; left = inr h }
+pub gave_up : {A : Type 0} (rule : Rule A) (a b : A) (line : List ℕ) (others : List (List ℕ)) → rule.answers a [] [] a → rule.gives_up a line b → StopsForMemory rule (read_line line others) (record { start = a; written = []; now = b })
+gave_up rule a b line others none h = record {
+  before = [];
+  others = line ∷ others;
+  middle = a;
+  split = refl;
+  before_complete = λ place less. absurd (omega (arith, less));
+  each_short = All-nil IsShort;
+  answered = none;
+  left = inr (inl (omega arith), h);
+}
 
-pub only_sent : {A : Type 0} (answers : A → List (List ℕ) → List ℕ → A → Type 0) (a b : A) (line text answer : List ℕ) (sent : ℕ) → answers a [] [] a → IsShort line → text ≡ answer → answers a (line ∷ []) answer b → sent < length text → (others : List (List ℕ)) →
-    StopsAtWrite answers a (line ∷ others) (take sent text) b
-only_sent answers a b line text answer sent none short e h below others = record {
+pub only_sent : {A : Type 0} (rule : Rule A) (a b : A) (line text answer : List ℕ) (sent : ℕ) (others : List (List ℕ)) → rule.answers a [] [] a → IsShort line → text ≡ answer → rule.answers a (line ∷ []) answer b → sent < length text →
+    StopsAtWrite rule (read_line line others) (record { start = a; written = take sent text; now = b })
+only_sent rule a b line text answer sent others none short e h below = record {
   before = [];
   line = line;
   others = others;
@@ -136,6 +245,7 @@ only_sent answers a b line text answer sent none short e h below others = record
   answer = answer;
   sent = sent;
   split = refl;
+  is_complete = inl (omega arith);
   each_short = one_short line short;
   answered = none;
   answered_last = h;
@@ -143,15 +253,15 @@ only_sent answers a b line text answer sent none short e h below others = record
   written_is = ap (take sent) e;
 }
 
-pub at_read : {A : Type 0} (answers : A → List (List ℕ) → List ℕ → A → Type 0) (a b : A) (calls : ℕ) (bytes written part : List ℕ) (lines count : ℕ) (has_failed : Bool) → IsUnderWay answers a bytes written b part lines count →
-    (has_failed ≡ true) ⊎ (calls ≡ 2 ^ 40) → StopsAtRead answers a calls bytes has_failed written b
-at_read answers a b calls bytes written part lines count has_failed p cause = record { answered = rw (whole_from_start bytes) at p.answered; each_short = rw (whole_from_start bytes) at p.each_short; cause = cause }
+-- ---- a whole run
 
-pub done : {A : Type 0} (answers : A → List (List ℕ) → List ℕ → A → Type 0) →
-    ((a b c : A) (ls ms : List (List ℕ)) (t u : List ℕ) → answers a ls t b → answers b ms u c → answers a (ls ++ ms) (t ++ u) c) →
-    (a b c : A) (bytes written part line text : List ℕ) (lines lines' count size : ℕ) → IsUnderWay answers a bytes written b part lines count → size ≡ length bytes → line ≡ part → answers b (last_line line) text c → lines' ≡ lines + length (last_line line) →
-    IsDone answers a bytes (written ++ text) c (record { lines = lines'; bytes = size })
-done answers more a b c bytes written part line text lines lines' count size p same e h l =
+pub at_read : {A : Type 0} (rule : Rule A) (input : Input) (run : Run A) (part : List ℕ) (progress : Progress) → IsUnderWay rule input.bytes run part progress →
+    (input.has_failed ≡ true) ⊎ (input.calls ≡ 2 ^ 40) → StopsAtRead rule input run
+at_read rule input run part progress p cause = record { answered = rw (whole_from_start input.bytes) at p.answered; each_short = rw (whole_from_start input.bytes) at p.each_short; cause = cause }
+
+pub done : {A : Type 0} (rule : Rule A) → Joins rule → (a b c : A) (bytes written part line text : List ℕ) (progress : Progress) (lines size : ℕ) → IsUnderWay rule bytes (record { start = a; written = written; now = b }) part progress → size ≡ length bytes → line ≡ part →
+    rule.answers b (last_line line) text c → lines ≡ progress.lines + length (last_line line) → IsDone rule bytes (record { start = a; written = written ++ text; now = c }) (record { lines = lines; bytes = size })
+done rule more a b c bytes written part line text progress lines size p same e h l =
     let all : lines_of bytes ≡ whole_from [] bytes ++ last_line line = lines_end bytes line (e ∙ p.part_is) in
     record {
       answered = rw all (more a b c (whole_from [] bytes) (last_line line) written text p.answered h);
@@ -160,42 +270,50 @@ done answers more a b c bytes written part line text lines lines' count size p s
       bytes_is = same;
     }
 
-fault_of : {A : Type 0} (answers : A → List (List ℕ) → List ℕ → A → Type 0) (gives_up : A → List ℕ → A → Type 0) (a b : A) (calls : ℕ) (bytes : List ℕ) (has_failed : Bool) (fault : ScriptFault) (written : List ℕ) → Stops answers gives_up a (lines_from [] bytes) 0 0 fault written b → IsFault answers gives_up a calls bytes has_failed written b fault
-fault_of answers gives_up a b calls bytes has_failed Read written h = absurd h
-fault_of answers gives_up a b calls bytes has_failed (Write count) written h = (omega (arith, h.0), rw (lines_from_start bytes) at h.1)
-fault_of answers gives_up a b calls bytes has_failed NoMemory written h = rw (lines_from_start bytes) at h
-fault_of answers gives_up a b calls bytes has_failed (LineTooLong number) written h =
-    let place : h.0 ≡ number = omega (arith, h.1) in rw (lines_from_start bytes, place) at h.2
+fault_of : {A : Type 0} (rule : Rule A) (input : Input) (run : Run A) (fault : ScriptFault) → Stops rule (lines_read input) 0 0 fault run → IsFault rule input run fault
+fault_of rule input run Read h = absurd h
+fault_of rule input run (Write count) h = (omega (arith, h.0), h.1)
+fault_of rule input run NoMemory h = h
+fault_of rule input run (LineTooLong number) h =
+    let place : h.0 ≡ number = omega (arith, h.1) in rw place at h.2
 
 -- more bytes stop
-pub fault_in : {A : Type 0} (answers : A → List (List ℕ) → List ℕ → A → Type 0) (gives_up : A → List ℕ → A → Type 0) →
-    ((a b c : A) (ls ms : List (List ℕ)) (t u : List ℕ) → answers a ls t b → answers b ms u c → answers a (ls ++ ms) (t ++ u) c) →
-    (a b c : A) (calls : ℕ) (bytes more_bytes part text written : List ℕ) (lines count : ℕ) (has_failed : Bool) (fault : ScriptFault) → IsUnderWay answers a bytes text b part lines count →
-    Stops answers gives_up b (lines_from part more_bytes) lines count fault written c → IsFault answers gives_up a calls (bytes ++ more_bytes) has_failed (text ++ written) c fault
-fault_in answers gives_up more a b c calls bytes more_bytes part text written lines count has_failed fault p h =
-    fault_of answers gives_up a c calls (bytes ++ more_bytes) has_failed fault (text ++ written)
-    (stops_after answers gives_up more a b c [] (bytes ++ more_bytes) bytes more_bytes part 0 lines 0 count fault text written refl p.answered p.each_short p.part_is (omega (arith, p.lines_are)) (omega (arith, p.count_is)) h)
+pub fault_in : {A : Type 0} (rule : Rule A) → Joins rule → (a b c : A) (input : Input) (bytes more_bytes part text written : List ℕ) (progress : Progress) (fault : ScriptFault) → input.bytes ≡ bytes ++ more_bytes →
+    IsUnderWay rule bytes (record { start = a; written = text; now = b }) part progress →
+    Stops rule (read_from part more_bytes) progress.lines progress.written fault (record { start = b; written = written; now = c }) → IsFault rule input (record { start = a; written = text ++ written; now = c }) fault
+fault_in {A = A} rule more a b c input bytes more_bytes part text written progress fault cut p h =
+    let run : Run A = record { start = a; written = text ++ written; now = c } in
+    let size : length (whole_from [] input.bytes) ≡ length (whole_lines input.bytes) = ap length (whole_from_start input.bytes) in
+    fault_of rule input run fault
+    (stops_in rule (read_from [] input.bytes) (lines_read input) 0 0 fault run (sym (lines_from_start input.bytes))
+    (λ place. complete_weaker place (length (whole_from [] input.bytes)) place (length (whole_lines input.bytes)) ⊥ input.at_end (λ k. omega (arith, k, size)) (λ k. absurd k))
+    (stops_after rule more a b c [] input.bytes bytes more_bytes part 0 progress.lines 0 progress.written fault text written cut p.answered p.each_short p.part_is (omega (arith, p.lines_are)) (omega (arith, p.written_is)) h))
 
 -- the last line stops
-pub fault_at_last : {A : Type 0} (answers : A → List (List ℕ) → List ℕ → A → Type 0) (gives_up : A → List ℕ → A → Type 0) →
-    ((a b c : A) (ls ms : List (List ℕ)) (t u : List ℕ) → answers a ls t b → answers b ms u c → answers a (ls ++ ms) (t ++ u) c) →
-    (a b c : A) (calls : ℕ) (bytes part line text written : List ℕ) (lines count : ℕ) (has_failed : Bool) (fault : ScriptFault) → IsUnderWay answers a bytes text b part lines count → line ≡ part →
-    Stops answers gives_up b (last_line line) lines count fault written c → IsFault answers gives_up a calls bytes has_failed (text ++ written) c fault
-fault_at_last answers gives_up more a b c calls bytes part line text written lines count has_failed fault p e h =
-    fault_of answers gives_up a c calls bytes has_failed fault (text ++ written)
-    (stops_after answers gives_up more a b c [] bytes bytes [] line 0 lines 0 count fault text written (sym (append-nil bytes)) p.answered p.each_short (e ∙ p.part_is) (omega (arith, p.lines_are)) (omega (arith, p.count_is)) h)
+pub fault_at_last : {A : Type 0} (rule : Rule A) → Joins rule → (a b c : A) (input : Input) (part line text written : List ℕ) (progress : Progress) (fault : ScriptFault) → input.at_end →
+    IsUnderWay rule input.bytes (record { start = a; written = text; now = b }) part progress → line ≡ part →
+    Stops rule (read_last line) progress.lines progress.written fault (record { start = b; written = written; now = c }) → IsFault rule input (record { start = a; written = text ++ written; now = c }) fault
+fault_at_last {A = A} rule more a b c input part line text written progress fault ended p e h =
+    let run : Run A = record { start = a; written = text ++ written; now = c } in
+    let whole = whole_from [] input.bytes in
+    let l : progress.lines ≡ 0 + length whole = omega (arith, p.lines_are) in
+    let t : progress.written ≡ 0 + length text = omega (arith, p.written_is) in
+    let later : Stops rule (read_last line) (0 + length whole) (0 + length text) fault (record { start = b; written = written; now = c }) = rw (← l, ← t) h in
+    fault_of rule input run fault
+    (stops_in rule (read_behind whole (read_last line)) (lines_read input) 0 0 fault run (lines_end input.bytes line (e ∙ p.part_is))
+    (λ place k. inr ended)
+    (stops_later rule more a b c whole (read_last line) 0 0 fault text written p.answered p.each_short later))
 
 -- more bytes are answered
-pub further : {A : Type 0} (answers : A → List (List ℕ) → List ℕ → A → Type 0) →
-    ((a b c : A) (ls ms : List (List ℕ)) (t u : List ℕ) → answers a ls t b → answers b ms u c → answers a (ls ++ ms) (t ++ u) c) →
-    (a b c : A) (bytes more_bytes part part' text written : List ℕ) (lines count lines' count' : ℕ) → IsUnderWay answers a bytes text b part lines count →
-    answers b (whole_from part more_bytes) written c → part' ≡ rest_from part more_bytes → IsShort part' → All IsShort (whole_from part more_bytes) → lines' ≡ lines + length (whole_from part more_bytes) → count' ≡ count + length written →
-    IsUnderWay answers a (bytes ++ more_bytes) (text ++ written) c part' lines' count'
-further answers more a b c bytes more_bytes part part' text written lines count lines' count' p h f s each l t = record {
+pub further : {A : Type 0} (rule : Rule A) → Joins rule → (a b c : A) (bytes more_bytes part part' text written : List ℕ) (progress progress' : Progress) → IsUnderWay rule bytes (record { start = a; written = text; now = b }) part progress →
+    rule.answers b (whole_from part more_bytes) written c → part' ≡ rest_from part more_bytes → IsShort part' → All IsShort (whole_from part more_bytes) →
+    progress'.lines ≡ progress.lines + length (whole_from part more_bytes) → progress'.written ≡ progress.written + length written →
+    IsUnderWay rule (bytes ++ more_bytes) (record { start = a; written = text ++ written; now = c }) part' progress'
+further rule more a b c bytes more_bytes part part' text written progress progress' p h f s each l t = record {
   answered = rw (whole_step [] bytes more_bytes part p.part_is) (more a b c (whole_from [] bytes) (whole_from part more_bytes) text written p.answered h);
   part_is = f ∙ sym (rest_step [] bytes more_bytes part p.part_is);
   short = s;
   each_short = each_step [] bytes more_bytes part p.part_is p.each_short each;
   lines_are = omega (arith, l, p.lines_are, length_step [] bytes more_bytes part p.part_is);
-  count_is = omega (arith, t, p.count_is, length-append text written);
+  written_is = omega (arith, t, p.written_is, length-append text written);
 }

@@ -6,13 +6,13 @@ use Rattle.exact_money.specs.Amount.{amount_text}
 use Rattle.ocpi_json.specs.Name as name
 use Rattle.ocpi_types.specs.declared.refusal.Refusal.{Refusal}
 use Rattle.ocpi_types.specs.declared.refusal.Refusal.TheVariants as refusal
-use Rattle.ocpi_types.specs.Refusal.{refusal_name, store_name, number_of, status_of}
+use Rattle.ocpi_types.specs.Refusal.{refusal_name, store_name, refusal_number, refusal_status}
 use Rattle.plain_house.specs.declared.answer.Answer.{Answer}
 use Rattle.plain_house.specs.declared.answer.Answer.TheVariants.{Stored, Unchanged, Allowed, Blocked, NoCredit, Released, Exposure}
 use Rattle.plain_house.specs.declared.answer.Replied.{Replied}
 use Rattle.plain_house.specs.declared.answer.Refused.{Refused}
 use Rattle.plain_house.specs.Replies.{Reply}
-use Rattle.request_lines.specs.declared.lines.TheConstants.{NEWLINE}
+use Rattle.request_lines.specs.Lines.{newline}
 
 -- ---- members
 
@@ -59,15 +59,36 @@ scope_member true = text_member (codes "scope") (codes "pair")
 scope_member false = []
 
 abbrev pub refusal_values : Refusal → List Token
-refusal_values (refusal.Field called) = text_member (codes "field") (name.text_of called)
+refusal_values refusal.Syntax = []
+refusal_values (refusal.Field called) = text_member (codes "field") (name.key_text called)
+refusal_values refusal.UnknownParty = []
+refusal_values refusal.NotYours = []
+refusal_values refusal.WrongCurrency = []
+refusal_values refusal.BadDates = []
+refusal_values refusal.TariffNotGiven = []
+refusal_values refusal.UnsupportedRestriction = []
+refusal_values refusal.Reservation = []
+refusal_values refusal.EnergyMismatch = []
+refusal_values refusal.AmountTooLarge = []
 refusal_values (refusal.CostMismatch rated) = amount_member (codes "rated") rated
+refusal_values refusal.Conflict = []
+refusal_values refusal.TariffNotRegistered = []
+refusal_values refusal.UnknownToken = []
+refusal_values refusal.UnknownHold = []
+refusal_values refusal.UnknownOriginal = []
+refusal_values refusal.CreditOfCredit = []
+refusal_values refusal.AlreadyCredited = []
+refusal_values refusal.CreditDiffers = []
 refusal_values (refusal.NotCurrent current) = number_member (codes "current") current
+refusal_values refusal.PeriodOpen = []
+refusal_values refusal.AlreadySettled = []
+refusal_values refusal.UnknownCdr = []
 refusal_values (refusal.Full what) = text_member (codes "what") (store_name what)
 refusal_values (refusal.OverLimit exposure limit pair) =
     amount_member (codes "exposure") exposure ++ (amount_member (codes "limit") limit ++ scope_member pair)
+refusal_values refusal.NoMemory = []
 refusal_values (refusal.TooLate original current) =
     number_member (codes "original") original ++ number_member (codes "current") current
-refusal_values other = []
 
 -- ---- lines
 
@@ -81,8 +102,8 @@ replied_values replied =
 
 abbrev pub refused_values : Refused → List Token
 refused_values refused =
-    opening (status_of refused.refusal) (codes "refusal") (refusal_name refused.refusal)
-    ++ (number_member (codes "number") (number_of refused.refusal) ++ (at_member refused.at ++ refusal_values refused.refusal))
+    opening (refusal_status refused.refusal) (codes "refusal") (refusal_name refused.refusal)
+    ++ (number_member (codes "number") (refusal_number refused.refusal) ++ (at_member refused.at ++ refusal_values refused.refusal))
 
 abbrev pub reply_values : Reply → List Token
 reply_values (Ok replied) = replied_values replied
@@ -93,4 +114,4 @@ abbrev pub reply_tokens : Reply → List Token
 reply_tokens reply = begin_object ∷ (reply_values reply ++ end_object ∷ [])
 
 unfoldable pub answer_text : Reply → List ℕ
-answer_text reply = print (reply_tokens reply) ++ NEWLINE ∷ []
+answer_text reply = print (reply_tokens reply) ++ newline ∷ []

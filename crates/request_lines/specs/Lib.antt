@@ -1,10 +1,7 @@
-pub mod Adding
 pub mod AnswerText
 pub mod Answering
 pub mod CommandName
-pub mod InTurn
-pub mod Known
+pub mod Inner
 pub mod Lines
-pub mod Progress
 pub mod RequestText
 pub mod Script

@@ -1,7 +1,7 @@
 -- What a request line says: a platform, a command, and the command's members in order.
 use Rattle.std.specs.Prelude.{ℕ, List, Option, Some, None, Result, Ok, Err, unwrap_or}
 use Rattle.serde_json.specs.Data.{Data}
-use Rattle.ocpi_json.specs.Fields.{required, optional, ci_of, object_of, parsed_of}
+use Rattle.ocpi_json.specs.Fields.{required, optional, as_ci_text, as_object_node, as_parsed}
 use Rattle.ocpi_json.specs.Members.{◌>>=◌}
 use Rattle.ocpi_json.specs.Reading.{data_of}
 use Rattle.ocpi_json.specs.declared.name.Name.{Name}
@@ -14,7 +14,7 @@ use Rattle.ocpi_types.specs.Currency.{currency_of}
 use Rattle.ocpi_types.specs.Party.{party_of}
 use Rattle.ocpi_types.specs.Tariff.{tariff_at}
 use Rattle.ocpi_types.specs.Token.{token_at}
-use Rattle.ocpi_types.specs.TokenKind.{kind_of}
+use Rattle.ocpi_types.specs.TokenKind.{token_kind_of}
 use Rattle.cdr_checks.specs.declared.request.Ask.{Ask}
 use Rattle.cdr_checks.specs.declared.request.Ask.TheVariants as ask
 use Rattle.cdr_checks.specs.declared.request.Request.{Request}
@@ -28,36 +28,36 @@ kind_or_rfid kind = unwrap_or kind Rfid
 
 unfoldable pub tariff_ask_at : Data → Result Ask Name
 tariff_ask_at node = do
-  object ← required object_of name.Tariff node
+  object ← required as_object_node name.Tariff node
   tariff ← tariff_at object
   Ok (ask.PutTariff tariff)
 
 unfoldable pub token_ask_at : Data → Result Ask Name
 token_ask_at node = do
-  object ← required object_of name.Token node
+  object ← required as_object_node name.Token node
   token ← token_at object
   Ok (ask.PutToken token)
 
 unfoldable pub authorize_at : Data → Result Ask Name
 authorize_at node = do
-  operator ← required (parsed_of party_of) name.Operator node
-  provider ← required (parsed_of party_of) name.Provider node
-  uid ← required (ci_of 36) name.Uid node
-  kind ← optional (parsed_of kind_of) name.«Type» node
-  currency ← required (parsed_of currency_of) name.Currency node
+  operator ← required (as_parsed party_of) name.Operator node
+  provider ← required (as_parsed party_of) name.Provider node
+  uid ← required (as_ci_text 36) name.Uid node
+  kind ← optional (as_parsed token_kind_of) name.«Type» node
+  currency ← required (as_parsed currency_of) name.Currency node
   Ok (ask.Authorize (record { operator = operator; provider = provider; uid = uid; kind = kind_or_rfid kind; currency = currency }))
 
 unfoldable pub release_at : Data → Result Ask Name
 release_at node = do
-  operator ← required (parsed_of party_of) name.Operator node
-  provider ← required (parsed_of party_of) name.Provider node
-  reference ← required (ci_of 36) name.Reference node
+  operator ← required (as_parsed party_of) name.Operator node
+  provider ← required (as_parsed party_of) name.Provider node
+  reference ← required (as_ci_text 36) name.Reference node
   Ok (ask.Release (record { operator = operator; provider = provider; reference = reference }))
 
 unfoldable pub exposure_at : Data → Result Ask Name
 exposure_at node = do
-  provider ← required (parsed_of party_of) name.Provider node
-  currency ← required (parsed_of currency_of) name.Currency node
+  provider ← required (as_parsed party_of) name.Provider node
+  currency ← required (as_parsed currency_of) name.Currency node
   Ok (ask.Exposure (record { provider = provider; currency = currency }))
 
 abbrev pub ask_at : CommandName → Data → Result Ask Name
@@ -69,8 +69,8 @@ ask_at command.Exposure node = exposure_at node
 
 unfoldable pub request_at : Data → Result Request Name
 request_at node = do
-  platform ← required (ci_of 36) name.Platform node
-  command ← required (parsed_of command_named) name.Do node
+  platform ← required (as_ci_text 36) name.Platform node
+  command ← required (as_parsed command_named) name.Do node
   ask ← ask_at command node
   Ok (record { platform = platform; ask = ask })
 

@@ -1,7 +1,7 @@
 //! The lines that answer requests.
 
 ghost use Rattle.std.specs.Prelude.{◌≡◌, IfOk, [], option_map};
-ghost use Rattle.request_lines.specs.Adding.{Adds};
+ghost use Rattle.request_lines.specs.Inner.Adding.{Adds};
 ghost use Rattle.request_lines.specs.AnswerText.{text_member, number_member, amount_member, answer_name, answer_values, at_member, scope_member, refusal_values, opening, replied_values, refused_values, reply_values, answer_text};
 
 use super::lines::NEWLINE;

@@ -1,6 +1,6 @@
 ghost use Rattle.std.specs.Prelude.{◌≡◌, ℕ, ◌+◌, ◌^◌, ◌<◌, false};
 ghost use Rattle.std.specs.Io.KnownBytes.{Consumes, Appends, IsAtEnd};
-ghost use Rattle.request_lines.specs.Known.{gives_none, gives_more, appends_none, appends_more};
+ghost use Rattle.request_lines.specs.Inner.Known.{gives_none, gives_more, appends_none, appends_more};
 
 use super::faults::Failed;
 use super::streams::{Sink, Source};

@@ -7,6 +7,7 @@ mod device;
 mod faults;
 mod lines;
 mod one_line;
+mod progress;
 mod requests;
 mod script;
 mod streams;

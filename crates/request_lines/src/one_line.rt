@@ -1,16 +1,27 @@
 //! One line, from its bytes to its answer.
 
-ghost use Rattle.std.specs.Prelude.{◌≡◌, ◌⊎◌, IfOk, IfErr, OnOk, OnErr, Ok, Err, true, false};
-ghost use Rattle.cdr_checks.specs.Admission.{IsAdmitted};
+ghost use Rattle.std.specs.Prelude.{◌≡◌, ◌⊎◌, IfOk, IfErr, MatchResult, OnOk, OnErr, Ok, Err, true, false};
+ghost use Rattle.cdr_checks.specs.Admission.{IsAdmitted, admission};
 ghost use Rattle.plain_house.specs.Replies.{is_no_memory, is_refusal_no_memory};
 ghost use Rattle.request_lines.specs.Script.{command_in, reply_in, answer_of, after};
 
 use super::answers::answer_line;
 use super::requests::request_of;
-use cdr_checks::{Command, admit};
+use cdr_checks::{Command, Request, admit};
 use ocpi_types::{Config, Refusal};
 use plain_house::{Refused, Replied, Sequential};
 use std::alloc::{AllocError, Global};
+
+fn admitted(config: &Config, request: Request) -> Result<Command, Refusal>
+    ensures command { MatchResult result (λ command. admission config.now request ≡ Ok command)
+        (λ refusal. admission config.now request ≡ Err refusal) }
+    ensures admitted { IfOk result (λ command. IsAdmitted config.now command) }
+{
+    match admit(config, request) {
+        Ok(command) => Ok(command),
+        Err((_request, refusal)) => Err(refusal),
+    }
+}
 
 // The command of a line, once its request is admitted.
 #[tactic(auto, unfolding(crate::specs::Script::command_in))]
@@ -19,11 +30,7 @@ fn command_of(alloc: Global, config: &Config, line: &[u8]) -> Result<Command, Re
     ensures admitted { IfOk result (λ command. IsAdmitted config.now command) }
     ensures refusal { IfErr result (λ refusal. is_refusal_no_memory refusal ≡ false → command_in config.now line.now ≡ Err refusal) }
 {
-    let request = request_of(alloc, line)?;
-    match admit(config, request) {
-        Ok(command) => Ok(command),
-        Err((_request, refusal)) => Err(refusal),
-    }
+    admitted(config, request_of(alloc, line)?)
 }
 
 #[tactic(auto, unfolding(crate::specs::Script::reply_in, crate::specs::Script::after))]

@@ -2,14 +2,14 @@
 
 ghost use Rattle.std.specs.Prelude.{◌≡◌, IfOk, IfErr, Ok, Err, false};
 ghost use Rattle.serde_json.specs.View.{view};
-ghost use Rattle.ocpi_json.specs.Faults.{Gives};
+ghost use Rattle.ocpi_json.specs.Faults.{Finds};
 ghost use Rattle.plain_house.specs.Replies.{is_refusal_no_memory};
 ghost use Rattle.request_lines.specs.RequestText.{authorize_at, exposure_at, release_at, tariff_ask_at, token_ask_at, ask_at, request_at, kind_or_rfid, request_of};
 
 use cdr_checks::{Ask, Authorize, ExposureOf, Release, Request};
 use ocpi_json::fields::{self, FieldFault};
 use ocpi_json::name::Name;
-use ocpi_json::objects::{FromNode, FromText};
+use ocpi_json::objects::{FromNode, FromNodeIn, FromText};
 use ocpi_json::{Node, ReadFault, read};
 use ocpi_types::{Refusal, Tariff, Token, TokenKind, members};
 use std::alloc::Global;
@@ -43,17 +43,17 @@ impl FromText for CommandName {
 
 #[tactic(auto, unfolding(crate::specs::RequestText::tariff_ask_at))]
 fn read_tariff(alloc: Global, node: &Node) -> Result<Ask, FieldFault>
-    ensures { Gives result (tariff_ask_at (view node.now)) }
+    ensures { Finds result (tariff_ask_at (view node.now)) }
 {
-    let tariff = Tariff::from_node(alloc, fields::object(node, Name::Tariff)?)?;
+    let tariff = Tariff::from_node_in(alloc, fields::object(node, Name::Tariff)?)?;
     Ok(Ask::PutTariff(tariff))
 }
 
 #[tactic(auto, unfolding(crate::specs::RequestText::token_ask_at))]
-fn read_token(alloc: Global, node: &Node) -> Result<Ask, FieldFault>
-    ensures { Gives result (token_ask_at (view node.now)) }
+fn read_token(node: &Node) -> Result<Ask, Name>
+    ensures { result ≡ token_ask_at (view node.now) }
 {
-    let token = Token::from_node(alloc, fields::object(node, Name::Token)?)?;
+    let token = Token::from_node(fields::object(node, Name::Token)?)?;
     Ok(Ask::PutToken(token))
 }
 
@@ -64,12 +64,12 @@ fn kind_or_rfid(kind: Option<TokenKind>) -> TokenKind
 }
 
 #[tactic(auto, unfolding(crate::specs::RequestText::authorize_at))]
-fn read_authorize(alloc: Global, node: &Node) -> Result<Ask, FieldFault>
-    ensures { Gives result (authorize_at (view node.now)) }
+fn read_authorize(node: &Node) -> Result<Ask, Name>
+    ensures { result ≡ authorize_at (view node.now) }
 {
-    let operator = members::party(alloc, node, Name::Operator)?;
-    let provider = members::party(alloc, node, Name::Provider)?;
-    let uid = fields::ci_text(alloc, node, Name::Uid, 36)?;
+    let operator = members::party(node, Name::Operator)?;
+    let provider = members::party(node, Name::Provider)?;
+    let uid = fields::ci_text(node, Name::Uid)?;
     let kind = kind_or_rfid(members::token_kind_or_none(node, Name::Type)?);
     let currency = members::currency(node, Name::Currency)?;
     Ok(Ask::Authorize(Authorize {
@@ -82,12 +82,12 @@ fn read_authorize(alloc: Global, node: &Node) -> Result<Ask, FieldFault>
 }
 
 #[tactic(auto, unfolding(crate::specs::RequestText::release_at))]
-fn read_release(alloc: Global, node: &Node) -> Result<Ask, FieldFault>
-    ensures { Gives result (release_at (view node.now)) }
+fn read_release(node: &Node) -> Result<Ask, Name>
+    ensures { result ≡ release_at (view node.now) }
 {
-    let operator = members::party(alloc, node, Name::Operator)?;
-    let provider = members::party(alloc, node, Name::Provider)?;
-    let reference = fields::ci_text(alloc, node, Name::Reference, 36)?;
+    let operator = members::party(node, Name::Operator)?;
+    let provider = members::party(node, Name::Provider)?;
+    let reference = fields::ci_text(node, Name::Reference)?;
     Ok(Ask::Release(Release {
         operator,
         provider,
@@ -96,31 +96,31 @@ fn read_release(alloc: Global, node: &Node) -> Result<Ask, FieldFault>
 }
 
 #[tactic(auto, unfolding(crate::specs::RequestText::exposure_at))]
-fn read_exposure(alloc: Global, node: &Node) -> Result<Ask, FieldFault>
-    ensures { Gives result (exposure_at (view node.now)) }
+fn read_exposure(node: &Node) -> Result<Ask, Name>
+    ensures { result ≡ exposure_at (view node.now) }
 {
-    let provider = members::party(alloc, node, Name::Provider)?;
+    let provider = members::party(node, Name::Provider)?;
     let currency = members::currency(node, Name::Currency)?;
     Ok(Ask::Exposure(ExposureOf { provider, currency }))
 }
 
 fn read_ask(alloc: Global, command: CommandName, node: &Node) -> Result<Ask, FieldFault>
-    ensures { Gives result (ask_at command (view node.now)) }
+    ensures { Finds result (ask_at command (view node.now)) }
 {
     match command {
         CommandName::PutTariff => read_tariff(alloc, node),
-        CommandName::PutToken => read_token(alloc, node),
-        CommandName::Authorize => read_authorize(alloc, node),
-        CommandName::Release => read_release(alloc, node),
-        CommandName::Exposure => read_exposure(alloc, node),
+        CommandName::PutToken => Ok(read_token(node)?),
+        CommandName::Authorize => Ok(read_authorize(node)?),
+        CommandName::Release => Ok(read_release(node)?),
+        CommandName::Exposure => Ok(read_exposure(node)?),
     }
 }
 
 #[tactic(auto, unfolding(crate::specs::RequestText::request_at))]
 fn read_request(alloc: Global, node: &Node) -> Result<Request, FieldFault>
-    ensures { Gives result (request_at (view node.now)) }
+    ensures { Finds result (request_at (view node.now)) }
 {
-    let platform = fields::ci_text(alloc, node, Name::Platform, 36)?;
+    let platform = fields::ci_text(node, Name::Platform)?;
     let command = fields::parsed(node, Name::Do)?;
     let ask = read_ask(alloc, command, node)?;
     Ok(Request { platform, ask })

@@ -1,8 +1,8 @@
-ghost use Rattle.std.specs.Prelude.{◌≡◌, ◌≤◌, ℕ, List, true, false, OnOk, IfErr, MatchResult};
-ghost use Rattle.request_lines.specs.Answering.{is_read_fault, is_write_fault};
-ghost use Rattle.request_lines.specs.Script.{ScriptIsDone, ScriptFails};
+ghost use Rattle.std.specs.Prelude.{◌≡◌, ◌≤◌, ◌^◌, ℕ, List, true, false, OnOk, IfErr, MatchResult};
+ghost use Rattle.request_lines.specs.Answering.{IsDone, IsFault, is_read_fault, is_write_fault};
+ghost use Rattle.request_lines.specs.Script.{script_rule};
 
-use super::answering::{Answerer, MOST_READ_CALLS, run_lines};
+use super::answering::{Answerer, run_lines};
 use super::faults::{Count, ScriptFault};
 use super::one_line::respond;
 use super::streams::{Sink, Source};
@@ -22,11 +22,14 @@ impl<S: Sequential> Answerer for Scripted<'_, '_, S> {
     ghost use Rattle.std.specs.Prelude.{◌≡◌, ◌⊎◌, refl};
     ghost use Rattle.std.proofs.Common.{◌∙◌};
     ghost use Rattle.request_lines.specs.Script.{after};
-    ghost use Rattle.request_lines.specs.InTurn.{AnswersInTurn, in_turn_more};
+    ghost use Rattle.request_lines.specs.Inner.InTurn.{AnswersInTurn, in_turn_more};
 
-    ghost answers = { λ a lines text b. (b.house.ghost_name ≡ a.house.ghost_name) × AnswersInTurn a.config.now b.config.now (S.events a.house.now) lines text (S.events b.house.now) };
-
-    ghost gives_up = { λ a line b. (b.house.ghost_name ≡ a.house.ghost_name) × (b.config.now ≡ a.config.now) × ((S.events b.house.now ≡ S.events a.house.now) ⊎ (S.events b.house.now ≡ after a.config.now (S.events a.house.now) line)) };
+    ghost rule = { record {
+      answers = λ a lines text b. (b.house.ghost_name ≡ a.house.ghost_name)
+          × AnswersInTurn a.config.now b.config.now (S.events a.house.now) lines text (S.events b.house.now);
+      gives_up = λ a line b. (b.house.ghost_name ≡ a.house.ghost_name) × (b.config.now ≡ a.config.now)
+          × ((S.events b.house.now ≡ S.events a.house.now) ⊎ (S.events b.house.now ≡ after a.config.now (S.events a.house.now) line));
+    } };
 
     ghost answers_none = { λ a. (refl, (refl, refl, refl)) };
 
@@ -47,11 +50,15 @@ pub fn run_script<R: Source, W: Sink, S: Sequential>(
 ) -> Result<Count, ScriptFault>
     requires { S.config house.old ≡ config.now }
     ensures config { S.config house.new ≡ S.config house.old }
-    ensures told { (calls : ℕ) × (bytes : List ℕ) × (written : List ℕ) × (calls ≤ MOST_READ_CALLS)
+    // So many calls gave these bytes, and what was written answers all their lines, or those that the fault says.
+    ensures told { (calls : ℕ) × (bytes : List ℕ) × (written : List ℕ) × (calls ≤ 2 ^ 40)
         × R.gives reader.old calls bytes reader.new × W.takes writer.old written writer.new
         × MatchResult result
-        (λ count. ScriptIsDone config.now (S.events house.old) bytes written (S.events house.new) count)
-        (λ fault. ScriptFails config.now (S.events house.old) calls bytes (R.failed reader.new) written (S.events house.new) fault) }
+        (λ count. IsDone (script_rule config.now) bytes
+        (record { start = S.events house.old; written = written; now = S.events house.new }) count)
+        (λ fault. IsFault (script_rule config.now)
+        (record { calls = calls; bytes = bytes; has_failed = R.failed reader.new; at_end = R.at_end reader.new })
+        (record { start = S.events house.old; written = written; now = S.events house.new }) fault) }
     ensures end { OnOk result (R.at_end reader.new) }
     ensures reader { MatchResult result (λ _. R.failed reader.new ≡ R.failed reader.old)
         (λ fault. is_read_fault fault ≡ false → R.failed reader.new ≡ R.failed reader.old) }

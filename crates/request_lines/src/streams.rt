@@ -19,7 +19,7 @@ pub trait Source {
     /// Reads some bytes to the front of the buffer, none only at the end.
     fn read(&mut self, buffer: &mut [u8]) -> Result<usize, Failed>
         requires some { 0 < length buffer.old }
-        requires few { length buffer.old ≤ MOST_READ_BYTES }
+        requires few { length buffer.old ≤ 65536 }
         ensures bound { IfOk result (λ n. n ≤ length buffer.new) }
         ensures gives { IfOk result (λ n. gives self.old 1 (take n buffer.new) self.new) }
         ensures end { IfOk result (λ n. n ≡ 0 → at_end self.new) }

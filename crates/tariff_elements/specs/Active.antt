@@ -3,7 +3,7 @@
 use Rattle.std.specs.Prelude.{Bool, true, false, not, ◌&&◌, ◌||◌, is_some, find, List, Option, option_and_then}
 use Rattle.std.specs.List.{list_any}
 use Rattle.std.specs.Option.{option_map_or}
-use Rattle.ocpi_types.specs.Component.{same_kind}
+use Rattle.ocpi_types.specs.Component.{same_component_kind}
 use Rattle.ocpi_types.specs.declared.component.ComponentKind.{ComponentKind}
 use Rattle.ocpi_types.specs.declared.component.PriceComponent.{PriceComponent}
 use Rattle.ocpi_types.specs.declared.element.Element.{Element}
@@ -14,7 +14,7 @@ use Rattle.tariff_elements.specs.Matching.{matches}
 
 -- the component of the kind in an element, the first where there are several
 abbrev pub component_of : ComponentKind → Element → Option PriceComponent
-component_of kind element = find (λ component. same_kind component.kind kind) element.price_components
+component_of kind element = find (λ component. same_component_kind component.kind kind) element.price_components
 
 -- the element's restrictions hold, or it has none
 abbrev pub applies : LocalMoment → Element → Bool

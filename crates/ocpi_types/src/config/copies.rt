@@ -1,65 +1,45 @@
-use super::{Config, Operator, PairLimit, Platform, Provider, ProviderLimit};
-use crate::copying::TryCopy;
+use super::{Config, Operator, Platform, Provider};
+use crate::copying::{TryCopy, copied};
 use std::alloc::{AllocError, Global};
 
 impl TryCopy for Operator {
-    fn copy(&self, alloc: Global) -> Result<Operator, AllocError> {
-        let party = self.party.copy(alloc)?;
-        let zone = self.zone.copy(alloc)?;
-        Ok(Operator { party, zone })
-    }
-}
-
-impl TryCopy for ProviderLimit {
-    fn copy(&self, _alloc: Global) -> Result<ProviderLimit, AllocError> {
-        Ok(ProviderLimit {
-            currency: self.currency,
-            limit: self.limit,
-            hold: self.hold,
+    fn copy(&self, _alloc: Global) -> Result<Operator, AllocError> {
+        let zone = self.zone.clone()?;
+        Ok(Operator {
+            party: self.party,
+            zone,
         })
     }
 }
 
 impl TryCopy for Provider {
     fn copy(&self, alloc: Global) -> Result<Provider, AllocError> {
-        let party = self.party.copy(alloc)?;
-        let limits = self.limits.copy(alloc)?;
-        Ok(Provider { party, limits })
+        let limits = copied(alloc, &self.limits)?;
+        Ok(Provider {
+            party: self.party,
+            limits,
+        })
     }
 }
 
 impl TryCopy for Platform {
     fn copy(&self, alloc: Global) -> Result<Platform, AllocError> {
-        let name = self.name.copy(alloc)?;
-        let parties = self.parties.copy(alloc)?;
+        let parties = copied(alloc, &self.parties)?;
         Ok(Platform {
-            name,
+            name: self.name,
             parties,
             hub: self.hub,
         })
     }
 }
 
-impl TryCopy for PairLimit {
-    fn copy(&self, alloc: Global) -> Result<PairLimit, AllocError> {
-        let operator = self.operator.copy(alloc)?;
-        let provider = self.provider.copy(alloc)?;
-        Ok(PairLimit {
-            operator,
-            provider,
-            currency: self.currency,
-            limit: self.limit,
-        })
-    }
-}
-
 impl TryCopy for Config {
     fn copy(&self, alloc: Global) -> Result<Config, AllocError> {
-        let currencies = self.currencies.copy(alloc)?;
+        let currencies = copied(alloc, &self.currencies)?;
         let operators = self.operators.copy(alloc)?;
         let providers = self.providers.copy(alloc)?;
         let platforms = self.platforms.copy(alloc)?;
-        let pair_limits = self.pair_limits.copy(alloc)?;
+        let pair_limits = copied(alloc, &self.pair_limits)?;
         Ok(Config {
             tolerance: self.tolerance,
             currencies,

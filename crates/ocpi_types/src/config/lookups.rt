@@ -114,7 +114,7 @@ impl Config {
         Some(row.limit)
     }
 
-    pub fn platform(&self, name: &CiText) -> Option<&Platform>
+    pub fn platform(&self, name: &CiText<36>) -> Option<&Platform>
         ensures { option_copied result ≡ platform_of self.now name.now }
     {
         self.platforms
@@ -124,7 +124,7 @@ impl Config {
     }
 
     /// The platform of that name acts for the party; an unknown platform acts for none.
-    pub fn may_act_for(&self, name: &CiText, party: &Party) -> bool
+    pub fn may_act_for(&self, name: &CiText<36>, party: &Party) -> bool
         ensures { result ≡ may_act_for self.now name.now party.now }
     {
         match self.platform(name) {

@@ -2,7 +2,7 @@
 
 ghost use Rattle.std.specs.Prelude.{◌≡◌, map};
 ghost use Rattle.serde_json.specs.View.{view};
-ghost use Rattle.ocpi_json.specs.Faults.{Gives};
+ghost use Rattle.ocpi_json.specs.Faults.{Finds};
 ghost use Rattle.ocpi_json.specs.Members.{each};
 ghost use Rattle.ocpi_types.specs.ConfigParts.{currency_at, operator_at, provider_at};
 
@@ -20,6 +20,9 @@ use ocpi_json::objects::FromNode;
 use ocpi_json::sequence::Sequence;
 use std::alloc::Global;
 
+// No configuration has room for a list of so many items.
+const MOST_ITEMS: usize = 1_048_576;
+
 /// The currencies and parties of a configuration, which its other parts name.
 #[derive(Drop)]
 pub struct Known {
@@ -28,18 +31,31 @@ pub struct Known {
     pub providers: Sequence<Provider>,
 }
 
-/// A type whose values stand in nodes and name what is known.
+/// A type whose values stand in nodes, name what is known, and take no memory.
 pub trait FromNodeWith<C>: Sized {
-    ghost use Rattle.std.specs.Prelude.{Result};
+    ghost use Rattle.std.specs.Prelude.{◌≡◌, Result};
     ghost use Rattle.serde_json.specs.Data.{Data};
     ghost use Rattle.serde_json.specs.View.{view};
-    ghost use Rattle.ocpi_json.specs.Faults.{Gives};
     ghost use Rattle.ocpi_json.specs.declared.name.Name.{Name};
 
     ghost at_with: { C → Data → Result Self Name };
 
-    fn from_node_with(alloc: Global, known: &C, node: &Node) -> Result<Self, FieldFault>
-        ensures { Gives result (at_with known.now (view node.now)) };
+    fn from_node_with(known: &C, node: &Node) -> Result<Self, Name>
+        ensures { result ≡ at_with known.now (view node.now) };
+}
+
+/// A type whose values stand in nodes, name what is known, and take memory.
+pub trait FromNodeWithIn<C>: Sized {
+    ghost use Rattle.std.specs.Prelude.{Result};
+    ghost use Rattle.serde_json.specs.Data.{Data};
+    ghost use Rattle.serde_json.specs.View.{view};
+    ghost use Rattle.ocpi_json.specs.Faults.{Finds};
+    ghost use Rattle.ocpi_json.specs.declared.name.Name.{Name};
+
+    ghost at_with: { C → Data → Result Self Name };
+
+    fn from_node_with_in(alloc: Global, known: &C, node: &Node) -> Result<Self, FieldFault>
+        ensures { Finds result (at_with known.now (view node.now)) };
 }
 
 /// The values that stand in the nodes, in order.
@@ -48,18 +64,33 @@ pub fn read_each_with<C, T: FromNodeWith<C> + Drop>(
     known: &C,
     nodes: &[Node],
 ) -> Result<Sequence<T>, FieldFault>
-    ensures { Gives result (each (T.at_with known.now) (map view nodes.now)) }
+    ensures { Finds result (each (T.at_with known.now) (map view nodes.now)) }
 {
     let mut values = Sequence::new(alloc);
     for node in nodes {
-        values.push(T::from_node_with(alloc, known, node)?)?;
+        values.push(T::from_node_with(known, node)?)?;
+    }
+    Ok(values)
+}
+
+/// The same of a type whose values take memory.
+pub fn read_each_with_in<C, T: FromNodeWithIn<C> + Drop>(
+    alloc: Global,
+    known: &C,
+    nodes: &[Node],
+) -> Result<Sequence<T>, FieldFault>
+    ensures { Finds result (each (T.at_with known.now) (map view nodes.now)) }
+{
+    let mut values = Sequence::new(alloc);
+    for node in nodes {
+        values.push(T::from_node_with_in(alloc, known, node)?)?;
     }
     Ok(values)
 }
 
 #[tactic(auto, unfolding(crate::specs::ConfigParts::currency_at))]
-fn currency(currencies: &[Currency], node: &Node) -> Result<Currency, FieldFault>
-    ensures { Gives result (currency_at currencies.now (view node.now)) }
+fn currency(currencies: &[Currency], node: &Node) -> Result<Currency, Name>
+    ensures { result ≡ currency_at currencies.now (view node.now) }
 {
     let currency = members::currency(node, Name::Currency)?;
     ensure(has_currency(currencies, &currency), Name::Currency)?;
@@ -67,20 +98,20 @@ fn currency(currencies: &[Currency], node: &Node) -> Result<Currency, FieldFault
 }
 
 #[tactic(auto, unfolding(crate::specs::ConfigParts::operator_at))]
-fn operator(alloc: Global, known: &Known, node: &Node) -> Result<Party, FieldFault>
-    ensures { Gives result (operator_at known.now (view node.now)) }
+fn operator(known: &Known, node: &Node) -> Result<Party, Name>
+    ensures { result ≡ operator_at known.now (view node.now) }
 {
-    let operator = members::party(alloc, node, Name::Operator)?;
+    let operator = members::party(node, Name::Operator)?;
     let is_known = operator_among(known.operators.as_slice(), &operator).is_some();
     ensure(is_known, Name::Operator)?;
     Ok(operator)
 }
 
 #[tactic(auto, unfolding(crate::specs::ConfigParts::provider_at))]
-fn provider(alloc: Global, known: &Known, node: &Node) -> Result<Party, FieldFault>
-    ensures { Gives result (provider_at known.now (view node.now)) }
+fn provider(known: &Known, node: &Node) -> Result<Party, Name>
+    ensures { result ≡ provider_at known.now (view node.now) }
 {
-    let provider = members::party(alloc, node, Name::Provider)?;
+    let provider = members::party(node, Name::Provider)?;
     let is_known = provider_among(known.providers.as_slice(), &provider).is_some();
     ensure(is_known, Name::Provider)?;
     Ok(provider)
@@ -105,8 +136,8 @@ impl FromNode for Operator {
     ghost at = { operator_entry_at };
 
     #[tactic(auto, unfolding(crate::specs::ConfigParts::operator_entry_at))]
-    fn from_node(alloc: Global, node: &Node) -> Result<Operator, FieldFault> {
-        let party = members::party(alloc, node, Name::Party)?;
+    fn from_node(node: &Node) -> Result<Operator, Name> {
+        let party = members::party(node, Name::Party)?;
         let zone = fields::parsed(node, Name::Zone)?;
         Ok(Operator { party, zone })
     }
@@ -118,11 +149,7 @@ impl FromNodeWith<Sequence<Currency>> for ProviderLimit {
     ghost at_with = { provider_limit_at };
 
     #[tactic(auto, unfolding(crate::specs::ConfigParts::provider_limit_at))]
-    fn from_node_with(
-        _alloc: Global,
-        currencies: &Sequence<Currency>,
-        node: &Node,
-    ) -> Result<ProviderLimit, FieldFault> {
+    fn from_node_with(currencies: &Sequence<Currency>, node: &Node) -> Result<ProviderLimit, Name> {
         let currency = currency(currencies.as_slice(), node)?;
         let limit = at_most(node, Name::Limit, 0)?;
         let hold = at_most(node, Name::Hold, 1)?;
@@ -134,19 +161,19 @@ impl FromNodeWith<Sequence<Currency>> for ProviderLimit {
     }
 }
 
-impl FromNodeWith<Sequence<Currency>> for Provider {
+impl FromNodeWithIn<Sequence<Currency>> for Provider {
     ghost use Rattle.ocpi_types.specs.ConfigParts.{provider_entry_at};
 
     ghost at_with = { provider_entry_at };
 
     #[tactic(auto, unfolding(crate::specs::ConfigParts::provider_entry_at))]
-    fn from_node_with(
+    fn from_node_with_in(
         alloc: Global,
         currencies: &Sequence<Currency>,
         node: &Node,
     ) -> Result<Provider, FieldFault> {
-        let party = members::party(alloc, node, Name::Party)?;
-        let nodes = fields::list_or_empty(node, Name::Limits, 16)?;
+        let party = members::party(node, Name::Party)?;
+        let nodes = fields::list_or_empty(node, Name::Limits, MOST_ITEMS)?;
         let limits = read_each_with(alloc, currencies, nodes)?;
         ensure(are_all_different(limits.as_slice()), Name::Limits)?;
         Ok(Provider { party, limits })
@@ -159,22 +186,26 @@ impl FromNodeWith<Known> for Party {
     ghost at_with = { platform_party_at };
 
     #[tactic(auto, unfolding(crate::specs::ConfigParts::platform_party_at))]
-    fn from_node_with(alloc: Global, known: &Known, node: &Node) -> Result<Party, FieldFault> {
-        let party = members::party_in(alloc, node, Name::Parties)?;
+    fn from_node_with(known: &Known, node: &Node) -> Result<Party, Name> {
+        let party = members::party_in(node, Name::Parties)?;
         ensure(known.has_party(&party), Name::Parties)?;
         Ok(party)
     }
 }
 
-impl FromNodeWith<Known> for Platform {
+impl FromNodeWithIn<Known> for Platform {
     ghost use Rattle.ocpi_types.specs.ConfigParts.{platform_at};
 
     ghost at_with = { platform_at };
 
     #[tactic(auto, unfolding(crate::specs::ConfigParts::platform_at))]
-    fn from_node_with(alloc: Global, known: &Known, node: &Node) -> Result<Platform, FieldFault> {
-        let name = fields::ci_text(alloc, node, Name::Name, 36)?;
-        let nodes = fields::list_or_empty(node, Name::Parties, 128)?;
+    fn from_node_with_in(
+        alloc: Global,
+        known: &Known,
+        node: &Node,
+    ) -> Result<Platform, FieldFault> {
+        let name = fields::ci_text(node, Name::Name)?;
+        let nodes = fields::list_or_empty(node, Name::Parties, MOST_ITEMS)?;
         let parties = read_each_with(alloc, known, nodes)?;
         let hub = fields::flag_or_none(node, Name::Hub)?.unwrap_or(false);
         Ok(Platform { name, parties, hub })
@@ -187,9 +218,9 @@ impl FromNodeWith<Known> for PairLimit {
     ghost at_with = { pair_limit_at };
 
     #[tactic(auto, unfolding(crate::specs::ConfigParts::pair_limit_at))]
-    fn from_node_with(alloc: Global, known: &Known, node: &Node) -> Result<PairLimit, FieldFault> {
-        let operator = operator(alloc, known, node)?;
-        let provider = provider(alloc, known, node)?;
+    fn from_node_with(known: &Known, node: &Node) -> Result<PairLimit, Name> {
+        let operator = operator(known, node)?;
+        let provider = provider(known, node)?;
         let currency = currency(known.currencies.as_slice(), node)?;
         let limit = at_most(node, Name::Limit, 0)?;
         Ok(PairLimit {
@@ -225,7 +256,7 @@ impl FromNode for Limits {
     ghost at = { limits_at };
 
     #[tactic(auto, unfolding(crate::specs::ConfigParts::limits_at))]
-    fn from_node(_alloc: Global, node: &Node) -> Result<Limits, FieldFault> {
+    fn from_node(node: &Node) -> Result<Limits, Name> {
         let cdrs = at_most_or_none(node, Name::Cdrs, 1)?.unwrap_or(AtMost::most());
         let tariffs = at_most_or_none(node, Name::Tariffs, 1)?.unwrap_or(AtMost::most());
         let entries = at_most_or_none(node, Name::Entries, 1)?.unwrap_or(AtMost::most());

@@ -2,10 +2,11 @@
 
 ghost use Rattle.std.specs.Prelude.{◌≡◌};
 ghost use Rattle.serde_json.specs.View.{view};
-ghost use Rattle.ocpi_json.specs.Faults.{Gives};
-ghost use Rattle.ocpi_types.specs.ConfigText.{currencies_at, operators_at, providers_at, platforms_at, house_limits_at, pair_limits_at, stated_pair_limits_at, credit_window_at};
+ghost use Rattle.ocpi_json.specs.Faults.{Finds};
+ghost use Rattle.ocpi_types.specs.Inner.ConfigStated.{config_from, config_in_parts, stated_at};
+ghost use Rattle.ocpi_types.specs.ConfigText.{currencies_at, known_at, operators_at, providers_at, platforms_at, house_limits_at, pair_limits_at, stated_pair_limits_at, credit_window_at};
 
-use super::parts::{Known, read_each_with};
+use super::parts::{Known, read_each_with, read_each_with_in};
 use super::{Config, Limits, Operator, PairLimit, Platform, Provider, Tolerance};
 use crate::bounded::AtMost;
 use crate::currency::Currency;
@@ -13,12 +14,10 @@ use crate::different::are_all_different;
 use crate::members::{at_most_or_none, ensure};
 use ocpi_json::fields::{self, FieldFault};
 use ocpi_json::name::Name;
-use ocpi_json::objects::{FromNode, parsed_each, read_each, read_if_any};
+use ocpi_json::objects::{FromNodeIn, parsed_each, read_each, read_if_any};
 use ocpi_json::sequence::Sequence;
 use ocpi_json::{Node, ReadFault};
 use std::alloc::Global;
-
-const MOST_BYTES: usize = 1_048_576;
 
 /// Why a configuration was not read.
 #[derive(Clone, Copy, Debug, PartialEq, Eq)]
@@ -60,7 +59,7 @@ impl From<FieldFault> for ConfigFault {
 
 #[tactic(auto, unfolding(crate::specs::ConfigText::currencies_at))]
 fn read_currencies(alloc: Global, node: &Node) -> Result<Sequence<Currency>, FieldFault>
-    ensures { Gives result (currencies_at (view node.now)) }
+    ensures { Finds result (currencies_at (view node.now)) }
 {
     let nodes = fields::list(node, Name::Currencies, 1, 16)?;
     let currencies = parsed_each(alloc, nodes, Name::Currencies)?;
@@ -70,7 +69,7 @@ fn read_currencies(alloc: Global, node: &Node) -> Result<Sequence<Currency>, Fie
 
 #[tactic(auto, unfolding(crate::specs::ConfigText::operators_at))]
 fn read_operators(alloc: Global, node: &Node) -> Result<Sequence<Operator>, FieldFault>
-    ensures { Gives result (operators_at (view node.now)) }
+    ensures { Finds result (operators_at (view node.now)) }
 {
     let operators = read_each(alloc, fields::list(node, Name::Operators, 1, 64)?)?;
     ensure(are_all_different(operators.as_slice()), Name::Operators)?;
@@ -83,10 +82,10 @@ fn read_providers(
     currencies: &Sequence<Currency>,
     node: &Node,
 ) -> Result<Sequence<Provider>, FieldFault>
-    ensures { Gives result (providers_at currencies.now (view node.now)) }
+    ensures { Finds result (providers_at currencies.now (view node.now)) }
 {
     let nodes = fields::list(node, Name::Providers, 1, 64)?;
-    let providers = read_each_with(alloc, currencies, nodes)?;
+    let providers = read_each_with_in(alloc, currencies, nodes)?;
     ensure(are_all_different(providers.as_slice()), Name::Providers)?;
     Ok(providers)
 }
@@ -97,19 +96,19 @@ fn read_platforms(
     known: &Known,
     node: &Node,
 ) -> Result<Sequence<Platform>, FieldFault>
-    ensures { Gives result (platforms_at known.now (view node.now)) }
+    ensures { Finds result (platforms_at known.now (view node.now)) }
 {
     let nodes = fields::list(node, Name::Platforms, 1, 128)?;
-    let platforms = read_each_with(alloc, known, nodes)?;
+    let platforms = read_each_with_in(alloc, known, nodes)?;
     ensure(are_all_different(platforms.as_slice()), Name::Platforms)?;
     Ok(platforms)
 }
 
 #[tactic(auto, unfolding(crate::specs::ConfigText::house_limits_at))]
-fn read_limits(alloc: Global, node: &Node) -> Result<Limits, FieldFault>
-    ensures { Gives result (house_limits_at (view node.now)) }
+fn read_limits(node: &Node) -> Result<Limits, Name>
+    ensures { result ≡ house_limits_at (view node.now) }
 {
-    let limits = read_if_any(alloc, fields::object_or_none(node, Name::Limits)?)?;
+    let limits = read_if_any(fields::object_or_none(node, Name::Limits)?)?;
     Ok(limits.unwrap_or(Limits::largest()))
 }
 
@@ -119,7 +118,7 @@ fn read_stated_pair_limits(
     known: &Known,
     node: &Node,
 ) -> Result<Sequence<PairLimit>, FieldFault>
-    ensures { Gives result (stated_pair_limits_at known.now (view node.now)) }
+    ensures { Finds result (stated_pair_limits_at known.now (view node.now)) }
 {
     let nodes = fields::list_or_empty(node, Name::PairLimits, 4096)?;
     let pair_limits = read_each_with(alloc, known, nodes)?;
@@ -134,7 +133,7 @@ fn read_pair_limits(
     known: &Known,
     node: &Node,
 ) -> Result<Sequence<PairLimit>, FieldFault>
-    ensures { Gives result (pair_limits_at version known.now (view node.now)) }
+    ensures { Finds result (pair_limits_at version known.now (view node.now)) }
 {
     if version == 2 {
         read_stated_pair_limits(alloc, known, node)
@@ -144,8 +143,8 @@ fn read_pair_limits(
 }
 
 #[tactic(auto, unfolding(crate::specs::ConfigText::credit_window_at))]
-fn read_credit_window(version: u64, node: &Node) -> Result<Option<AtMost<10_000>>, FieldFault>
-    ensures { Gives result (credit_window_at version (view node.now)) }
+fn read_credit_window(version: u64, node: &Node) -> Result<Option<AtMost<10_000>>, Name>
+    ensures { result ≡ credit_window_at version (view node.now) }
 {
     if version == 2 {
         at_most_or_none(node, Name::CreditWindow, 0)
@@ -160,58 +159,99 @@ fn usual_tolerance() -> Tolerance
     AtMost::new(100).unwrap()
 }
 
-impl FromNode for Config {
+#[tactic(auto, unfolding(crate::specs::ConfigText::known_at))]
+fn read_known(alloc: Global, node: &Node) -> Result<Known, FieldFault>
+    ensures { Finds result (known_at (view node.now)) }
+{
+    let currencies = read_currencies(alloc, node)?;
+    let operators = read_operators(alloc, node)?;
+    let providers = read_providers(alloc, &currencies, node)?;
+    Ok(Known {
+        currencies,
+        operators,
+        providers,
+    })
+}
+
+/// What a configuration says of platforms and limits.
+#[derive(Drop)]
+struct Stated {
+    platforms: Sequence<Platform>,
+    limits: Limits,
+    pair_limits: Sequence<PairLimit>,
+    credit_window: Option<AtMost<10_000>>,
+}
+
+#[tactic(auto, unfolding(crate::specs::Inner::ConfigStated::stated_at))]
+fn read_stated(
+    alloc: Global,
+    version: u64,
+    known: &Known,
+    node: &Node,
+) -> Result<Stated, FieldFault>
+    ensures { Finds result (stated_at version known.now (view node.now)) }
+{
+    let platforms = read_platforms(alloc, known, node)?;
+    let limits = read_limits(node)?;
+    let pair_limits = read_pair_limits(alloc, version, known, node)?;
+    let credit_window = read_credit_window(version, node)?;
+    Ok(Stated {
+        platforms,
+        limits,
+        pair_limits,
+        credit_window,
+    })
+}
+
+fn config_of(tolerance: Tolerance, known: Known, stated: Stated) -> Config
+    ensures { result ≡ config_from tolerance known stated }
+{
+    Config {
+        tolerance,
+        currencies: known.currencies,
+        operators: known.operators,
+        providers: known.providers,
+        platforms: stated.platforms,
+        limits: stated.limits,
+        pair_limits: stated.pair_limits,
+        credit_window: stated.credit_window,
+    }
+}
+
+#[tactic(auto, unfolding(crate::specs::Inner::ConfigStated::config_in_parts))]
+fn read_parts(alloc: Global, node: &Node) -> Result<Config, FieldFault>
+    ensures { Finds result (config_in_parts (view node.now)) }
+{
+    let version = fields::whole(node, Name::Version, 1, 2)?;
+    let tolerance = at_most_or_none(node, Name::Tolerance, 0)?.unwrap_or(usual_tolerance());
+    let known = read_known(alloc, node)?;
+    let stated = read_stated(alloc, version, &known, node)?;
+    Ok(config_of(tolerance, known, stated))
+}
+
+impl FromNodeIn for Config {
     ghost use Rattle.ocpi_types.specs.ConfigText.{config_at};
 
     ghost at = { config_at };
 
-    #[tactic(auto, unfolding(crate::specs::ConfigText::config_at))]
-    fn from_node(alloc: Global, node: &Node) -> Result<Config, FieldFault> {
-        let version = fields::whole(node, Name::Version, 1, 2)?;
-        let tolerance = at_most_or_none(node, Name::Tolerance, 0)?.unwrap_or(usual_tolerance());
-        let currencies = read_currencies(alloc, node)?;
-        let operators = read_operators(alloc, node)?;
-        let providers = read_providers(alloc, &currencies, node)?;
-        let known = Known {
-            currencies,
-            operators,
-            providers,
-        };
-        let platforms = read_platforms(alloc, &known, node)?;
-        let limits = read_limits(alloc, node)?;
-        let pair_limits = read_pair_limits(alloc, version, &known, node)?;
-        let credit_window = read_credit_window(version, node)?;
-        let Known {
-            currencies,
-            operators,
-            providers,
-        } = known;
-        Ok(Config {
-            tolerance,
-            currencies,
-            operators,
-            providers,
-            platforms,
-            limits,
-            pair_limits,
-            credit_window,
-        })
+    fn from_node_in(alloc: Global, node: &Node) -> Result<Config, FieldFault> {
+        read_parts(alloc, node)
     }
 }
 
 impl Config {
     ghost use Rattle.ocpi_types.specs.ConfigText.{config_of};
-    ghost use Rattle.ocpi_types.specs.ConfigFaults.{Reads};
+    ghost use Rattle.ocpi_types.specs.ConfigFaults.{ReadsConfig};
 
     /// The configuration that a file of these bytes says.
     #[tactic(auto, unfolding(crate::specs::ConfigText::config_of))]
     pub fn read(alloc: Global, bytes: &[u8]) -> Result<Config, ConfigFault>
-        ensures { Reads result (config_of bytes.now) }
+        ensures { ReadsConfig result (config_of bytes.now) }
     {
-        if MOST_BYTES < bytes.len() {
+        if 1_048_576 < bytes.len() {
             return Err(ConfigFault::Syntax);
         }
         let node = ocpi_json::read(alloc, bytes)?;
-        Ok(Config::from_node(alloc, &node)?)
+        Ok(Config::from_node_in(alloc, &node)?)
     }
 }

@@ -22,12 +22,12 @@ impl Part for Millionths {
     }
 }
 
-impl Part for CiText {
+impl<const MOST: usize> Part for CiText<MOST> {
     ghost use Rattle.ocpi_json.specs.Folded.{same_folded};
 
     ghost same = { same_folded };
 
-    fn is_same(&self, other: &CiText) -> bool {
+    fn is_same(&self, other: &CiText<MOST>) -> bool {
         *self == *other
     }
 }
@@ -43,7 +43,7 @@ impl Part for AuthMethod {
 }
 
 impl Part for CdrToken {
-    ghost use Rattle.ocpi_types.specs.SameCdr.{same_cdr_token};
+    ghost use Rattle.ocpi_types.specs.Inner.SameCdr.{same_cdr_token};
 
     ghost same = { same_cdr_token };
 
@@ -56,9 +56,9 @@ impl Part for CdrToken {
 }
 
 impl Part for DimensionKind {
-    ghost use Rattle.ocpi_types.specs.Dimension.{same_kind};
+    ghost use Rattle.ocpi_types.specs.Dimension.{same_dimension_kind};
 
-    ghost same = { same_kind };
+    ghost same = { same_dimension_kind };
 
     fn is_same(&self, other: &DimensionKind) -> bool {
         match (self, other) {
@@ -73,7 +73,7 @@ impl Part for DimensionKind {
 }
 
 impl Part for Dimension {
-    ghost use Rattle.ocpi_types.specs.SameCdr.{same_dimension};
+    ghost use Rattle.ocpi_types.specs.Inner.SameCdr.{same_dimension};
 
     ghost same = { same_dimension };
 
@@ -83,11 +83,11 @@ impl Part for Dimension {
 }
 
 impl Part for ChargingPeriod {
-    ghost use Rattle.ocpi_types.specs.SameCdr.{same_period};
+    ghost use Rattle.ocpi_types.specs.Inner.SameCdr.{same_period};
 
     ghost same = { same_period };
 
-    #[tactic(auto, unfolding(crate::specs::SameCdr::same_period))]
+    #[tactic(auto, unfolding(crate::specs::Inner::SameCdr::same_period))]
     fn is_same(&self, other: &ChargingPeriod) -> bool {
         self.start_date_time.is_same(&other.start_date_time)
             && are_same(self.dimensions.as_slice(), other.dimensions.as_slice())
@@ -106,7 +106,7 @@ impl Part for Tariff {
 }
 
 /// Whether two CDRs have the same content: all members agree, parties, ids and references with letters folded.
-#[tactic(auto, unfolding(crate::specs::SameCdr::same_cdr))]
+#[tactic(auto, unfolding(crate::specs::Inner::SameCdr::same_cdr))]
 pub fn same_cdr(a: &Cdr, b: &Cdr) -> bool
     ensures { result ≡ same_cdr a.now b.now }
 {

@@ -1,23 +1,24 @@
 //! Authorising a token.
 
-ghost use Rattle.std.specs.Prelude.{◌≡◌, ◌≤◌, ◌+◌, ◌^◌, true, Some, IfOk};
+ghost use Rattle.std.specs.Prelude.{◌≡◌, ◌≤◌, ◌+◌, ◌^◌, true, Some};
 ghost use Rattle.ocpi_types.specs.Config.{pair_limit_of};
 ghost use Rattle.cdr_checks.specs.declared.request.Command.TheVariants.{Authorize as AuthorizeCommand};
 ghost use Rattle.plain_house.specs.Exposure.{pair_exposure_of};
 ghost use Rattle.plain_house.specs.House.{Does, is_authorisation_of, lacks_credit, next_reference, authorized, hold_for, passes, reference_text};
 ghost use Rattle.plain_house.specs.Legal.{KeepsLimits};
-ghost use Rattle.plain_house.specs.Replies.{Gives};
+ghost use Rattle.plain_house.specs.Replies.{Follows};
 
-use super::replies::{add, out_of_memory, refused, replied};
+use super::replies::{add, refused, replied};
 use super::room::full_for_provider;
 use crate::answer::{Answer, Refused, Replied};
 use crate::event::{Event, Hold};
 use crate::holds::{holds_of, pair_holds_of};
 use crate::tokens::validity;
+use arrayvec::ArrayString;
 use cdr_checks::Authorize;
+use itoa::Buffer;
 use ocpi_json::ci_text::CiText;
 use ocpi_types::{Config, Party, Refusal};
-use std::alloc::{AllocError, Global};
 
 fn is_authorisation_of(event: &Event, provider: &Party) -> bool
     ensures { result ≡ is_authorisation_of provider.now event.now }
@@ -29,13 +30,8 @@ fn is_authorisation_of(event: &Event, provider: &Party) -> bool
 }
 
 // The reference of the provider's next authorisation.
-fn next_reference(
-    alloc: Global,
-    config: &Config,
-    events: &[Event],
-    provider: &Party,
-) -> Result<CiText, AllocError>
-    ensures { IfOk result (λ reference. reference ≡ next_reference config.now events.now provider.now) }
+fn next_reference(config: &Config, events: &[Event], provider: &Party) -> CiText<36>
+    ensures { result ≡ next_reference config.now events.now provider.now }
 {
     let count = events
         .iter()
@@ -43,18 +39,22 @@ fn next_reference(
         .count();
     let number = count as u64 + 1;
     match config.provider(provider) {
-        Some(configured) => reference(alloc, &configured.party, number),
-        None => reference(alloc, provider, number),
+        Some(configured) => reference(&configured.party, number),
+        None => reference(provider, number),
     }
 }
 
-fn reference(alloc: Global, party: &Party, number: u64) -> Result<CiText, AllocError>
-    ensures { IfOk result (λ reference. reference ≡ reference_text party.now number) }
+// At most 26 bytes: codes of two and of three bytes, a hyphen and 20 digits.
+fn reference(party: &Party, number: u64) -> CiText<36>
+    ensures { result ≡ reference_text party.now number }
 {
-    let country_code = party.country_code.as_str();
-    let party_id = party.party_id.as_str();
-    let text = format!(in alloc; "{country_code}{party_id}-{number}")?;
-    Ok(CiText::new(alloc, text.as_str())?.unwrap())
+    let mut digits = Buffer::new();
+    let mut text: ArrayString<36> = ArrayString::new();
+    text.push_str(party.country_code.as_str());
+    text.push_str(party.party_id.as_str());
+    text.push_str("-");
+    text.push_str(digits.format(number));
+    CiText::new(text.as_str()).unwrap()
 }
 
 // The hold would pass the provider's credit limit, or its limit with the operator.
@@ -84,69 +84,40 @@ fn lacks_pair_credit(config: &Config, events: &[Event], ask: &Authorize, hold: u
     }
 }
 
-// The hold of an authorisation, and its reference once more for the answer.
-fn hold_for(
-    alloc: Global,
-    config: &Config,
-    events: &[Event],
-    ask: Authorize,
-) -> Result<(Hold, CiText), AllocError>
-    ensures hold { IfOk result (λ made. made.0 ≡ hold_for config.now events.now ask) }
-    ensures reference { IfOk result (λ made. made.1 ≡ next_reference config.now events.now ask.provider) }
+fn hold_for(config: &Config, events: &[Event], ask: &Authorize) -> Hold
+    ensures { result ≡ hold_for config.now events.now ask.now }
 {
-    let reference = next_reference(alloc, config, events, &ask.provider)?;
-    let told = reference.copy(alloc)?;
-    let amount = config.hold(&ask.provider, &ask.currency);
-    let Authorize {
-        operator,
-        provider,
-        uid: _,
-        kind: _,
-        currency,
-    } = ask;
-    Ok((
-        Hold {
-            operator,
-            provider,
-            currency,
-            amount,
-            reference,
-        },
-        told,
-    ))
+    Hold {
+        operator: ask.operator,
+        provider: ask.provider,
+        currency: ask.currency,
+        amount: config.hold(&ask.provider, &ask.currency),
+        reference: next_reference(config, events, &ask.provider),
+    }
 }
 
 // Authorises a valid token.
-fn grant(
-    alloc: Global,
-    config: &Config,
-    events: &mut Vec<Event>,
-    ask: Authorize,
-) -> Result<Replied, Refused>
+fn grant(config: &Config, events: &mut Vec<Event>, ask: &Authorize) -> Result<Replied, Refused>
     requires { KeepsLimits config.now events.old.items }
-    ensures { Gives (authorized config.now events.old.items ask (Some true)) events.old.items result events.new.items }
+    ensures { Follows (authorized config.now events.old.items ask.now (Some true)) events.old.items result events.new.items }
 {
     let at = events.len();
     if let Some(what) = full_for_provider(config, events.as_slice(), &ask.provider) {
         return Err(refused(at, Refusal::Full { what }));
     }
-    if lacks_credit(config, events.as_slice(), &ask) {
+    if lacks_credit(config, events.as_slice(), ask) {
         return Ok(replied(at, Answer::NoCredit));
     }
-    match hold_for(alloc, config, events.as_slice(), ask) {
-        Ok((hold, reference)) => {
-            add(
-                events,
-                Event::Authorised(hold),
-                Answer::Allowed { reference },
-            )
-        }
-        Err(_) => Err(out_of_memory()),
-    }
+    let hold = hold_for(config, events.as_slice(), ask);
+    let reference = hold.reference;
+    add(
+        events,
+        Event::Authorised(hold),
+        Answer::Allowed { reference },
+    )
 }
 
 pub fn authorize(
-    alloc: Global,
     config: &Config,
     events: &mut Vec<Event>,
     ask: Authorize,
@@ -156,7 +127,7 @@ pub fn authorize(
 {
     let at = events.len();
     match validity(events.as_slice(), &ask.provider, &ask.uid, ask.kind) {
-        Some(true) => grant(alloc, config, events, ask),
+        Some(true) => grant(config, events, &ask),
         Some(false) => Ok(replied(at, Answer::Blocked)),
         None => Err(refused(at, Refusal::UnknownToken)),
     }

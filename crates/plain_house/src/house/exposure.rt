@@ -12,9 +12,9 @@ use cdr_checks::ExposureOf;
 use exact_money::Amount;
 use ocpi_types::Config;
 
-pub fn exposure(config: &Config, events: &[Event], ask: &ExposureOf) -> Replied
+pub fn exposure(config: &Config, events: &[Event], ask: ExposureOf) -> Replied
     requires { KeepsLimits config.now events.now }
-    ensures { result ≡ record { at = length events.now; answer = exposed config.now events.now ask.now } }
+    ensures { result ≡ record { at = length events.now; answer = exposed config.now events.now ask } }
 {
     let limit = config.limit(&ask.provider, &ask.currency).get();
     let holds = holds_of(events, &ask.provider, &ask.currency);

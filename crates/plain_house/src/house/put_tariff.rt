@@ -4,7 +4,7 @@ ghost use Rattle.std.specs.Prelude.{◌≡◌, find};
 ghost use Rattle.std.specs.Option.{option_copied};
 ghost use Rattle.cdr_checks.specs.declared.request.Command.TheVariants.{PutTariff};
 ghost use Rattle.plain_house.specs.House.{Does};
-ghost use Rattle.plain_house.specs.Tariffs.{stores, tariff_in, stored_version};
+ghost use Rattle.plain_house.specs.Tariffs.{same_version, stores, tariff_in, stored_version};
 
 use super::replies::{add, refused, replied};
 use super::room::full_for_tariff;
@@ -12,16 +12,20 @@ use crate::answer::{Answer, Refused, Replied};
 use crate::event::Event;
 use ocpi_types::{Config, Refusal, Tariff, same_tariff};
 
-// The event stores the version of this operator, id and moment.
+// The same operator, id and moment.
+fn is_version(tariff: &Tariff, version: &Tariff) -> bool
+    ensures { result ≡ same_version tariff.now version.now }
+{
+    tariff.operator.is(&version.operator)
+        && tariff.id == version.id
+        && tariff.last_updated == version.last_updated
+}
+
 fn stores(event: &Event, version: &Tariff) -> bool
     ensures { result ≡ stores version.now event.now }
 {
     match event {
-        Event::Tariff(tariff) => {
-            tariff.operator.is(&version.operator)
-                && tariff.id == version.id
-                && tariff.last_updated == version.last_updated
-        }
+        Event::Tariff(tariff) => is_version(tariff, version),
         _ => false,
     }
 }

@@ -1,7 +1,7 @@
 //! Replies, and the events that go with them.
 
 ghost use Rattle.std.specs.Prelude.{◌≡◌, Some, None, ◌∷◌, []};
-ghost use Rattle.plain_house.specs.Replies.{Gives, answered};
+ghost use Rattle.plain_house.specs.Replies.{Follows, answered};
 
 use crate::answer::{Answer, Refused, Replied};
 use crate::event::Event;
@@ -38,7 +38,7 @@ pub fn replied(at: usize, answer: Answer) -> Replied
 
 /// Adds the event and answers.
 pub fn add(events: &mut Vec<Event>, event: Event, answer: Answer) -> Result<Replied, Refused>
-    ensures { Gives (answered events.old.items answer (event ∷ [])) events.old.items result events.new.items }
+    ensures { Follows (answered events.old.items answer (event ∷ [])) events.old.items result events.new.items }
 {
     let at = events.len();
     match events.push(event) {

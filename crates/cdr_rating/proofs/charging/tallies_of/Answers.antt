@@ -2,7 +2,7 @@
 use Rattle.std.proofs.Common.{arith}
 use Rattle.ocpi_types.specs.declared.component.ComponentKind.TheVariants.{Energy, ParkingTime, Time}
 use Rattle.cdr_rating.specs.declared.measure.Measure.TheVariants as measure
-use Rattle.cdr_rating.proofs.Prices.{tally_kept, energy_kept, given_kept, within-more}
+use Rattle.cdr_rating.proofs.Prices.{tally_kept, energy_kept, given_kept, within_periods-more}
 use Rattle.cdr_rating.proofs.charging.tallies_of.Goals as goal
 
 pub loop-period-preserved : goal.loop-period-preserved
@@ -23,7 +23,7 @@ loop-period-preserved c =
       energy = tally_kept measure.Energy c.args.cdr.now c.args.zone.now Energy periods i period c.loop-period.energy old.energy new.energy inside here held.energy_before held.energy charged.energy;
       parking = tally_kept measure.Time c.args.cdr.now c.args.zone.now ParkingTime periods i period c.loop-period.energy old.parking new.parking inside here held.energy_before held.parking charged.parking;
       time = tally_kept measure.Time c.args.cdr.now c.args.zone.now Time periods i period c.loop-period.energy old.time new.time inside here held.energy_before held.time charged.time;
-      energy_within = within-more i old.energy new.energy held.energy_within charged.energy_within;
-      parking_within = within-more i old.parking new.parking held.parking_within charged.parking_within;
-      time_within = within-more i old.time new.time held.time_within charged.time_within;
+      energy_within = within_periods-more i old.energy new.energy held.energy_within charged.energy_within;
+      parking_within = within_periods-more i old.parking new.parking held.parking_within charged.parking_within;
+      time_within = within_periods-more i old.time new.time held.time_within charged.time_within;
     }

@@ -3,10 +3,10 @@ use Rattle.std.specs.Prelude.{sum_by}
 use Rattle.std.specs.List.{list_any}
 use Rattle.ocpi_types.specs.declared.component.ComponentKind.TheVariants.{Energy, ParkingTime, Time}
 use Rattle.cdr_rating.specs.declared.measure.Measure.TheVariants as measure
-use Rattle.cdr_rating.specs.Charging.{lacks_its_tariff}
-use Rattle.cdr_rating.specs.Tally.{tally_of}
+use Rattle.cdr_rating.specs.Pricing.{lacks_its_tariff}
+use Rattle.cdr_rating.specs.Inner.Tally.{tally_of}
 use Rattle.cdr_rating.specs.Volumes.{volume_in}
-use Rattle.cdr_rating.proofs.Prices.{priced_among, IsWithin}
+use Rattle.cdr_rating.proofs.Prices.{priced_among, IsWithinPeriods}
 use Rattle.cdr_rating.proofs.charging.tallies_of.Given as goal
 
 abbrev pub invariant-loop-period : goal.invariant-loop-period
@@ -17,7 +17,7 @@ invariant-loop-period l = record {
   energy : l.tallies.energy ≡ tally_of measure.Energy (priced_among l.cdr l.zone Energy (take l.period-index l.periods));
   parking : l.tallies.parking ≡ tally_of measure.Time (priced_among l.cdr l.zone ParkingTime (take l.period-index l.periods));
   time : l.tallies.time ≡ tally_of measure.Time (priced_among l.cdr l.zone Time (take l.period-index l.periods));
-  energy_within : IsWithin l.period-index l.tallies.energy;
-  parking_within : IsWithin l.period-index l.tallies.parking;
-  time_within : IsWithin l.period-index l.tallies.time;
+  energy_within : IsWithinPeriods l.period-index l.tallies.energy;
+  parking_within : IsWithinPeriods l.period-index l.tallies.parking;
+  time_within : IsWithinPeriods l.period-index l.tallies.time;
 }

@@ -1,11 +1,11 @@
 use Rattle.std.proofs.Common.{◌≡◌, drop, map}
 use Rattle.serde_json.specs.View.{view}
-use Rattle.ocpi_json.specs.Fields.{parsed_of}
+use Rattle.ocpi_json.specs.Fields.{as_parsed}
 use Rattle.ocpi_json.specs.Members.{each, or_name}
 use Rattle.ocpi_json.proofs.Eaches.{behind_items}
 use Rattle.ocpi_json.proofs.objects.parsed_each.Given as goal
 
 abbrev pub invariant-loop-node : goal.invariant-loop-node
 invariant-loop-node g l =
-    each (λ d. or_name l.name (parsed_of g.T.FromText.of_text d)) (map view l.nodes)
-    ≡ behind_items l.values (each (λ d. or_name l.name (parsed_of g.T.FromText.of_text d)) (map view (drop l.node-index l.nodes)))
+    each (λ d. or_name l.name (as_parsed g.T.FromText.of_text d)) (map view l.nodes)
+    ≡ behind_items l.values (each (λ d. or_name l.name (as_parsed g.T.FromText.of_text d)) (map view (drop l.node-index l.nodes)))

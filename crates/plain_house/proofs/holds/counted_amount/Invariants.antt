@@ -1,6 +1,6 @@
 use Rattle.std.proofs.Common.{◌≡◌, ◌+◌, length}
 use Rattle.std.specs.Option.{option_copied}
-use Rattle.plain_house.specs.Counted.{counted_amount}
+use Rattle.plain_house.specs.Inner.Counted.{counted_amount}
 use Rattle.plain_house.proofs.holds.counted_amount.Given as goal
 
 abbrev pub invariant-loop-event : goal.invariant-loop-event

@@ -1,4 +1,4 @@
-use Rattle.request_lines.specs.Progress.{rest_from}
+use Rattle.request_lines.specs.Inner.Progress.{rest_from}
 use Rattle.std.proofs.Common.{[]}
 use Rattle.request_lines.proofs.LineLaws.{are_lines, only_whole, lines_are}
 use Rattle.request_lines.proofs.lines.lines_join_to_bytes.Goals as goal

@@ -1,0 +1,71 @@
+//! CDRs copied and compared.
+
+use ocpi_json::objects::FromNodeIn;
+use ocpi_types::{Cdr, TryCopy, same_cdr};
+use std::alloc::Global;
+use std::str::Lines;
+
+fn read_cdr(alloc: Global, line: &str) -> Option<Cdr> {
+    let node = ocpi_json::read(alloc, line.as_bytes()).ok()?;
+    Cdr::from_node_in(alloc, &node).ok()
+}
+
+fn copy_of(alloc: Global, line: &str) -> Option<Cdr> {
+    match read_cdr(alloc, line) {
+        Some(cdr) => cdr.copy(alloc).ok(),
+        None => None,
+    }
+}
+
+fn credited(cdr: &Cdr) -> &str {
+    match &cdr.credit {
+        Some(id) => id.as_str(),
+        None => "nothing",
+    }
+}
+
+fn are_totals_written(rt: &HostRuntime, cdr: &Cdr) -> bool {
+    let id = cdr.id.as_str();
+    let cost = cdr.total_cost.get();
+    let energy = cdr.total_energy.get();
+    let time = cdr.total_time.get();
+    println!(rt;
+        "{id} costs {cost} for {energy} in {time} and credits {}",
+        credited(cdr)
+    )
+    .is_ok()
+}
+
+fn is_compared(rt: &HostRuntime, first: &Cdr, other: &Cdr) -> bool {
+    let word = if same_cdr(first, other) {
+        "same"
+    } else {
+        "other"
+    };
+    println!(rt; "{word}").is_ok()
+}
+
+fn is_other_compared(rt: &HostRuntime, first: &Cdr, line: &str) -> bool {
+    match copy_of(rt.alloc(), line) {
+        Some(copy) => is_compared(rt, first, &copy),
+        None => false,
+    }
+}
+
+fn are_others_compared(rt: &HostRuntime, first: &Cdr, lines: Lines<'_>) -> bool {
+    for line in lines {
+        if !is_other_compared(rt, first, line) {
+            return false;
+        }
+    }
+    true
+}
+
+/// Whether all lines are CDRs that could be copied.
+pub(crate) fn are_cdrs_copied(rt: &HostRuntime, text: &str) -> bool {
+    let mut lines = text.lines();
+    match copy_of(rt.alloc(), lines.next().unwrap_or("")) {
+        Some(first) => are_totals_written(rt, &first) && are_others_compared(rt, &first, lines),
+        None => false,
+    }
+}

@@ -1,0 +1,92 @@
+//! Requests, commands and events copied.
+
+ghost use Rattle.std.specs.Prelude.{◌≡◌};
+
+use cdr_checks::{Request, admit};
+use ocpi_types::{Config, Refusal, TryCopy};
+use plain_house::{Event, PlainHouse};
+use request_lines::{request_of, respond};
+use std::alloc::Global;
+use std::io::Write;
+use std::str::Lines;
+
+/// A house, and the configuration by which requests are admitted to it.
+#[derive(Drop)]
+struct Copying {
+    config: Config,
+    house: PlainHouse,
+    ghost same: { house.config ≡ config },
+}
+
+fn is_request_copied(alloc: Global, request: &Request) -> bool {
+    request.copy(alloc).is_ok()
+}
+
+fn is_event_copied(alloc: Global, event: &Event) -> bool {
+    event.copy(alloc).is_ok()
+}
+
+// A request that is refused has no command.
+fn is_command_copied(alloc: Global, config: &Config, request: Request) -> bool {
+    match admit(config, request) {
+        Ok(command) => command.copy(alloc).is_ok(),
+        Err(_) => true,
+    }
+}
+
+// A line that is refused has no request.
+fn is_line_copied(alloc: Global, config: &Config, line: &str) -> bool {
+    match request_of(alloc, line.as_bytes()) {
+        Ok(request) => is_request_copied(alloc, &request)
+            && is_command_copied(alloc, config, request),
+        Err(refusal) => !matches!(refusal, Refusal::NoMemory),
+    }
+}
+
+impl Copying {
+    fn read(alloc: Global, line: &str) -> Option<Copying> {
+        let config = Config::read(alloc, line.as_bytes()).ok()?;
+        let house = PlainHouse::new(alloc, config.copy(alloc).ok()?);
+        Some(Copying { config, house })
+    }
+
+    fn is_last_event_copied(&self, alloc: Global) -> bool {
+        match self.house.events().last() {
+            Some(event) => is_event_copied(alloc, event),
+            None => true,
+        }
+    }
+
+    fn answer(&mut self, alloc: Global, line: &str) -> Option<Vec<u8>> {
+        if !is_line_copied(alloc, &self.config, line) {
+            return None;
+        }
+        respond(alloc, &self.config, &mut self.house, line.as_bytes()).ok()
+    }
+
+    fn is_answered(&mut self, rt: &HostRuntime, line: &str) -> bool {
+        match self.answer(rt.alloc(), line) {
+            Some(answer) => rt.stdout().write_all(answer.as_slice()).is_ok(),
+            None => false,
+        }
+    }
+
+    fn are_answered(&mut self, rt: &HostRuntime, lines: Lines<'_>) -> bool {
+        for line in lines {
+            if !self.is_answered(rt, line) || !self.is_last_event_copied(rt.alloc()) {
+                return false;
+            }
+        }
+        true
+    }
+}
+
+/// Whether all lines behind a configuration could be copied, each with its command and its event, and answered.
+pub(crate) fn are_requests_copied(rt: &HostRuntime, text: &str) -> bool {
+    let mut lines = text.lines();
+    match Copying::read(rt.alloc(), lines.next().unwrap_or("")) {
+        Some(mut copying) => copying.are_answered(rt, lines)
+            && is_event_copied(rt.alloc(), &Event::Closed { period: 7 }),
+        None => false,
+    }
+}

@@ -1,0 +1,2 @@
+-- Words that the proofs use and no reader has to believe.
+pub mod NumeralOf

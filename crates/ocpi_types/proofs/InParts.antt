@@ -1,0 +1,228 @@
+-- Reading members in groups is reading them one after another.
+use Rattle.std.proofs.Common.{◌≡◌, ℕ, List, Result, Ok, Err, refl}
+use Rattle.std.specs.Prelude.{unwrap_or}
+use Rattle.serde_json.specs.Data.{Data}
+use Rattle.ocpi_json.specs.Fields.{required, optional, as_ci_text, as_number, as_parsed, as_text, as_whole}
+use Rattle.ocpi_json.specs.Members.{◌>>=◌}
+use Rattle.ocpi_json.specs.MomentText.{instant_of, date_of, clock_of}
+use Rattle.ocpi_json.specs.declared.name.Name.{Name}
+use Rattle.ocpi_json.specs.declared.name.Name.TheVariants as name
+use Rattle.ocpi_types.specs.Cdr.{members_at, session_token_at, tariffs_at, periods_at, cost_at, credit_at}
+use Rattle.ocpi_types.specs.CdrToken.{method_of}
+use Rattle.ocpi_types.specs.ConfigText.{config_at, known_at, platforms_at, house_limits_at, pair_limits_at, credit_window_at}
+use Rattle.ocpi_types.specs.Currency.{currency_of}
+use Rattle.ocpi_types.specs.Inner.CdrParts.{opening_at, authorised_at, totals_at, cdr_in_parts}
+use Rattle.ocpi_types.specs.Inner.ConfigStated.{config_from, stated_at, config_in_parts}
+use Rattle.ocpi_types.specs.Inner.RestrictionParts.{times_at, bounds_at, restrictions_in_parts}
+use Rattle.ocpi_types.specs.Members.{as_quantity}
+use Rattle.ocpi_types.specs.Party.{party_at}
+use Rattle.ocpi_types.specs.Restrictions.{restrictions_at, as_seconds, days_at, electric_bounds_at}
+use Rattle.ocpi_types.specs.declared.cdr.Authorised.{Authorised}
+use Rattle.ocpi_types.specs.declared.cdr.Cdr.{Cdr}
+use Rattle.ocpi_types.specs.declared.cdr.Opening.{Opening}
+use Rattle.ocpi_types.specs.declared.cdr.Totals.{Totals}
+use Rattle.ocpi_types.specs.declared.charging_period.ChargingPeriod.{ChargingPeriod}
+use Rattle.ocpi_types.specs.declared.config.Config.{Config}
+use Rattle.ocpi_types.specs.declared.config.parts.Known.{Known}
+use Rattle.ocpi_types.specs.declared.restrictions.Bounds.{Bounds}
+use Rattle.ocpi_types.specs.declared.restrictions.Restrictions.{Restrictions}
+use Rattle.ocpi_types.specs.declared.restrictions.Times.{Times}
+use Rattle.ocpi_types.specs.declared.tariff.Tariff.{Tariff}
+
+-- four members as a group, and what comes behind them
+four : {A B C D P R : Type 0} (a : Result A Name) (b : Result B Name) (c : Result C Name) (d : Result D Name)
+    (join : A → B → C → D → P) (flat : A → B → C → D → Result R Name) (rest : P → Result R Name)
+    → ((x : A) (y : B) (z : C) (w : D) → flat x y z w ≡ rest (join x y z w))
+    → a >>= (λ x. b >>= (λ y. c >>= (λ z. d >>= (λ w. flat x y z w))))
+    ≡ (a >>= (λ x. b >>= (λ y. c >>= (λ z. d >>= (λ w. Ok (join x y z w)))))) >>= rest
+four (Err n) b c d join flat rest h = refl
+four (Ok x) (Err n) c d join flat rest h = refl
+four (Ok x) (Ok y) (Err n) d join flat rest h = refl
+four (Ok x) (Ok y) (Ok z) (Err n) join flat rest h = refl
+four (Ok x) (Ok y) (Ok z) (Ok w) join flat rest h = h x y z w
+
+-- five members as the last group
+five : {A B C D E P R : Type 0} (a : Result A Name) (b : Result B Name) (c : Result C Name) (d : Result D Name) (e : Result E Name)
+    (join : A → B → C → D → E → P) (whole : P → R)
+    → a >>= (λ x. b >>= (λ y. c >>= (λ z. d >>= (λ w. e >>= (λ v. Ok (whole (join x y z w v)))))))
+    ≡ (a >>= (λ x. b >>= (λ y. c >>= (λ z. d >>= (λ w. e >>= (λ v. Ok (join x y z w v))))))) >>= (λ p. Ok (whole p))
+five (Err n) b c d e join whole = refl
+five (Ok x) (Err n) c d e join whole = refl
+five (Ok x) (Ok y) (Err n) d e join whole = refl
+five (Ok x) (Ok y) (Ok z) (Err n) e join whole = refl
+five (Ok x) (Ok y) (Ok z) (Ok w) (Err n) join whole = refl
+five (Ok x) (Ok y) (Ok z) (Ok w) (Ok v) join whole = refl
+
+-- what comes behind a value may be read in another way
+behind : {A R : Type 0} (a : Result A Name) (flat rest : A → Result R Name) → ((x : A) → flat x ≡ rest x) → a >>= flat ≡ a >>= rest
+behind (Err n) flat rest h = refl
+behind (Ok x) flat rest h = h x
+
+-- ---- restrictions
+
+abbrev restrictions_of : Times → Bounds → Data → Result Restrictions Name
+restrictions_of times bounds node = do
+  day_of_week ← days_at node
+  reservation ← optional as_text name.Reservation node
+  electric ← electric_bounds_at node
+  Ok (record {
+    start_time = times.start_time;
+    end_time = times.end_time;
+    start_date = times.start_date;
+    end_date = times.end_date;
+    min_kwh = bounds.min_kwh;
+    max_kwh = bounds.max_kwh;
+    min_duration = bounds.min_duration;
+    max_duration = bounds.max_duration;
+    day_of_week = day_of_week;
+    reservation = reservation;
+    electric = electric;
+  })
+
+abbrev bounds_then : Times → Data → Result Restrictions Name
+bounds_then times node = do
+  min_kwh ← optional as_quantity name.MinKwh node
+  max_kwh ← optional as_quantity name.MaxKwh node
+  min_duration ← optional as_seconds name.MinDuration node
+  max_duration ← optional as_seconds name.MaxDuration node
+  restrictions_of times (record { min_kwh = min_kwh; max_kwh = max_kwh; min_duration = min_duration; max_duration = max_duration }) node
+
+bounds_first : (times : Times) (node : Data) → bounds_then times node ≡ bounds_at node >>= (λ bounds. restrictions_of times bounds node)
+unfolding bounds_at
+bounds_first times node =
+    four (optional as_quantity name.MinKwh node) (optional as_quantity name.MaxKwh node) (optional as_seconds name.MinDuration node) (optional as_seconds name.MaxDuration node)
+    (λ a b c d. record { min_kwh = a; max_kwh = b; min_duration = c; max_duration = d })
+    (λ a b c d. restrictions_of times (record { min_kwh = a; max_kwh = b; min_duration = c; max_duration = d }) node)
+    (λ bounds. restrictions_of times bounds node)
+    (λ a b c d. refl)
+
+pub restrictions : (node : Data) → restrictions_at node ≡ restrictions_in_parts node
+unfolding restrictions_at restrictions_in_parts times_at
+restrictions node =
+    four (optional (as_parsed clock_of) name.StartTime node) (optional (as_parsed clock_of) name.EndTime node) (optional (as_parsed date_of) name.StartDate node) (optional (as_parsed date_of) name.EndDate node)
+    (λ a b c d. record { start_time = a; end_time = b; start_date = c; end_date = d })
+    (λ a b c d. bounds_then (record { start_time = a; end_time = b; start_date = c; end_date = d }) node)
+    (λ times. bounds_at node >>= (λ bounds. restrictions_of times bounds node))
+    (λ a b c d. bounds_first (record { start_time = a; end_time = b; start_date = c; end_date = d }) node)
+
+-- ---- CDRs
+
+abbrev cdr_of : Opening → Authorised → List Tariff → List ChargingPeriod → Totals → Cdr
+cdr_of opening authorised tariffs charging_periods totals = record {
+  operator = opening.operator;
+  id = opening.id;
+  start_date_time = opening.start_date_time;
+  end_date_time = opening.end_date_time;
+  cdr_token = authorised.cdr_token;
+  auth_method = authorised.auth_method;
+  authorization_reference = authorised.authorization_reference;
+  currency = authorised.currency;
+  tariffs = tariffs;
+  charging_periods = charging_periods;
+  total_cost = totals.total_cost;
+  total_energy = totals.total_energy;
+  total_time = totals.total_time;
+  credit = totals.credit;
+  last_updated = totals.last_updated;
+}
+
+abbrev totals_then : Opening → Authorised → List Tariff → List ChargingPeriod → Data → Result Cdr Name
+totals_then opening authorised tariffs charging_periods node = do
+  total_cost ← cost_at node
+  total_energy ← required as_number name.TotalEnergy node
+  total_time ← required as_number name.TotalTime node
+  credit ← credit_at node
+  last_updated ← required (as_parsed instant_of) name.LastUpdated node
+  Ok (cdr_of opening authorised tariffs charging_periods (record { total_cost = total_cost; total_energy = total_energy; total_time = total_time; credit = credit; last_updated = last_updated }))
+
+totals_last : (opening : Opening) (authorised : Authorised) (tariffs : List Tariff) (periods : List ChargingPeriod) (node : Data) →
+    totals_then opening authorised tariffs periods node ≡ totals_at node >>= (λ totals. Ok (cdr_of opening authorised tariffs periods totals))
+unfolding totals_at
+totals_last opening authorised tariffs periods node =
+    five (cost_at node) (required as_number name.TotalEnergy node) (required as_number name.TotalTime node) (credit_at node) (required (as_parsed instant_of) name.LastUpdated node)
+    (λ a b c d e. record { total_cost = a; total_energy = b; total_time = c; credit = d; last_updated = e })
+    (λ totals. cdr_of opening authorised tariffs periods totals)
+
+abbrev lists_then : Opening → Authorised → Data → Result Cdr Name
+lists_then opening authorised node = do
+  tariffs ← tariffs_at node
+  charging_periods ← periods_at node
+  totals_then opening authorised tariffs charging_periods node
+
+abbrev lists_and_totals : Opening → Authorised → Data → Result Cdr Name
+lists_and_totals opening authorised node = do
+  tariffs ← tariffs_at node
+  charging_periods ← periods_at node
+  totals ← totals_at node
+  Ok (cdr_of opening authorised tariffs charging_periods totals)
+
+lists_first : (opening : Opening) (authorised : Authorised) (node : Data) → lists_then opening authorised node ≡ lists_and_totals opening authorised node
+lists_first opening authorised node =
+    behind (tariffs_at node)
+    (λ tariffs. periods_at node >>= (λ periods. totals_then opening authorised tariffs periods node))
+    (λ tariffs. periods_at node >>= (λ periods. totals_at node >>= (λ totals. Ok (cdr_of opening authorised tariffs periods totals))))
+    (λ tariffs. behind (periods_at node)
+    (λ periods. totals_then opening authorised tariffs periods node)
+    (λ periods. totals_at node >>= (λ totals. Ok (cdr_of opening authorised tariffs periods totals)))
+    (λ periods. totals_last opening authorised tariffs periods node))
+
+abbrev authorised_then : Opening → Data → Result Cdr Name
+authorised_then opening node = do
+  cdr_token ← session_token_at node
+  auth_method ← required (as_parsed method_of) name.AuthMethod node
+  reference ← optional (as_ci_text 36) name.AuthorizationReference node
+  currency ← required (as_parsed currency_of) name.Currency node
+  lists_then opening (record { cdr_token = cdr_token; auth_method = auth_method; authorization_reference = reference; currency = currency }) node
+
+authorised_first : (opening : Opening) (node : Data) → authorised_then opening node ≡ authorised_at node >>= (λ authorised. lists_and_totals opening authorised node)
+unfolding authorised_at
+authorised_first opening node =
+    four (session_token_at node) (required (as_parsed method_of) name.AuthMethod node) (optional (as_ci_text 36) name.AuthorizationReference node) (required (as_parsed currency_of) name.Currency node)
+    (λ a b c d. record { cdr_token = a; auth_method = b; authorization_reference = c; currency = d })
+    (λ a b c d. lists_then opening (record { cdr_token = a; auth_method = b; authorization_reference = c; currency = d }) node)
+    (λ authorised. lists_and_totals opening authorised node)
+    (λ a b c d. lists_first opening (record { cdr_token = a; auth_method = b; authorization_reference = c; currency = d }) node)
+
+pub cdr : (node : Data) → members_at node ≡ cdr_in_parts node
+unfolding members_at cdr_in_parts opening_at
+cdr node =
+    four (party_at node) (required (as_ci_text 39) name.Id node) (required (as_parsed instant_of) name.StartDateTime node) (required (as_parsed instant_of) name.EndDateTime node)
+    (λ a b c d. record { operator = a; id = b; start_date_time = c; end_date_time = d })
+    (λ a b c d. authorised_then (record { operator = a; id = b; start_date_time = c; end_date_time = d }) node)
+    (λ opening. authorised_at node >>= (λ authorised. lists_and_totals opening authorised node))
+    (λ a b c d. authorised_first (record { operator = a; id = b; start_date_time = c; end_date_time = d }) node)
+
+-- ---- configurations
+
+stated_last : (version tolerance : ℕ) (known : Known) (node : Data) →
+    platforms_at known node >>= (λ a. house_limits_at node >>= (λ b. pair_limits_at version known node >>= (λ c. credit_window_at version node >>= (λ d. Ok (config_from tolerance known (record { platforms = a; limits = b; pair_limits = c; credit_window = d }))))))
+    ≡ stated_at version known node >>= (λ stated. Ok (config_from tolerance known stated))
+unfolding stated_at
+stated_last version tolerance known node =
+    four (platforms_at known node) (house_limits_at node) (pair_limits_at version known node) (credit_window_at version node)
+    (λ a b c d. record { platforms = a; limits = b; pair_limits = c; credit_window = d })
+    (λ a b c d. Ok (config_from tolerance known (record { platforms = a; limits = b; pair_limits = c; credit_window = d })))
+    (λ stated. Ok (config_from tolerance known stated))
+    (λ a b c d. refl)
+
+abbrev stated_then : ℕ → ℕ → Known → Data → Result Config Name
+stated_then version tolerance known node = do
+  platforms ← platforms_at known node
+  limits ← house_limits_at node
+  pair_limits ← pair_limits_at version known node
+  credit_window ← credit_window_at version node
+  Ok (config_from tolerance known (record { platforms = platforms; limits = limits; pair_limits = pair_limits; credit_window = credit_window }))
+
+pub config : (node : Data) → config_at node ≡ config_in_parts node
+unfolding config_at config_in_parts
+config node =
+    behind (required (as_whole 1 2) name.Version node)
+    (λ version. optional (as_whole 0 1_000_000_000_000) name.Tolerance node >>= (λ tolerance. known_at node >>= (λ known. stated_then version (unwrap_or tolerance 100) known node)))
+    (λ version. optional (as_whole 0 1_000_000_000_000) name.Tolerance node >>= (λ tolerance. known_at node >>= (λ known. stated_at version known node >>= (λ stated. Ok (config_from (unwrap_or tolerance 100) known stated)))))
+    (λ version. behind (optional (as_whole 0 1_000_000_000_000) name.Tolerance node)
+    (λ tolerance. known_at node >>= (λ known. stated_then version (unwrap_or tolerance 100) known node))
+    (λ tolerance. known_at node >>= (λ known. stated_at version known node >>= (λ stated. Ok (config_from (unwrap_or tolerance 100) known stated))))
+    (λ tolerance. behind (known_at node)
+    (λ known. stated_then version (unwrap_or tolerance 100) known node)
+    (λ known. stated_at version known node >>= (λ stated. Ok (config_from (unwrap_or tolerance 100) known stated)))
+    (λ known. stated_last version (unwrap_or tolerance 100) known node)))

@@ -1,0 +1,6 @@
+use Rattle.serde_json.specs.View.{view}
+use Rattle.ocpi_types.proofs.InParts.{cdr}
+use Rattle.ocpi_types.proofs.cdr.read_members.Goals as goal
+
+pub returns : goal.returns
+returns c = rw (cdr (view c.args.node.now)) c.read_parts.ensures

@@ -1,0 +1,8 @@
+use Rattle.std.proofs.Common.{◌≡◌, drop, map}
+use Rattle.serde_json.specs.View.{view}
+use Rattle.ocpi_json.specs.Members.{each}
+use Rattle.ocpi_types.proofs.Eaches.{behind_items}
+use Rattle.ocpi_types.proofs.config.parts.read_each_with_in.Given as goal
+
+abbrev pub invariant-loop-node : goal.invariant-loop-node
+invariant-loop-node g l = each (g.T.FromNodeWithIn.at_with l.known) (map view l.nodes) ≡ behind_items l.values (each (g.T.FromNodeWithIn.at_with l.known) (map view (drop l.node-index l.nodes)))

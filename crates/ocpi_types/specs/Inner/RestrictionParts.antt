@@ -1,0 +1,50 @@
+-- The members of restrictions in groups, as they are read.
+use Rattle.std.specs.Prelude.{Result, Ok}
+use Rattle.serde_json.specs.Data.{Data}
+use Rattle.ocpi_json.specs.Fields.{optional, as_parsed, as_text}
+use Rattle.ocpi_json.specs.Members.{◌>>=◌}
+use Rattle.ocpi_json.specs.MomentText.{date_of, clock_of}
+use Rattle.ocpi_json.specs.declared.name.Name.{Name}
+use Rattle.ocpi_json.specs.declared.name.Name.TheVariants as name
+use Rattle.ocpi_types.specs.Members.{as_quantity}
+use Rattle.ocpi_types.specs.Restrictions.{as_seconds, days_at, electric_bounds_at}
+use Rattle.ocpi_types.specs.declared.restrictions.Bounds.{Bounds}
+use Rattle.ocpi_types.specs.declared.restrictions.Restrictions.{Restrictions}
+use Rattle.ocpi_types.specs.declared.restrictions.Times.{Times}
+
+unfoldable pub times_at : Data → Result Times Name
+times_at node = do
+  start_time ← optional (as_parsed clock_of) name.StartTime node
+  end_time ← optional (as_parsed clock_of) name.EndTime node
+  start_date ← optional (as_parsed date_of) name.StartDate node
+  end_date ← optional (as_parsed date_of) name.EndDate node
+  Ok (record { start_time = start_time; end_time = end_time; start_date = start_date; end_date = end_date })
+
+unfoldable pub bounds_at : Data → Result Bounds Name
+bounds_at node = do
+  min_kwh ← optional as_quantity name.MinKwh node
+  max_kwh ← optional as_quantity name.MaxKwh node
+  min_duration ← optional as_seconds name.MinDuration node
+  max_duration ← optional as_seconds name.MaxDuration node
+  Ok (record { min_kwh = min_kwh; max_kwh = max_kwh; min_duration = min_duration; max_duration = max_duration })
+
+unfoldable pub restrictions_in_parts : Data → Result Restrictions Name
+restrictions_in_parts node = do
+  times ← times_at node
+  bounds ← bounds_at node
+  day_of_week ← days_at node
+  reservation ← optional as_text name.Reservation node
+  electric ← electric_bounds_at node
+  Ok (record {
+    start_time = times.start_time;
+    end_time = times.end_time;
+    start_date = times.start_date;
+    end_date = times.end_date;
+    min_kwh = bounds.min_kwh;
+    max_kwh = bounds.max_kwh;
+    min_duration = bounds.min_duration;
+    max_duration = bounds.max_duration;
+    day_of_week = day_of_week;
+    reservation = reservation;
+    electric = electric;
+  })
