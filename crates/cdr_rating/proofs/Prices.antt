@@ -1,11 +1,11 @@
 -- How priced volumes and their tally grow with one more period.
-use Rattle.std.proofs.Common.{◌≡◌, ◌∙◌, ℕ, ◌+◌, ◌*◌, ◌^◌, ◌<◌, ◌≤◌, List, [], ◌∷◌, ◌++◌, length, take, get_or, Option, Some, None, refl, ap, sym, false, arith}
+use Rattle.std.proofs.Common.{◌≡◌, ◌∙◌, ℕ, ◌+◌, ◌*◌, ◌^◌, ◌<◌, ◌≤◌, List, [], ◌∷◌, ◌++◌, length, take, get_or, Option, Some, None, refl, ap, sym, append_assoc, false, arith}
 use Rattle.std.specs.Prelude.{flat_map, sum_by, nat_lt, if◌then◌else◌}
 use Rattle.std.proofs.lemmas.List.{append-nil, take_more, reverse-append}
 use Rattle.std.specs.List.{list_any}
 use Rattle.std.proofs.lemmas.List.Folds.{list_any_more}
 use Rattle.std.proofs.lemmas.List.Concat.{flat_map-append}
-use Rattle.std.proofs.lemmas.List.Sums.{sum_by-cons, sum_by_push, sum_by_more}
+use Rattle.std.proofs.lemmas.List.Sums.{sum_by_push, sum_by_more}
 use Rattle.jiff.specs.Types.{TimeZone as PlainZone}
 use Rattle.ocpi_types.specs.declared.cdr.Cdr.{Cdr}
 use Rattle.ocpi_types.specs.declared.charging_period.ChargingPeriod.{ChargingPeriod}
@@ -19,28 +19,22 @@ use Rattle.cdr_rating.specs.Price.{last_above_zero}
 use Rattle.cdr_rating.specs.Pricing.{active_after, lacks_its_tariff, priced_at}
 use Rattle.cdr_rating.specs.Inner.Room.{HasRoom, IsOneMore}
 use Rattle.cdr_rating.specs.Inner.Tally.{tally_of, factor_of, with_one, added}
-use Rattle.cdr_rating.specs.Volumes.{volume_in, with_energy_before}
+use Rattle.cdr_rating.specs.Volumes.{energy_of, volume_in, with_earlier}
 
 -- the priced volumes of so many periods
 abbrev pub priced_among : Cdr → PlainZone → ComponentKind → List ChargingPeriod → List Priced
 priced_among cdr zone kind periods =
-    flat_map (λ p. priced_at (active_after cdr zone kind p.0 p.1) (volume_in kind p.1)) (with_energy_before 0 periods)
+    flat_map (λ p. priced_at (active_after cdr zone kind (energy_of p.0) p.1) (volume_in kind p.1)) (with_earlier [] periods)
 
-with_energy_before-more : (energy : ℕ) (periods : List ChargingPeriod) (period : ChargingPeriod) →
-    with_energy_before energy (periods ++ period ∷ []) ≡ with_energy_before energy periods ++ (energy + sum_by (volume_in Energy) periods, period) ∷ []
-with_energy_before-more energy [] period =
-    let none : energy + sum_by (volume_in Energy) [] ≡ energy = omega arith in
-    rw none refl
-with_energy_before-more energy (q ∷ periods) period =
-    let whole : energy + sum_by (volume_in Energy) (q ∷ periods) ≡ energy + volume_in Energy q + sum_by (volume_in Energy) periods = omega (arith, sum_by-cons (volume_in Energy) q periods) in
-    rw (whole, with_energy_before-more (energy + volume_in Energy q) periods period) refl
+with_earlier-more : (earlier periods : List ChargingPeriod) (period : ChargingPeriod) → with_earlier earlier (periods ++ period ∷ []) ≡ with_earlier earlier periods ++ (earlier ++ periods, period) ∷ []
+with_earlier-more earlier [] period = rw (append-nil earlier) refl
+with_earlier-more earlier (q ∷ periods) period =
+    rw (with_earlier-more (earlier ++ q ∷ []) periods period, append_assoc earlier (q ∷ []) periods) refl
 
-pub priced-more : (cdr : Cdr) (zone : PlainZone) (kind : ComponentKind) (periods : List ChargingPeriod) (period : ChargingPeriod) → priced_among cdr zone kind (periods ++ period ∷ []) ≡ priced_among cdr zone kind periods ++ priced_at (active_after cdr zone kind (sum_by (volume_in Energy) periods) period) (volume_in kind period)
+pub priced-more : (cdr : Cdr) (zone : PlainZone) (kind : ComponentKind) (periods : List ChargingPeriod) (period : ChargingPeriod) → priced_among cdr zone kind (periods ++ period ∷ []) ≡ priced_among cdr zone kind periods ++ priced_at (active_after cdr zone kind (energy_of periods) period) (volume_in kind period)
 priced-more cdr zone kind periods period =
-    let one : (ℕ × ChargingPeriod) → List Priced = λ p. priced_at (active_after cdr zone kind p.0 p.1) (volume_in kind p.1) in
-    let energy = sum_by (volume_in Energy) periods in
-    let none : 0 + energy ≡ energy = omega arith in
-    rw (with_energy_before-more 0 periods period, none, flat_map-append one (with_energy_before 0 periods) ((energy, period) ∷ []), append-nil (one (energy, period))) refl
+    let one : (List ChargingPeriod × ChargingPeriod) → List Priced = λ p. priced_at (active_after cdr zone kind (energy_of p.0) p.1) (volume_in kind p.1) in
+    rw (with_earlier-more [] periods period, flat_map-append one (with_earlier [] periods) ((periods, period) ∷ []), append-nil (one (periods, period))) refl
 
 last-more : (xs : List Priced) (x : Priced) → last_above_zero (xs ++ x ∷ []) ≡ (if nat_lt 0 x.volume then Some x else last_above_zero xs)
 last-more xs x = rw (reverse-append xs (x ∷ [])) refl

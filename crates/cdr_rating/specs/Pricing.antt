@@ -11,7 +11,7 @@ use Rattle.ocpi_types.specs.declared.tariff.Tariff.{Tariff}
 use Rattle.tariff_elements.specs.Active.{active}
 use Rattle.tariff_elements.specs.LocalTime.{LocalMoment, moment_at}
 use Rattle.cdr_rating.specs.declared.tally.Priced.{Priced}
-use Rattle.cdr_rating.specs.Volumes.{volume_in, with_energy_before}
+use Rattle.cdr_rating.specs.Volumes.{energy_of, volume_in, with_earlier}
 
 -- whole seconds from one instant to another, 0 where it is earlier
 abbrev pub seconds_between : ℤ → ℤ → ℕ
@@ -44,7 +44,7 @@ abbrev pub priced_at : Option PriceComponent → ℕ → List Priced
 priced_at None volume = []
 priced_at (Some component) volume = record { price = component.price; step_size = component.step_size; volume = volume } ∷ []
 
--- the priced volumes of one kind, in the order of the periods
+-- the priced volumes of one kind, in the order of the periods, each judged with the energy of the earlier ones
 abbrev pub priced_volumes : Cdr → PlainZone → ComponentKind → List Priced
 priced_volumes cdr zone kind =
-    flat_map (λ p. priced_at (active_after cdr zone kind p.0 p.1) (volume_in kind p.1)) (with_energy_before 0 cdr.charging_periods)
+    flat_map (λ p. priced_at (active_after cdr zone kind (energy_of p.0) p.1) (volume_in kind p.1)) (with_earlier [] cdr.charging_periods)

@@ -1,5 +1,5 @@
 -- What the charging periods of a session count (OCPI 2.2.1, CDR object, ChargingPeriod object and CdrDimension object).
-use Rattle.std.specs.Prelude.{ℕ, ◌+◌, ◌*◌, ◌/◌, Bool, false, List, [], ◌∷◌, filter, sum_by, Option, Some, None, unsigned_abs}
+use Rattle.std.specs.Prelude.{ℕ, ◌+◌, ◌*◌, ◌/◌, Bool, false, List, [], ◌∷◌, ◌++◌, filter, sum_by, Option, Some, None, unsigned_abs}
 use Rattle.std.specs.Option.{option_map_or}
 use Rattle.ocpi_types.specs.Component.{same_component_kind}
 use Rattle.ocpi_types.specs.declared.charging_period.ChargingPeriod.{ChargingPeriod}
@@ -35,7 +35,11 @@ volume_in component.ParkingTime period = seconds_of_hours (millionths_in compone
 volume_in component.Time period = seconds_of_hours (millionths_in component.Time period)
 volume_in component.Flat period = 0
 
--- each period with the energy before it
-abbrev pub with_energy_before : ℕ → List ChargingPeriod → List (ℕ × ChargingPeriod)
-with_energy_before energy [] = []
-with_energy_before energy (period ∷ later) = (energy, period) ∷ with_energy_before (energy + volume_in component.Energy period) later
+-- the energy of periods, in millionths of a kWh
+abbrev pub energy_of : List ChargingPeriod → ℕ
+energy_of periods = sum_by (volume_in component.Energy) periods
+
+-- each period with those before it
+abbrev pub with_earlier : List ChargingPeriod → List ChargingPeriod → List (List ChargingPeriod × ChargingPeriod)
+with_earlier earlier [] = []
+with_earlier earlier (period ∷ later) = (earlier, period) ∷ with_earlier (earlier ++ period ∷ []) later
