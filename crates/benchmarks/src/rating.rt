@@ -3,7 +3,7 @@
 use super::asked::Asked;
 use cdr_rating::rate;
 use ocpi_json::objects::FromNodeIn;
-use ocpi_json::read;
+use ocpi_json::Room;
 use ocpi_types::{Cdr, Zone};
 use std::alloc::{AllocError, Global};
 use std::io;
@@ -38,7 +38,8 @@ fn text(alloc: Global, periods: usize) -> Result<String, AllocError> {
 
 fn cdr(alloc: Global, periods: usize) -> Option<Cdr> {
     let text = text(alloc, periods).ok()?;
-    let node = read(alloc, text.as_bytes()).ok()?;
+    let mut room = Room::new(alloc);
+    let node = room.read(text.as_bytes()).ok()?;
     Cdr::from_node_in(alloc, &node).ok()
 }
 

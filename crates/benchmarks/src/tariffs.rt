@@ -3,7 +3,7 @@
 use super::asked::Asked;
 use jiff::Timestamp;
 use ocpi_json::objects::FromNodeIn;
-use ocpi_json::read;
+use ocpi_json::Room;
 use ocpi_types::{ComponentKind, Element, Tariff, Zone};
 use std::alloc::Global;
 use std::io;
@@ -27,7 +27,8 @@ fn tariff_text() -> &'static str {
 }
 
 fn read_tariff(alloc: Global) -> Option<Tariff> {
-    let node = read(alloc, tariff_text().as_bytes()).ok()?;
+    let mut room = Room::new(alloc);
+    let node = room.read(tariff_text().as_bytes()).ok()?;
     Tariff::from_node_in(alloc, &node).ok()
 }
 

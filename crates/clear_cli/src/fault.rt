@@ -93,7 +93,7 @@ where
     let (head, middle, tail) = match *fault {
         Fault::Usage => ("clear: usage", "", "\n"),
         Fault::ConfigSyntax => ("clear: config: syntax", "", "\n"),
-        Fault::ConfigMember { name } => ("clear: config: ", name.as_str(), "\n"),
+        Fault::ConfigMember { name } => ("clear: config: ", name.key(), "\n"),
         Fault::CannotRead { path } => ("clear: cannot read ", path, "\n"),
         Fault::CannotReadInput => ("clear: cannot read -", "", "\n"),
         Fault::CannotWrite => ("clear: cannot write", "", "\n"),

@@ -1,12 +1,14 @@
 //! CDRs copied and compared.
 
+use ocpi_json::Room;
 use ocpi_json::objects::FromNodeIn;
 use ocpi_types::{Cdr, TryCopy, same_cdr};
 use std::alloc::Global;
 use std::str::Lines;
 
 fn read_cdr(alloc: Global, line: &str) -> Option<Cdr> {
-    let node = ocpi_json::read(alloc, line.as_bytes()).ok()?;
+    let mut room = Room::new(alloc);
+    let node = room.read(line.as_bytes()).ok()?;
     Cdr::from_node_in(alloc, &node).ok()
 }
 

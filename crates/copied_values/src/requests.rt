@@ -3,6 +3,7 @@
 ghost use Rattle.std.specs.Prelude.{◌≡◌};
 
 use cdr_checks::{Request, admit};
+use ocpi_json::Room;
 use ocpi_types::{Config, Refusal, TryCopy};
 use plain_house::{Event, PlainHouse};
 use request_lines::{request_of, respond};
@@ -10,11 +11,12 @@ use std::alloc::Global;
 use std::io::Write;
 use std::str::Lines;
 
-/// A house, and the configuration by which requests are admitted to it.
+/// A house, the configuration by which requests are admitted to it, and the room in which lines are read.
 #[derive(Drop)]
 struct Copying {
     config: Config,
     house: PlainHouse,
+    room: Room,
     ghost same: { house.config ≡ config },
 }
 
@@ -35,8 +37,8 @@ fn is_command_copied(alloc: Global, config: &Config, request: Request) -> bool {
 }
 
 // A line that is refused has no request.
-fn is_line_copied(alloc: Global, config: &Config, line: &str) -> bool {
-    match request_of(alloc, line.as_bytes()) {
+fn is_line_copied(alloc: Global, room: &mut Room, config: &Config, line: &str) -> bool {
+    match request_of(alloc, room, line.as_bytes()) {
         Ok(request) => is_request_copied(alloc, &request)
             && is_command_copied(alloc, config, request),
         Err(refusal) => !matches!(refusal, Refusal::NoMemory),
@@ -47,7 +49,11 @@ impl Copying {
     fn read(alloc: Global, line: &str) -> Option<Copying> {
         let config = Config::read(alloc, line.as_bytes()).ok()?;
         let house = PlainHouse::new(alloc, config.copy(alloc).ok()?);
-        Some(Copying { config, house })
+        Some(Copying {
+            config,
+            house,
+            room: Room::new(alloc),
+        })
     }
 
     fn is_last_event_copied(&self, alloc: Global) -> bool {
@@ -58,10 +64,11 @@ impl Copying {
     }
 
     fn answer(&mut self, alloc: Global, line: &str) -> Option<Vec<u8>> {
-        if !is_line_copied(alloc, &self.config, line) {
+        if !is_line_copied(alloc, &mut self.room, &self.config, line) {
             return None;
         }
-        respond(alloc, &self.config, &mut self.house, line.as_bytes()).ok()
+        let line = line.as_bytes();
+        respond(alloc, &mut self.room, &self.config, &mut self.house, line).ok()
     }
 
     fn is_answered(&mut self, rt: &HostRuntime, line: &str) -> bool {

@@ -1,11 +1,9 @@
-pub mod Cutting
 pub mod DigitSpelling
 pub mod Eaches
 pub mod FractionSpelling
 pub mod MomentParts
 pub mod MomentSpelling
 pub mod NodeLists
-pub mod Pieces
 pub mod Printable
 pub mod Readings
 pub mod Wholes

@@ -1,11 +1,11 @@
--- The members of an object that was read from marked text, where a string begins with `s`, and a number is the string of `n` and its token.
+-- The members of an object.
 -- A kind says what the data of a member stands for, if it is of that kind.
-use Rattle.std.specs.Prelude.{ℕ, ℤ, pos, int_le, List, [], ◌∷◌, ◌==◌, ◌&&◌, nat_le, if◌then◌else◌, Option, Some, None, Result, Ok, is_some, option_and_then, unwrap_or, length}
+use Rattle.std.specs.Prelude.{ℕ, ℤ, pos, int_le, List, [], ◌∷◌, ◌&&◌, nat_le, if◌then◌else◌, Option, Some, None, Result, Ok, is_some, option_map, option_and_then, unwrap_or, length}
 use Rattle.std.specs.Char.{is_ascii_digit}
 use Rattle.std.specs.List.{list_all}
 use Rattle.std.specs.Str.Parse.{digits_value}
-use Rattle.serde_json.specs.Data.{Data, Items, no_items, item}
-use Rattle.serde_json.specs.Find.{get, as_null, as_str, as_array, as_object}
+use Rattle.json.specs.Json.{Json as Data, Items, no_items, item}
+use Rattle.json.specs.Find.{get, is_null, as_str, as_number as number_text, as_array, as_object}
 use Rattle.exact_money.specs.Millionths.{millionths_of}
 use Rattle.ocpi_json.specs.Folded.{is_printable}
 use Rattle.ocpi_json.specs.Members.{or_name, ◌>>=◌, if_any}
@@ -14,7 +14,7 @@ use Rattle.ocpi_json.specs.declared.name.Name.{Name}
 
 -- the member of that name
 abbrev pub member_at : Name → Data → Option Data
-member_at n node = get (115 ∷ name.key_text n) node
+member_at n node = get (name.key_text n) node
 
 -- a member that has to be there, and of the kind
 abbrev pub required : {X : Type 0} → (Data → Option X) → Name → Data → Result X Name
@@ -24,7 +24,7 @@ required kind n node = do
 
 -- null counts as no data
 abbrev pub unless_null : Data → Option Data
-unless_null d = if is_some (as_null d) then None else Some d
+unless_null d = if is_null d then None else Some d
 
 -- the member of that name, if it is there and not null
 abbrev pub present_at : Name → Data → Option Data
@@ -36,22 +36,17 @@ optional kind n node = if_any (λ d. or_name n (kind d)) (present_at n node)
 
 -- ---- kinds
 
--- what comes behind a mark
-abbrev pub behind : ℕ → List ℕ → Option (List ℕ)
-behind mark [] = None
-behind mark (byte ∷ bytes) = if byte == mark then Some bytes else None
-
 -- a text
 abbrev pub as_text : Data → Option (List ℕ)
-as_text d = option_and_then (behind 115) (as_str d)
+as_text d = as_str d
 
 -- a text that stands for a value
 abbrev pub as_parsed : {X : Type 0} → (List ℕ → Option X) → Data → Option X
 as_parsed of_text d = option_and_then of_text (as_text d)
 
--- the token of a number
+-- the token of a number, as it is written
 abbrev pub as_token : Data → Option (List ℕ)
-as_token d = option_and_then (behind 110) (as_str d)
+as_token d = number_text d
 
 abbrev pub if_ci : ℕ → List ℕ → Option (List ℕ)
 if_ci max text = if nat_le 1 (length text) && nat_le (length text) max && is_printable text then Some text else None
@@ -91,9 +86,13 @@ items_list (item d ds) = d ∷ items_list ds
 abbrev pub if_between : ℕ → ℕ → List Data → Option (List Data)
 if_between least most ds = if nat_le least (length ds) && nat_le (length ds) most then Some ds else None
 
+-- the items of an array
+abbrev pub as_items : Data → Option (List Data)
+as_items d = option_map items_list (as_array d)
+
 -- an array of least to most items
 abbrev pub as_list : ℕ → ℕ → Data → Option (List Data)
-as_list least most d = option_and_then (λ ds. if_between least most (items_list ds)) (as_array d)
+as_list least most d = option_and_then (if_between least most) (as_items d)
 
 -- the items of an array of up to so many, which may be missing or null
 abbrev pub list_or_empty : ℕ → Name → Data → Result (List Data) Name

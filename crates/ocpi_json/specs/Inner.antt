@@ -1,5 +1,4 @@
 -- Words that only private contracts and proofs use.
 pub mod Cells
-pub mod MarkedText
 pub mod MomentReading
 pub mod Ranges

@@ -1,9 +1,7 @@
-pub mod Cut
 pub mod Faults
 pub mod Fields
 pub mod Folded
 pub mod Inner
-pub mod Marked
 pub mod Members
 pub mod MomentText
 pub mod Name

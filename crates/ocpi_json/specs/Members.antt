@@ -1,6 +1,6 @@
 -- Reading the members of an object in order: each gives its value, or the name of the member at fault.
 use Rattle.std.specs.Prelude.{List, [], ◌∷◌, Option, Some, None, Result, Ok, Err}
-use Rattle.serde_json.specs.Data.{Data}
+use Rattle.json.specs.Json.{Json as Data}
 use Rattle.ocpi_json.specs.declared.name.Name.{Name}
 
 infixl 10 ◌>>=◌

@@ -1,12 +1,12 @@
 //! The members of an object, by name and kind.
 
-ghost use Rattle.std.specs.Prelude.{◌≡◌, ◌<◌, map, option_map};
+ghost use Rattle.std.specs.Prelude.{◌≡◌, [], map, option_map};
 ghost use Rattle.std.specs.Char.{is_ascii_digit};
 ghost use Rattle.std.specs.List.{list_all};
-ghost use Rattle.serde_json.specs.Find.{as_bool};
-ghost use Rattle.serde_json.specs.View.{view};
+ghost use Rattle.json.specs.Find.{as_bool};
+ghost use Rattle.json.specs.Value.{value_view as view};
 ghost use Rattle.ocpi_json.specs.Faults.{Finds};
-ghost use Rattle.ocpi_json.specs.Fields.{member_at, present_at, required, optional, behind, as_text, as_token, as_ci_text, if_ci, as_list, as_number, as_object_node, as_parsed, as_whole, whole_value, if_within, as_unsigned, if_not_negative, list_or_empty};
+ghost use Rattle.ocpi_json.specs.Fields.{member_at, present_at, required, optional, as_text, as_token, as_ci_text, if_ci, as_items, as_list, as_number, as_object_node, as_parsed, as_whole, whole_value, if_within, as_unsigned, if_not_negative, list_or_empty};
 ghost use Rattle.ocpi_json.specs.MomentText.{instant_of, date_of, clock_of};
 ghost use Rattle.ocpi_json.specs.Members.{or_name, shown};
 
@@ -61,13 +61,13 @@ impl From<Name> for FieldFault {
     }
 }
 
-fn member(node: &Node, name: Name) -> Result<&Node, Name>
+fn member<'n, 'a>(node: &'n Node<'a>, name: Name) -> Result<&'n Node<'a>, Name>
     ensures { shown (λ v. view v.now) result ≡ or_name name (member_at name (view node.now)) }
 {
     node.get(name.key()).ok_or(name)
 }
 
-fn present(node: &Node, name: Name) -> Option<&Node>
+fn present<'n, 'a>(node: &'n Node<'a>, name: Name) -> Option<&'n Node<'a>>
     ensures { option_map (λ v. view v.now) result ≡ present_at name (view node.now) }
 {
     match node.get(name.key()) {
@@ -76,26 +76,16 @@ fn present(node: &Node, name: Name) -> Option<&Node>
     }
 }
 
-fn behind(mark: u8, text: &str) -> Option<&str>
-    requires { mark < 128 }
-    ensures { option_map (λ t. t.now) result ≡ behind mark text.now }
-{
-    match text.as_bytes().split_first() {
-        Some((first, _)) if *first == mark => Some(&text[1..]),
-        _ => None,
-    }
-}
-
-fn as_text(node: &Node) -> Option<&str>
+fn as_text<'a>(node: &Node<'a>) -> Option<&'a str>
     ensures { option_map (λ t. t.now) result ≡ as_text (view node.now) }
 {
-    behind(b's', node.as_str()?)
+    node.as_str()
 }
 
-fn as_token(node: &Node) -> Option<&str>
+fn as_token<'a>(node: &Node<'a>) -> Option<&'a str>
     ensures { option_map (λ t. t.now) result ≡ as_token (view node.now) }
 {
-    behind(b'n', node.as_str()?)
+    node.as_number()
 }
 
 fn if_ci<const MOST: usize>(text: &str) -> Option<CiText<MOST>>
@@ -188,22 +178,22 @@ pub fn flag_or_none(node: &Node, name: Name) -> Result<Option<bool>, Name>
     }
 }
 
-/// A text, lent by the node, which is the text itself.
-pub fn word_in(member: &Node, name: Name) -> Result<&str, Name>
+/// A text, lent by the line or its room; the node is the text itself.
+pub fn word_in<'a>(member: &Node<'a>, name: Name) -> Result<&'a str, Name>
     ensures { shown (λ t. t.now) result ≡ or_name name (as_text (view member.now)) }
 {
     as_text(member).ok_or(name)
 }
 
-/// A text, lent by the node.
-pub fn word(node: &Node, name: Name) -> Result<&str, Name>
+/// A text, lent by the line or its room.
+pub fn word<'a>(node: &Node<'a>, name: Name) -> Result<&'a str, Name>
     ensures { shown (λ t. t.now) result ≡ required as_text name (view node.now) }
 {
     word_in(member(node, name)?, name)
 }
 
 /// The same, where the member may be missing or null.
-pub fn word_or_none(node: &Node, name: Name) -> Result<Option<&str>, Name>
+pub fn word_or_none<'a>(node: &Node<'a>, name: Name) -> Result<Option<&'a str>, Name>
     ensures { shown (option_map (λ t. t.now)) result ≡ optional as_text name (view node.now) }
 {
     match present(node, name) {
@@ -403,30 +393,50 @@ pub fn clock_or_none(node: &Node, name: Name) -> Result<Option<Time>, Name>
     parsed_or_none(node, name)
 }
 
+fn as_items<'n, 'a>(member: &'n Node<'a>) -> Option<&'n [Node<'a>]>
+    ensures { option_map (λ v. map view v.now) result ≡ as_items (view member.now) }
+{
+    if let Node::Array(items) = member {
+        Some(items.as_slice())
+    } else {
+        None
+    }
+}
+
 #[tactic(auto, using(crate::proofs::NodeLists::list_facts))]
-fn list_in(member: &Node, name: Name, least: usize, most: usize) -> Result<&[Node], Name>
+fn list_in<'n, 'a>(
+    member: &'n Node<'a>,
+    name: Name,
+    least: usize,
+    most: usize,
+) -> Result<&'n [Node<'a>], Name>
     ensures { shown (λ v. map view v.now) result ≡ or_name name (as_list least most (view member.now)) }
 {
-    match member.as_array() {
-        Some(items) if least <= items.len() && items.len() <= most => Ok(items.as_slice()),
+    match as_items(member) {
+        Some(items) if least <= items.len() && items.len() <= most => Ok(items),
         _ => Err(name),
     }
 }
 
 /// An array of `least` to `most` items.
-pub fn list(node: &Node, name: Name, least: usize, most: usize) -> Result<&[Node], Name>
+pub fn list<'n, 'a>(
+    node: &'n Node<'a>,
+    name: Name,
+    least: usize,
+    most: usize,
+) -> Result<&'n [Node<'a>], Name>
     ensures { shown (λ v. map view v.now) result ≡ required (as_list least most) name (view node.now) }
 {
     list_in(member(node, name)?, name, least, most)
 }
 
 /// The same, where the member may be missing or null.
-pub fn list_or_none(
-    node: &Node,
+pub fn list_or_none<'n, 'a>(
+    node: &'n Node<'a>,
     name: Name,
     least: usize,
     most: usize,
-) -> Result<Option<&[Node]>, Name>
+) -> Result<Option<&'n [Node<'a>]>, Name>
     ensures { shown (option_map (λ v. map view v.now)) result ≡ optional (as_list least most) name (view node.now) }
 {
     match present(node, name) {
@@ -435,20 +445,30 @@ pub fn list_or_none(
     }
 }
 
+fn no_items<'n, 'a>(_node: &'n Node<'a>) -> &'n [Node<'a>]
+    ensures { result.now ≡ [] }
+{
+    &[]
+}
+
 /// The items of an array of up to `most`, and none where the member is missing or null.
-pub fn list_or_empty(node: &Node, name: Name, most: usize) -> Result<&[Node], Name>
+pub fn list_or_empty<'n, 'a>(
+    node: &'n Node<'a>,
+    name: Name,
+    most: usize,
+) -> Result<&'n [Node<'a>], Name>
     ensures { shown (λ v. map view v.now) result ≡ list_or_empty most name (view node.now) }
 {
     match present(node, name) {
         Some(member) => list_in(member, name, 0, most),
-        None => Ok(&[]),
+        None => Ok(no_items(node)),
     }
 }
 
-fn object_in(member: &Node, name: Name) -> Result<&Node, Name>
+fn object_in<'n, 'a>(member: &'n Node<'a>, name: Name) -> Result<&'n Node<'a>, Name>
     ensures { shown (λ v. view v.now) result ≡ or_name name (as_object_node (view member.now)) }
 {
-    if member.is_object() {
+    if let Node::Object(_) = member {
         Ok(member)
     } else {
         Err(name)
@@ -456,14 +476,14 @@ fn object_in(member: &Node, name: Name) -> Result<&Node, Name>
 }
 
 /// An object.
-pub fn object(node: &Node, name: Name) -> Result<&Node, Name>
+pub fn object<'n, 'a>(node: &'n Node<'a>, name: Name) -> Result<&'n Node<'a>, Name>
     ensures { shown (λ v. view v.now) result ≡ required as_object_node name (view node.now) }
 {
     object_in(member(node, name)?, name)
 }
 
 /// The same, where the member may be missing or null.
-pub fn object_or_none(node: &Node, name: Name) -> Result<Option<&Node>, Name>
+pub fn object_or_none<'n, 'a>(node: &'n Node<'a>, name: Name) -> Result<Option<&'n Node<'a>>, Name>
     ensures { shown (option_map (λ v. view v.now)) result ≡ optional as_object_node name (view node.now) }
 {
     match present(node, name) {

@@ -1,6 +1,6 @@
 //! The names of members, of the formats of OCPI and of the files and lines of a clearing house.
 
-ghost use Rattle.std.specs.Prelude.{◌≡◌, ◌∷◌};
+ghost use Rattle.std.specs.Prelude.{◌≡◌};
 
 use std::fmt;
 
@@ -88,100 +88,93 @@ pub enum Name {
 impl Name {
     ghost use Rattle.ocpi_json.specs.Name.{key_text};
 
-    /// The key of the member in a marked text: its name behind an `s`.
+    /// The key of the member: its name as a document writes it.
     pub fn key(self) -> &'static str
-        ensures { result.now ≡ 115 ∷ key_text self }
-    {
-        match self {
-            Name::CountryCode => "scountry_code",
-            Name::PartyId => "sparty_id",
-            Name::Uid => "suid",
-            Name::Type => "stype",
-            Name::ContractId => "scontract_id",
-            Name::Valid => "svalid",
-            Name::Whitelist => "swhitelist",
-            Name::LastUpdated => "slast_updated",
-            Name::Id => "sid",
-            Name::Currency => "scurrency",
-            Name::MinPrice => "smin_price",
-            Name::MaxPrice => "smax_price",
-            Name::ExclVat => "sexcl_vat",
-            Name::Elements => "selements",
-            Name::PriceComponents => "sprice_components",
-            Name::Price => "sprice",
-            Name::StepSize => "sstep_size",
-            Name::Restrictions => "srestrictions",
-            Name::StartTime => "sstart_time",
-            Name::EndTime => "send_time",
-            Name::StartDate => "sstart_date",
-            Name::EndDate => "send_date",
-            Name::MinKwh => "smin_kwh",
-            Name::MaxKwh => "smax_kwh",
-            Name::MinDuration => "smin_duration",
-            Name::MaxDuration => "smax_duration",
-            Name::DayOfWeek => "sday_of_week",
-            Name::Reservation => "sreservation",
-            Name::MinCurrent => "smin_current",
-            Name::MaxCurrent => "smax_current",
-            Name::MinPower => "smin_power",
-            Name::MaxPower => "smax_power",
-            Name::StartDateTime => "sstart_date_time",
-            Name::EndDateTime => "send_date_time",
-            Name::CdrToken => "scdr_token",
-            Name::AuthMethod => "sauth_method",
-            Name::AuthorizationReference => "sauthorization_reference",
-            Name::Tariffs => "stariffs",
-            Name::ChargingPeriods => "scharging_periods",
-            Name::Dimensions => "sdimensions",
-            Name::Volume => "svolume",
-            Name::TariffId => "stariff_id",
-            Name::TotalCost => "stotal_cost",
-            Name::TotalEnergy => "stotal_energy",
-            Name::TotalTime => "stotal_time",
-            Name::Credit => "scredit",
-            Name::CreditReferenceId => "scredit_reference_id",
-            Name::Version => "sversion",
-            Name::Tolerance => "stolerance",
-            Name::Currencies => "scurrencies",
-            Name::Operators => "soperators",
-            Name::Party => "sparty",
-            Name::Zone => "szone",
-            Name::Providers => "sproviders",
-            Name::Limits => "slimits",
-            Name::Limit => "slimit",
-            Name::Hold => "shold",
-            Name::Platforms => "splatforms",
-            Name::Name => "sname",
-            Name::Parties => "sparties",
-            Name::Hub => "shub",
-            Name::Cdrs => "scdrs",
-            Name::Entries => "sentries",
-            Name::Order => "sorder",
-            Name::Periods => "speriods",
-            Name::PairLimits => "spair_limits",
-            Name::Operator => "soperator",
-            Name::Provider => "sprovider",
-            Name::CreditWindow => "scredit_window",
-            Name::Platform => "splatform",
-            Name::Do => "sdo",
-            Name::Token => "stoken",
-            Name::Tariff => "stariff",
-            Name::Cdr => "scdr",
-            Name::Reference => "sreference",
-            Name::Period => "speriod",
-        }
-    }
-
-    /// The name as a document writes it.
-    pub fn as_str(self) -> &'static str
         ensures { result.now ≡ key_text self }
     {
-        &self.key()[1..]
+        match self {
+            Name::CountryCode => "country_code",
+            Name::PartyId => "party_id",
+            Name::Uid => "uid",
+            Name::Type => "type",
+            Name::ContractId => "contract_id",
+            Name::Valid => "valid",
+            Name::Whitelist => "whitelist",
+            Name::LastUpdated => "last_updated",
+            Name::Id => "id",
+            Name::Currency => "currency",
+            Name::MinPrice => "min_price",
+            Name::MaxPrice => "max_price",
+            Name::ExclVat => "excl_vat",
+            Name::Elements => "elements",
+            Name::PriceComponents => "price_components",
+            Name::Price => "price",
+            Name::StepSize => "step_size",
+            Name::Restrictions => "restrictions",
+            Name::StartTime => "start_time",
+            Name::EndTime => "end_time",
+            Name::StartDate => "start_date",
+            Name::EndDate => "end_date",
+            Name::MinKwh => "min_kwh",
+            Name::MaxKwh => "max_kwh",
+            Name::MinDuration => "min_duration",
+            Name::MaxDuration => "max_duration",
+            Name::DayOfWeek => "day_of_week",
+            Name::Reservation => "reservation",
+            Name::MinCurrent => "min_current",
+            Name::MaxCurrent => "max_current",
+            Name::MinPower => "min_power",
+            Name::MaxPower => "max_power",
+            Name::StartDateTime => "start_date_time",
+            Name::EndDateTime => "end_date_time",
+            Name::CdrToken => "cdr_token",
+            Name::AuthMethod => "auth_method",
+            Name::AuthorizationReference => "authorization_reference",
+            Name::Tariffs => "tariffs",
+            Name::ChargingPeriods => "charging_periods",
+            Name::Dimensions => "dimensions",
+            Name::Volume => "volume",
+            Name::TariffId => "tariff_id",
+            Name::TotalCost => "total_cost",
+            Name::TotalEnergy => "total_energy",
+            Name::TotalTime => "total_time",
+            Name::Credit => "credit",
+            Name::CreditReferenceId => "credit_reference_id",
+            Name::Version => "version",
+            Name::Tolerance => "tolerance",
+            Name::Currencies => "currencies",
+            Name::Operators => "operators",
+            Name::Party => "party",
+            Name::Zone => "zone",
+            Name::Providers => "providers",
+            Name::Limits => "limits",
+            Name::Limit => "limit",
+            Name::Hold => "hold",
+            Name::Platforms => "platforms",
+            Name::Name => "name",
+            Name::Parties => "parties",
+            Name::Hub => "hub",
+            Name::Cdrs => "cdrs",
+            Name::Entries => "entries",
+            Name::Order => "order",
+            Name::Periods => "periods",
+            Name::PairLimits => "pair_limits",
+            Name::Operator => "operator",
+            Name::Provider => "provider",
+            Name::CreditWindow => "credit_window",
+            Name::Platform => "platform",
+            Name::Do => "do",
+            Name::Token => "token",
+            Name::Tariff => "tariff",
+            Name::Cdr => "cdr",
+            Name::Reference => "reference",
+            Name::Period => "period",
+        }
     }
 }
 
 impl fmt::Debug for Name {
     fn fmt<W: fmt::Write>(&self, f: &mut fmt::Formatter<W>) -> fmt::Result {
-        fmt::Debug::fmt(&self.as_str(), f)
+        fmt::Debug::fmt(&self.key(), f)
     }
 }

@@ -1,7 +1,7 @@
 //! Types whose values stand in texts and nodes.
 
 ghost use Rattle.std.specs.Prelude.{◌≡◌, map, option_map};
-ghost use Rattle.serde_json.specs.View.{view};
+ghost use Rattle.json.specs.Value.{value_view as view};
 ghost use Rattle.ocpi_json.specs.Faults.{Finds};
 ghost use Rattle.ocpi_json.specs.Members.{each, if_any, or_name};
 ghost use Rattle.ocpi_json.specs.Fields.{as_parsed};
@@ -26,8 +26,8 @@ pub trait FromText {
 /// A type whose values stand in nodes, and take no memory.
 pub trait FromNode: Sized {
     ghost use Rattle.std.specs.Prelude.{◌≡◌, Result};
-    ghost use Rattle.serde_json.specs.Data.{Data};
-    ghost use Rattle.serde_json.specs.View.{view};
+    ghost use Rattle.json.specs.Json.{Json as Data};
+    ghost use Rattle.json.specs.Value.{value_view as view};
     ghost use Rattle.ocpi_json.specs.declared.name.Name.{Name};
 
     // the value that stands in the data, or the name of the member at fault
@@ -40,8 +40,8 @@ pub trait FromNode: Sized {
 /// A type whose values stand in nodes, and take memory.
 pub trait FromNodeIn: Sized {
     ghost use Rattle.std.specs.Prelude.{Result};
-    ghost use Rattle.serde_json.specs.Data.{Data};
-    ghost use Rattle.serde_json.specs.View.{view};
+    ghost use Rattle.json.specs.Json.{Json as Data};
+    ghost use Rattle.json.specs.Value.{value_view as view};
     ghost use Rattle.ocpi_json.specs.Faults.{Finds};
     ghost use Rattle.ocpi_json.specs.declared.name.Name.{Name};
 
@@ -59,7 +59,7 @@ pub fn read_each<T: FromNode + Drop>(
 ) -> Result<Sequence<T>, FieldFault>
     ensures { Finds result (each T.at (map view nodes.now)) }
 {
-    let mut values = Sequence::new(alloc);
+    let mut values = Sequence::with_capacity(alloc, nodes.len())?;
     for node in nodes {
         values.push(T::from_node(node)?)?;
     }
@@ -73,7 +73,7 @@ pub fn read_each_in<T: FromNodeIn + Drop>(
 ) -> Result<Sequence<T>, FieldFault>
     ensures { Finds result (each T.at (map view nodes.now)) }
 {
-    let mut values = Sequence::new(alloc);
+    let mut values = Sequence::with_capacity(alloc, nodes.len())?;
     for node in nodes {
         values.push(T::from_node_in(alloc, node)?)?;
     }
@@ -111,7 +111,7 @@ pub fn parsed_each<T: FromText + Drop>(
 ) -> Result<Sequence<T>, FieldFault>
     ensures { Finds result (each (λ d. or_name name (as_parsed T.of_text d)) (map view nodes.now)) }
 {
-    let mut values = Sequence::new(alloc);
+    let mut values = Sequence::with_capacity(alloc, nodes.len())?;
     for node in nodes {
         values.push(fields::parsed_in(node, name)?)?;
     }

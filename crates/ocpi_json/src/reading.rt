@@ -1,96 +1,86 @@
-// What a line is: the value of its marked text.
-ghost use Rattle.std.specs.Prelude.{◌≡◌, None, Some, IfOk, IsErrOf};
-ghost use Rattle.serde_json.specs.Data.{Data};
-ghost use Rattle.serde_json.specs.View.{view, items_view, members_view};
-ghost use Rattle.ocpi_json.specs.Reading.{is_marked_key, keys_marked, items_keys_marked, members_keys_marked, Reads, data_of, ReadingIsDataOf};
+// What a line is: its value as JSON, with each number as it is written.
+ghost use Rattle.std.specs.Prelude.{◌≡◌, None, Some, IfOk, IsErrOf, option_map};
+ghost use Rattle.json.specs.Value.{value_view as view};
+ghost use Rattle.ocpi_json.specs.Reading.{value_of, if_utf8, data_of};
 
 use crate::fault::ReadFault;
-use crate::marking::mark;
-use serde_json::{Map, Value};
+use bumpalo::Bump;
+use json::{Error, Reader, Scratch, Value};
 use std::alloc::Global;
+use std::marker::Model;
 
-/// A value of a marked line: each text in it begins with `s`, or is a number's and begins with `n`.
-pub type Node = Value;
+/// A value of a line. Its texts are lent by the line, or by the room where they hold escapes, and a
+/// number is its text.
+pub type Node<'a> = Value<'a, &'a Bump>;
 
-fn is_marked_key(key: &str) -> bool
-    ensures { result ≡ is_marked_key key.now }
-{
-    match key.as_bytes().split_first() {
-        Some((first, _)) => *first == b's',
-        None => false,
-    }
+/// The memory that the value of a line takes. One is kept and lent to each line.
+#[derive(Drop)]
+pub struct Room {
+    bump: Bump,
+    scratch: Scratch,
 }
 
-#[cycle(keys)]
-fn are_keys_marked(value: &Value) -> bool
-    ensures { result ≡ keys_marked (view value.now) }
-{
-    match value {
-        Value::Array(items) => are_items_marked(items),
-        Value::Object(members) => are_members_marked(members),
-        _ => true,
-    }
+// What it keeps is no part of what a contract sees.
+impl Model for Room {
+    ghost use Rattle.std.specs.Prelude.{⊤};
+
+    ghost Value = { ⊤ };
+
+    ghost view = { λ r. tt };
 }
 
-#[cycle(keys)]
-fn are_items_marked(items: &Vec<Value>) -> bool
-    ensures { result ≡ items_keys_marked (items_view items.now.items) }
+const MAX_DEPTH: usize = 127;
+
+#[tactic(auto, using(crate::proofs::Readings::utf8_facts))]
+fn text_in(bytes: &[u8]) -> Option<&str>
+    ensures { option_map (λ t. t.now) result ≡ if_utf8 bytes.now }
 {
-    for item in items {
-        if !are_keys_marked(item) {
-            return false;
+    simdutf8::basic::from_utf8(bytes).ok()
+}
+
+fn value_in<'a>(bump: &'a Bump, text: &'a str, scratch: &'a mut Scratch) -> Result<Node<'a>, Error>
+    ensures ok { IfOk result (λ node. value_of text.now ≡ Some (view node)) }
+    ensures invalid { IsErrOf result Error.Invalid → value_of text.now ≡ None }
+    ensures never_too_long { IsErrOf result Error.TooLong → ⊥ }
+    ensures never_duplicate { IsErrOf result Error.DuplicateKey → ⊥ }
+{
+    let mut reader = Reader::new(text, scratch)?;
+    let value = Value::read(bump, &mut reader, MAX_DEPTH)?;
+    if reader.next().is_some() {
+        return Err(Error::Invalid);
+    }
+    Ok(value)
+}
+
+impl Room {
+    pub fn new(alloc: Global) -> Room {
+        Room {
+            bump: Bump::new(alloc),
+            scratch: Scratch::new(alloc),
         }
     }
-    true
-}
 
-#[cycle(keys)]
-fn are_members_marked(members: &Map<String, Value>) -> bool
-    ensures { result ≡ members_keys_marked (members_view members.now.entries) }
-{
-    for (key, member) in members.iter() {
-        if !is_marked_key(key.as_str()) || !are_keys_marked(member) {
-            return false;
+    /// The value that a line is. An object keeps members of equal keys, and a look-up finds the last of them.
+    ///
+    /// # Errors
+    ///
+    /// `Syntax` where the line is no JSON by RFC 8259, is no UTF-8, or nests more than 127 levels
+    /// deep; `NoMemory` where memory ran out.
+    #[tactic(auto, unfolding(crate::specs::Reading::data_of))]
+    pub fn read<'a>(&'a mut self, bytes: &'a [u8]) -> Result<Node<'a>, ReadFault>
+        ensures value { IfOk result (λ node. data_of bytes.now ≡ Some (view node)) }
+        ensures none { IsErrOf result ReadFault.Syntax → data_of bytes.now ≡ None }
+    {
+        let Some(text) = text_in(bytes) else {
+            return Err(ReadFault::Syntax);
+        };
+        if self.bump.reset().is_err() {
+            return Err(ReadFault::NoMemory);
         }
-    }
-    true
-}
-
-/// A law: what a line is follows from the line, and `data_of` is that function.
-pub fn reading_is_data_of()
-    ensures { ReadingIsDataOf }
-{}
-
-/// What a line is: `serde_json`'s value of its marked text, where every key at any depth begins
-/// with `s`. Of equal keys the last one's value stands.
-///
-/// # Errors
-///
-/// `Syntax` where the line is no JSON by RFC 8259, is no UTF-8, has a number in a key's place, or
-/// nests more than 127 levels deep; `NoMemory` where memory ran out.
-pub fn read(alloc: Global, bytes: &[u8]) -> Result<Node, ReadFault>
-    ensures value { IfOk result (λ node. Reads bytes.now (view node)) }
-    ensures syntax { IsErrOf result ReadFault.Syntax → (d : Data) → Reads bytes.now d → ⊥ }
-
-    // The same by the function.
-    ensures computed { IfOk result (λ node. data_of bytes.now ≡ Some (view node)) }
-    ensures none { IsErrOf result ReadFault.Syntax → data_of bytes.now ≡ None }
-{
-    let text = mark(alloc, bytes)?;
-    match Value::from_slice(alloc, text.as_slice()) {
-        Ok(value) => {
-            if are_keys_marked(&value) {
-                Ok(value)
-            } else {
-                Err(ReadFault::Syntax)
-            }
-        }
-        Err(error) => {
-            if error.is_memory() {
-                Err(ReadFault::NoMemory)
-            } else {
-                Err(ReadFault::Syntax)
-            }
+        match value_in(&self.bump, text, &mut self.scratch) {
+            Ok(node) => Ok(node),
+            Err(Error::OutOfMemory) => Err(ReadFault::NoMemory),
+            Err(_) => Err(ReadFault::Syntax),
         }
     }
 }

@@ -1,8 +1,8 @@
 //! A list that clauses see as its items.
 
-ghost use Rattle.std.specs.Prelude.{◌≡◌, ◌++◌, ◌∷◌, [], OnOk, OnErr};
+ghost use Rattle.std.specs.Prelude.{◌≡◌, ◌++◌, ◌∷◌, [], IfOk, OnOk, OnErr};
 
-use std::alloc::{AllocFailed, Global};
+use std::alloc::{AllocError, AllocFailed, Global};
 use std::marker::Model;
 
 /// Items in order.
@@ -26,6 +26,15 @@ impl<T> Sequence<T> {
         Sequence {
             items: Vec::new(alloc),
         }
+    }
+
+    /// No items, and room for so many.
+    pub fn with_capacity(alloc: Global, capacity: usize) -> Result<Sequence<T>, AllocError>
+        ensures { IfOk result (λ s. s ≡ []) }
+    {
+        Ok(Sequence {
+            items: Vec::with_capacity(alloc, capacity)?,
+        })
     }
 
     pub fn push(&mut self, item: T) -> Result<(), AllocFailed<T>>

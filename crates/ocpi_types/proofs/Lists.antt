@@ -1,10 +1,10 @@
 -- How long the lists are that stand in nodes.
 use Rattle.std.proofs.Common.{◌≡◌, ℕ, ◌+◌, ◌≤◌, List, [], ◌∷◌, length, Option, Some, None, Result, Ok, Err, refl, arith}
-use Rattle.std.specs.Prelude.{map, option_and_then}
+use Rattle.std.specs.Prelude.{map, option_map, option_and_then}
 use Rattle.std.proofs.lemmas.List.{length-map}
 use Rattle.std.proofs.lemmas.Bool.Decides.{nat_tests}
-use Rattle.serde_json.specs.Data.{Data, Items}
-use Rattle.serde_json.specs.Find.{as_array}
+use Rattle.json.specs.Json.{Json as Data, Items}
+use Rattle.json.specs.Find.{as_array}
 use Rattle.ocpi_json.specs.Fields.{required, as_list, if_between, items_list, member_at}
 use Rattle.ocpi_json.specs.Members.{each, or_name, ◌>>=◌}
 use Rattle.ocpi_json.specs.declared.name.Name.{Name}
@@ -26,7 +26,7 @@ some_from_ok : {X : Type 0} (n : Name) (found : Option X) (x : X) → or_name n 
 some_from_ok n None x h = cc
 some_from_ok n (Some y) x h = cc
 
-in_array : (least most : ℕ) (found : Option Items) (items : List Data) → option_and_then (λ ds. if_between least most (items_list ds)) found ≡ Some items → length items ≤ most
+in_array : (least most : ℕ) (found : Option Items) (items : List Data) → option_and_then (if_between least most) (option_map items_list found) ≡ Some items → length items ≤ most
 in_array least most None items h = cc
 in_array least most (Some ds) items h = between least most (items_list ds) items h
 

@@ -1,7 +1,7 @@
 -- A quantity stands where a number of at least 0 does.
 use Rattle.std.proofs.Common.{◌≡◌, ℤ, Option, Some, None, refl}
 use Rattle.std.specs.Prelude.{option_map, unsigned_abs}
-use Rattle.serde_json.specs.Data.{Data}
+use Rattle.json.specs.Json.{Json as Data}
 use Rattle.ocpi_json.specs.Fields.{required, optional, member_at, present_at, as_unsigned}
 use Rattle.ocpi_json.specs.Members.{or_name, if_any, shown, ◌>>=◌}
 use Rattle.ocpi_json.specs.declared.name.Name.{Name}

@@ -1,8 +1,8 @@
 -- A charge detail record (OCPI 2.2.1, CDR object). One with `credit` true is a Credit CDR.
 use Rattle.std.specs.Prelude.{ℕ, ℤ, pos, int_le, nat_le, length, List, Bool, true, false, ◌||◌, Option, Some, None, Result, Ok, is_some, unwrap_or}
 use Rattle.std.specs.List.{list_all}
-use Rattle.serde_json.specs.Data.{Data}
-use Rattle.serde_json.specs.Find.{as_bool}
+use Rattle.json.specs.Json.{Json as Data}
+use Rattle.json.specs.Find.{as_bool}
 use Rattle.ocpi_json.specs.Fields.{required, optional, as_ci_text, as_list, list_or_empty, as_number, as_object_node, as_parsed}
 use Rattle.ocpi_json.specs.Members.{◌>>=◌, each}
 use Rattle.ocpi_json.specs.MomentText.{instant_of}

@@ -1,7 +1,7 @@
 -- A charging period (OCPI 2.2.1, ChargingPeriod object): 1 to 100 dimensions from a moment on.
 use Rattle.std.specs.Prelude.{Bool, Result, Ok}
 use Rattle.std.specs.List.{list_all}
-use Rattle.serde_json.specs.Data.{Data}
+use Rattle.json.specs.Json.{Json as Data}
 use Rattle.ocpi_json.specs.Fields.{required, optional, as_ci_text, as_list, as_parsed}
 use Rattle.ocpi_json.specs.Members.{◌>>=◌, each}
 use Rattle.ocpi_json.specs.MomentText.{instant_of}

@@ -1,7 +1,7 @@
 -- A price component of a tariff element (OCPI 2.2.1, PriceComponent object).
 use Rattle.std.specs.Prelude.{ℕ, List, Bool, true, false, codes, Option, Some, None, Result, Ok, if◌then◌else◌}
 use Rattle.std.specs.Str.{bytes_eq}
-use Rattle.serde_json.specs.Data.{Data}
+use Rattle.json.specs.Json.{Json as Data}
 use Rattle.ocpi_json.specs.Fields.{required, as_parsed, as_whole}
 use Rattle.ocpi_json.specs.Members.{◌>>=◌}
 use Rattle.ocpi_json.specs.declared.name.Name.{Name}

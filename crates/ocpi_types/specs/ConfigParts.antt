@@ -1,8 +1,8 @@
 -- The parts of a configuration in a node. Each fault names the member at fault: the first in this order, and the
 -- innermost.
 use Rattle.std.specs.Prelude.{ℕ, List, Bool, false, ◌||◌, Result, Ok, is_some, unwrap_or}
-use Rattle.serde_json.specs.Data.{Data}
-use Rattle.serde_json.specs.Find.{as_bool}
+use Rattle.json.specs.Json.{Json as Data}
+use Rattle.json.specs.Find.{as_bool}
 use Rattle.ocpi_json.specs.Fields.{required, optional, as_ci_text, as_parsed, as_whole, list_or_empty}
 use Rattle.ocpi_json.specs.Members.{◌>>=◌, each, or_name}
 use Rattle.ocpi_json.specs.declared.name.Name.{Name}

@@ -1,7 +1,7 @@
 -- The configuration that a text says: a JSON object of 1,048,576 bytes at most. Each fault names the member at fault,
 -- the first in this order. Members not named here are passed over.
 use Rattle.std.specs.Prelude.{ℕ, List, [], length, ◌==◌, nat_le, if◌then◌else◌, Option, Some, None, Result, Ok, Err, unwrap_or}
-use Rattle.serde_json.specs.Data.{Data}
+use Rattle.json.specs.Json.{Json as Data}
 use Rattle.ocpi_json.specs.Fields.{required, optional, as_object_node, as_parsed, as_whole, as_list, list_or_empty}
 use Rattle.ocpi_json.specs.Members.{◌>>=◌, each, if_any, or_name}
 use Rattle.ocpi_json.specs.Reading.{data_of}

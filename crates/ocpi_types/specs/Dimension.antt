@@ -1,7 +1,7 @@
 -- What a charging period counts (OCPI 2.2.1, CdrDimension object).
 use Rattle.std.specs.Prelude.{ℕ, ℤ, pos, int_le, List, Bool, true, false, codes, Result, Ok, if◌then◌else◌}
 use Rattle.std.specs.Str.{bytes_eq}
-use Rattle.serde_json.specs.Data.{Data}
+use Rattle.json.specs.Json.{Json as Data}
 use Rattle.ocpi_json.specs.Fields.{required, as_text, as_number}
 use Rattle.ocpi_json.specs.Members.{◌>>=◌}
 use Rattle.ocpi_json.specs.declared.name.Name.{Name}

@@ -1,6 +1,6 @@
 -- A tariff element (OCPI 2.2.1, TariffElement object): 1 to 16 price components, and when they apply.
 use Rattle.std.specs.Prelude.{Result, Ok}
-use Rattle.serde_json.specs.Data.{Data}
+use Rattle.json.specs.Json.{Json as Data}
 use Rattle.ocpi_json.specs.Fields.{required, optional, as_list, as_object_node}
 use Rattle.ocpi_json.specs.Members.{◌>>=◌, each, if_any}
 use Rattle.ocpi_json.specs.declared.name.Name.{Name}

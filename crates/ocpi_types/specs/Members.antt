@@ -1,6 +1,6 @@
 -- Kinds of members, and checks between the members of an object.
 use Rattle.std.specs.Prelude.{ℕ, Bool, true, false, Option, option_map, Result, Ok, Err, unsigned_abs}
-use Rattle.serde_json.specs.Data.{Data}
+use Rattle.json.specs.Json.{Json as Data}
 use Rattle.ocpi_json.specs.Fields.{as_unsigned}
 use Rattle.ocpi_json.specs.declared.name.Name.{Name}
 

@@ -2,7 +2,7 @@
 use Rattle.std.specs.Prelude.{ℕ, List, length, take, drop, slice_index, ◌==◌, Bool, ◌&&◌, if◌then◌else◌, Option, Some, None, Result, Ok}
 use Rattle.std.specs.Char.{is_ascii_alphabetic, is_ascii_alphanumeric}
 use Rattle.std.specs.List.{list_all}
-use Rattle.serde_json.specs.Data.{Data}
+use Rattle.json.specs.Json.{Json as Data}
 use Rattle.ocpi_json.specs.Fields.{required, as_ci_text}
 use Rattle.ocpi_json.specs.Folded.{same_folded}
 use Rattle.ocpi_json.specs.Members.{◌>>=◌}

@@ -1,6 +1,6 @@
 -- The restrictions of a tariff element (OCPI 2.2.1, TariffRestrictions object).
 use Rattle.std.specs.Prelude.{ℕ, List, Option, Result, Ok, is_some}
-use Rattle.serde_json.specs.Data.{Data}
+use Rattle.json.specs.Json.{Json as Data}
 use Rattle.ocpi_json.specs.Fields.{optional, as_parsed, as_text, as_number, as_whole, list_or_empty}
 use Rattle.ocpi_json.specs.Members.{◌>>=◌, each, or_name}
 use Rattle.ocpi_json.specs.MomentText.{date_of, clock_of}

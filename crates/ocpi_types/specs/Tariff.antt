@@ -1,6 +1,6 @@
 -- A tariff (OCPI 2.2.1, Tariff object).
 use Rattle.std.specs.Prelude.{ℕ, Option, Result, Ok}
-use Rattle.serde_json.specs.Data.{Data}
+use Rattle.json.specs.Json.{Json as Data}
 use Rattle.ocpi_json.specs.Fields.{required, optional, as_ci_text, as_parsed, as_list, as_object_node}
 use Rattle.ocpi_json.specs.Members.{◌>>=◌, each, if_any}
 use Rattle.ocpi_json.specs.MomentText.{instant_of}

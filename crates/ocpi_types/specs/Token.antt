@@ -1,7 +1,7 @@
 -- A token in a node (OCPI 2.2.1, Token object). Its `whitelist` has to be a text, and is not kept.
 use Rattle.std.specs.Prelude.{Result, Ok}
-use Rattle.serde_json.specs.Data.{Data}
-use Rattle.serde_json.specs.Find.{as_bool}
+use Rattle.json.specs.Json.{Json as Data}
+use Rattle.json.specs.Find.{as_bool}
 use Rattle.ocpi_json.specs.Fields.{required, as_ci_text, as_text, as_parsed}
 use Rattle.ocpi_json.specs.Members.{◌>>=◌}
 use Rattle.ocpi_json.specs.MomentText.{instant_of}

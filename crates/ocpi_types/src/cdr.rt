@@ -1,6 +1,6 @@
 ghost use Rattle.std.specs.Prelude.{◌≡◌};
 ghost use Rattle.std.specs.List.{list_all};
-ghost use Rattle.serde_json.specs.View.{view};
+ghost use Rattle.json.specs.Value.{value_view as view};
 ghost use Rattle.ocpi_json.specs.Faults.{Finds};
 ghost use Rattle.ocpi_types.specs.Cdr.{cost_at, credit_at, members_at, periods_at, reference_at, session_token_at, tariffs_at};
 ghost use Rattle.ocpi_types.specs.ChargingPeriod.{has_volumes_in_range};

@@ -15,7 +15,7 @@ pub trait TryCopy: Sized {
 fn copies_of<T: TryCopy + Drop>(alloc: Global, items: &[T]) -> Result<Vec<T>, AllocError>
     ensures { IfOk result (λ copies. copies.items ≡ items.now) }
 {
-    let mut copies = Vec::new(alloc);
+    let mut copies = Vec::with_capacity(alloc, items.len())?;
     for item in items {
         copies.push(item.copy(alloc)?)?;
     }
@@ -25,7 +25,7 @@ fn copies_of<T: TryCopy + Drop>(alloc: Global, items: &[T]) -> Result<Vec<T>, Al
 fn items_of<T: Copy>(alloc: Global, items: &[T]) -> Result<Vec<T>, AllocError>
     ensures { IfOk result (λ copies. copies.items ≡ items.now) }
 {
-    let mut copies = Vec::new(alloc);
+    let mut copies = Vec::with_capacity(alloc, items.len())?;
     for item in items {
         copies.push(*item)?;
     }

@@ -1,7 +1,7 @@
 //! Members of these types, by name and kind.
 
 ghost use Rattle.std.specs.Prelude.{◌≡◌, pos, ◌≤ℤ◌, unsigned_abs};
-ghost use Rattle.serde_json.specs.View.{view};
+ghost use Rattle.json.specs.Value.{value_view as view};
 ghost use Rattle.ocpi_json.specs.Fields.{required, optional, as_parsed, as_whole};
 ghost use Rattle.ocpi_json.specs.Members.{or_name};
 ghost use Rattle.ocpi_types.specs.Currency.{currency_of};

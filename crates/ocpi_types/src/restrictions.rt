@@ -1,5 +1,5 @@
 ghost use Rattle.std.specs.Prelude.{◌≡◌, IfOk};
-ghost use Rattle.serde_json.specs.View.{view};
+ghost use Rattle.json.specs.Value.{value_view as view};
 ghost use Rattle.ocpi_json.specs.Faults.{Finds};
 ghost use Rattle.ocpi_types.specs.Inner.RestrictionParts.{times_at, bounds_at, restrictions_in_parts};
 ghost use Rattle.ocpi_types.specs.Restrictions.{days_at, electric_bounds_at};

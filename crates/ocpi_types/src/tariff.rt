@@ -1,5 +1,5 @@
 ghost use Rattle.std.specs.Prelude.{◌≡◌};
-ghost use Rattle.serde_json.specs.View.{view};
+ghost use Rattle.json.specs.Value.{value_view as view};
 ghost use Rattle.ocpi_types.specs.Tariff.{price_at};
 
 use super::copying::TryCopy;

@@ -1,7 +1,7 @@
 -- What a CDR costs that is given as JSON.
 use Rattle.std.specs.Prelude.{ℕ, ℤ, List, Bool, true, false, Option, Some, None, Result, Ok, Err, if◌then◌else◌}
 use Rattle.jiff.specs.Types.{TimeZone as PlainZone}
-use Rattle.serde_json.specs.Data.{Data}
+use Rattle.json.specs.Json.{Json as Data}
 use Rattle.ocpi_json.specs.Reading.{data_of}
 use Rattle.ocpi_json.specs.declared.name.Name.{Name}
 use Rattle.ocpi_types.specs.declared.cdr.Cdr.{Cdr}

@@ -1,14 +1,14 @@
 //! What a CDR costs that is given as JSON.
 
 ghost use Rattle.std.specs.Prelude.{◌≡◌, IfOk, IfErr, Ok, Err, false};
-ghost use Rattle.serde_json.specs.View.{view};
+ghost use Rattle.json.specs.Value.{value_view as view};
 ghost use Rattle.rate_cdr.specs.Amount.{is_fault_no_memory, rated_cdr, rated_node, rated_text};
 
 use cdr_rating::rate;
 use exact_money::Amount;
 use ocpi_json::fields::FieldFault;
 use ocpi_json::objects::FromNodeIn;
-use ocpi_json::{Node, ReadFault, read};
+use ocpi_json::{Node, ReadFault, Room};
 use ocpi_types::{Cdr, Refusal, Zone};
 use std::alloc::Global;
 
@@ -62,7 +62,8 @@ pub fn rate_text(alloc: Global, text: &[u8], zone: &Zone) -> Result<Amount, Rati
     ensures amount { IfOk result (λ amount. rated_text text.now zone.now ≡ Ok amount) }
     ensures fault { IfErr result (λ fault. is_fault_no_memory fault ≡ false → rated_text text.now zone.now ≡ Err fault) }
 {
-    match read(alloc, text) {
+    let mut room = Room::new(alloc);
+    match room.read(text) {
         Ok(node) => rate_node(alloc, &node, zone),
         Err(ReadFault::Syntax) => Err(refused(Refusal::Syntax)),
         Err(ReadFault::NoMemory) => Err(RatingFault::NoMemory),

@@ -20,7 +20,7 @@ fn zone(rt: &HostRuntime) -> io::Result<Option<Zone>> {
 
 fn tell_refusal(rt: &HostRuntime, refusal: Refusal) -> io::Result<()> {
     match refusal {
-        Refusal::Field { name } => eprintln!(rt; "rate_cdr: Field {}", name.as_str()),
+        Refusal::Field { name } => eprintln!(rt; "rate_cdr: Field {}", name.key()),
         other => eprintln!(rt; "rate_cdr: {}", other.name()),
     }
 }

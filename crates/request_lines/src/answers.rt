@@ -144,7 +144,7 @@ fn put_refusal_values(alloc: Global, out: &mut Writer, refusal: &Refusal) -> Res
     ensures { Adds result out.old out.new (refusal_values refusal.now) }
 {
     match refusal {
-        Refusal::Field { name } => put_text(out, "field", name.as_str()),
+        Refusal::Field { name } => put_text(out, "field", name.key()),
         Refusal::CostMismatch { rated } => put_amount(alloc, out, "rated", *rated),
         Refusal::NotCurrent { current } => put_number(out, "current", *current),
         Refusal::Full { what } => put_text(out, "what", what.name()),

@@ -8,6 +8,7 @@ ghost use Rattle.request_lines.specs.Script.{command_in, reply_in, answer_of, af
 use super::answers::answer_line;
 use super::requests::request_of;
 use cdr_checks::{Command, Request, admit};
+use ocpi_json::Room;
 use ocpi_types::{Config, Refusal};
 use plain_house::{Refused, Replied, Sequential};
 use std::alloc::{AllocError, Global};
@@ -25,17 +26,23 @@ fn admitted(config: &Config, request: Request) -> Result<Command, Refusal>
 
 // The command of a line, once its request is admitted.
 #[tactic(auto, unfolding(crate::specs::Script::command_in))]
-fn command_of(alloc: Global, config: &Config, line: &[u8]) -> Result<Command, Refusal>
+fn command_of(
+    alloc: Global,
+    room: &mut Room,
+    config: &Config,
+    line: &[u8],
+) -> Result<Command, Refusal>
     ensures command { IfOk result (λ command. command_in config.now line.now ≡ Ok command) }
     ensures admitted { IfOk result (λ command. IsAdmitted config.now command) }
     ensures refusal { IfErr result (λ refusal. is_refusal_no_memory refusal ≡ false → command_in config.now line.now ≡ Err refusal) }
 {
-    admitted(config, request_of(alloc, line)?)
+    admitted(config, request_of(alloc, room, line)?)
 }
 
 #[tactic(auto, unfolding(crate::specs::Script::reply_in, crate::specs::Script::after))]
 fn reply_to<S: Sequential>(
     alloc: Global,
+    room: &mut Room,
     config: &Config,
     house: &mut S,
     line: &[u8],
@@ -46,7 +53,7 @@ fn reply_to<S: Sequential>(
     ensures events { is_no_memory result ≡ false → S.events house.new ≡ after config.now (S.events house.old) line.now }
     ensures unchanged { is_no_memory result ≡ true → S.events house.new ≡ S.events house.old }
 {
-    match command_of(alloc, config, line) {
+    match command_of(alloc, room, config, line) {
         Ok(command) => house.do_command(command),
         Err(refusal) => Err(Refused { at: None, refusal }),
     }
@@ -68,6 +75,7 @@ fn is_out_of_memory(reply: &Result<Replied, Refused>) -> bool
 #[tactic(auto, unfolding(crate::specs::Script::answer_of))]
 pub fn respond<S: Sequential>(
     alloc: Global,
+    room: &mut Room,
     config: &Config,
     house: &mut S,
     line: &[u8],
@@ -79,7 +87,7 @@ pub fn respond<S: Sequential>(
     ensures err { OnErr result ((S.events house.new ≡ S.events house.old)
         ⊎ (S.events house.new ≡ after config.now (S.events house.old) line.now)) }
 {
-    let reply = reply_to(alloc, config, house, line);
+    let reply = reply_to(alloc, room, config, house, line);
     if is_out_of_memory(&reply) {
         return Err(AllocError);
     }

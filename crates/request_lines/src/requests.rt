@@ -1,7 +1,7 @@
 //! What a line asks for.
 
 ghost use Rattle.std.specs.Prelude.{◌≡◌, IfOk, IfErr, Ok, Err, false};
-ghost use Rattle.serde_json.specs.View.{view};
+ghost use Rattle.json.specs.Value.{value_view as view};
 ghost use Rattle.ocpi_json.specs.Faults.{Finds};
 ghost use Rattle.plain_house.specs.Replies.{is_refusal_no_memory};
 ghost use Rattle.request_lines.specs.RequestText.{authorize_at, exposure_at, release_at, tariff_ask_at, token_ask_at, ask_at, request_at, kind_or_rfid, request_of};
@@ -10,7 +10,7 @@ use cdr_checks::{Ask, Authorize, ExposureOf, Release, Request};
 use ocpi_json::fields::{self, FieldFault};
 use ocpi_json::name::Name;
 use ocpi_json::objects::{FromNode, FromNodeIn, FromText};
-use ocpi_json::{Node, ReadFault, read};
+use ocpi_json::{Node, ReadFault, Room};
 use ocpi_types::{Refusal, Tariff, Token, TokenKind, members};
 use std::alloc::Global;
 
@@ -129,11 +129,11 @@ fn read_request(alloc: Global, node: &Node) -> Result<Request, FieldFault>
 /// What a line says: `Syntax` where it is no JSON, `Field` for the first member that is missing, of a wrong kind or out
 /// of bounds, `NoMemory` where a growth was refused.
 #[tactic(auto, unfolding(crate::specs::RequestText::request_of))]
-pub fn request_of(alloc: Global, line: &[u8]) -> Result<Request, Refusal>
+pub fn request_of(alloc: Global, room: &mut Room, line: &[u8]) -> Result<Request, Refusal>
     ensures request { IfOk result (λ request. request_of line.now ≡ Ok request) }
     ensures refusal { IfErr result (λ refusal. is_refusal_no_memory refusal ≡ false → request_of line.now ≡ Err refusal) }
 {
-    let node = match read(alloc, line) {
+    let node = match room.read(line) {
         Ok(node) => node,
         Err(ReadFault::Syntax) => return Err(Refusal::Syntax),
         Err(ReadFault::NoMemory) => return Err(Refusal::NoMemory),

@@ -6,19 +6,21 @@ use super::answering::{Answerer, run_lines};
 use super::faults::{Count, ScriptFault};
 use super::one_line::respond;
 use super::streams::{Sink, Source};
+use ocpi_json::Room;
 use ocpi_types::Config;
 use plain_house::Sequential;
 use std::alloc::{AllocError, Global};
 
-/// A house that answers lines.
+/// A house that answers lines, and the room in which each is read.
 #[derive(Drop)]
-struct Scripted<'c, 'h, S: Sequential> {
+struct Scripted<'c, 'h, 'r, S: Sequential> {
     config: &'c Config,
     house: &'h mut S,
+    room: &'r mut Room,
     ghost same: { S.config house.now ≡ config.now },
 }
 
-impl<S: Sequential> Answerer for Scripted<'_, '_, S> {
+impl<S: Sequential> Answerer for Scripted<'_, '_, '_, S> {
     ghost use Rattle.std.specs.Prelude.{◌≡◌, ◌⊎◌, refl};
     ghost use Rattle.std.proofs.Common.{◌∙◌};
     ghost use Rattle.request_lines.specs.Script.{after};
@@ -36,7 +38,7 @@ impl<S: Sequential> Answerer for Scripted<'_, '_, S> {
     ghost answers_more = { λ a b c ls ms t u h k. (k.0 ∙ h.0, in_turn_more a.config.now b.config.now c.config.now (S.events a.house.now) (S.events b.house.now) (S.events c.house.now) ls ms t u h.1 k.1) };
 
     fn answer(&mut self, alloc: Global, line: &[u8]) -> Result<Vec<u8>, AllocError> {
-        respond(alloc, self.config, self.house, line)
+        respond(alloc, self.room, self.config, self.house, line)
     }
 }
 
@@ -66,6 +68,11 @@ pub fn run_script<R: Source, W: Sink, S: Sequential>(
     ensures failed { IfErr result (λ fault. is_write_fault fault ≡ true → W.failed writer.new ≡ true) }
     ensures kept { IfErr result (λ fault. is_write_fault fault ≡ false → W.failed writer.new ≡ W.failed writer.old) }
 {
-    let mut scripted = Scripted { config, house };
+    let mut room = Room::new(alloc);
+    let mut scripted = Scripted {
+        config,
+        house,
+        room: &mut room,
+    };
     run_lines(alloc, reader, writer, &mut scripted)
 }

@@ -1,6 +1,6 @@
 -- The members of a CDR in groups, as they are read.
 use Rattle.std.specs.Prelude.{Result, Ok}
-use Rattle.serde_json.specs.Data.{Data}
+use Rattle.json.specs.Json.{Json as Data}
 use Rattle.ocpi_json.specs.Fields.{required, optional, as_ci_text, as_number, as_parsed}
 use Rattle.ocpi_json.specs.Members.{◌>>=◌}
 use Rattle.ocpi_json.specs.MomentText.{instant_of}

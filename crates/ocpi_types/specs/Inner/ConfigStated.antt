@@ -1,6 +1,6 @@
 -- The members of a configuration in groups, as they are read.
 use Rattle.std.specs.Prelude.{ℕ, Result, Ok, unwrap_or}
-use Rattle.serde_json.specs.Data.{Data}
+use Rattle.json.specs.Json.{Json as Data}
 use Rattle.ocpi_json.specs.Fields.{required, optional, as_whole}
 use Rattle.ocpi_json.specs.Members.{◌>>=◌}
 use Rattle.ocpi_json.specs.declared.name.Name.{Name}

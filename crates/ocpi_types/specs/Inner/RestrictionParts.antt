@@ -1,6 +1,6 @@
 -- The members of restrictions in groups, as they are read.
 use Rattle.std.specs.Prelude.{Result, Ok}
-use Rattle.serde_json.specs.Data.{Data}
+use Rattle.json.specs.Json.{Json as Data}
 use Rattle.ocpi_json.specs.Fields.{optional, as_parsed, as_text}
 use Rattle.ocpi_json.specs.Members.{◌>>=◌}
 use Rattle.ocpi_json.specs.MomentText.{date_of, clock_of}

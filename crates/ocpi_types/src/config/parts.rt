@@ -1,7 +1,7 @@
 //! Reading the parts of a configuration.
 
 ghost use Rattle.std.specs.Prelude.{◌≡◌, map};
-ghost use Rattle.serde_json.specs.View.{view};
+ghost use Rattle.json.specs.Value.{value_view as view};
 ghost use Rattle.ocpi_json.specs.Faults.{Finds};
 ghost use Rattle.ocpi_json.specs.Members.{each};
 ghost use Rattle.ocpi_types.specs.ConfigParts.{currency_at, operator_at, provider_at};
@@ -34,8 +34,8 @@ pub struct Known {
 /// A type whose values stand in nodes, name what is known, and take no memory.
 pub trait FromNodeWith<C>: Sized {
     ghost use Rattle.std.specs.Prelude.{◌≡◌, Result};
-    ghost use Rattle.serde_json.specs.Data.{Data};
-    ghost use Rattle.serde_json.specs.View.{view};
+    ghost use Rattle.json.specs.Json.{Json as Data};
+    ghost use Rattle.json.specs.Value.{value_view as view};
     ghost use Rattle.ocpi_json.specs.declared.name.Name.{Name};
 
     ghost at_with: { C → Data → Result Self Name };
@@ -47,8 +47,8 @@ pub trait FromNodeWith<C>: Sized {
 /// A type whose values stand in nodes, name what is known, and take memory.
 pub trait FromNodeWithIn<C>: Sized {
     ghost use Rattle.std.specs.Prelude.{Result};
-    ghost use Rattle.serde_json.specs.Data.{Data};
-    ghost use Rattle.serde_json.specs.View.{view};
+    ghost use Rattle.json.specs.Json.{Json as Data};
+    ghost use Rattle.json.specs.Value.{value_view as view};
     ghost use Rattle.ocpi_json.specs.Faults.{Finds};
     ghost use Rattle.ocpi_json.specs.declared.name.Name.{Name};
 
@@ -66,7 +66,7 @@ pub fn read_each_with<C, T: FromNodeWith<C> + Drop>(
 ) -> Result<Sequence<T>, FieldFault>
     ensures { Finds result (each (T.at_with known.now) (map view nodes.now)) }
 {
-    let mut values = Sequence::new(alloc);
+    let mut values = Sequence::with_capacity(alloc, nodes.len())?;
     for node in nodes {
         values.push(T::from_node_with(known, node)?)?;
     }
@@ -81,7 +81,7 @@ pub fn read_each_with_in<C, T: FromNodeWithIn<C> + Drop>(
 ) -> Result<Sequence<T>, FieldFault>
     ensures { Finds result (each (T.at_with known.now) (map view nodes.now)) }
 {
-    let mut values = Sequence::new(alloc);
+    let mut values = Sequence::with_capacity(alloc, nodes.len())?;
     for node in nodes {
         values.push(T::from_node_with_in(alloc, known, node)?)?;
     }

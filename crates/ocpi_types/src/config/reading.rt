@@ -1,7 +1,7 @@
 //! Reading a configuration.
 
 ghost use Rattle.std.specs.Prelude.{◌≡◌};
-ghost use Rattle.serde_json.specs.View.{view};
+ghost use Rattle.json.specs.Value.{value_view as view};
 ghost use Rattle.ocpi_json.specs.Faults.{Finds};
 ghost use Rattle.ocpi_types.specs.Inner.ConfigStated.{config_from, config_in_parts, stated_at};
 ghost use Rattle.ocpi_types.specs.ConfigText.{currencies_at, known_at, operators_at, providers_at, platforms_at, house_limits_at, pair_limits_at, stated_pair_limits_at, credit_window_at};
@@ -16,7 +16,7 @@ use ocpi_json::fields::{self, FieldFault};
 use ocpi_json::name::Name;
 use ocpi_json::objects::{FromNodeIn, parsed_each, read_each, read_if_any};
 use ocpi_json::sequence::Sequence;
-use ocpi_json::{Node, ReadFault};
+use ocpi_json::{Node, ReadFault, Room};
 use std::alloc::Global;
 
 /// Why a configuration was not read.
@@ -251,7 +251,8 @@ impl Config {
         if 1_048_576 < bytes.len() {
             return Err(ConfigFault::Syntax);
         }
-        let node = ocpi_json::read(alloc, bytes)?;
+        let mut room = Room::new(alloc);
+        let node = room.read(bytes)?;
         Ok(Config::from_node_in(alloc, &node)?)
     }
 }

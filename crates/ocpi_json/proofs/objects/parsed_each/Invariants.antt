@@ -1,5 +1,5 @@
 use Rattle.std.proofs.Common.{◌≡◌, drop, map}
-use Rattle.serde_json.specs.View.{view}
+use Rattle.json.specs.Value.{value_view as view}
 use Rattle.ocpi_json.specs.Fields.{as_parsed}
 use Rattle.ocpi_json.specs.Members.{each, or_name}
 use Rattle.ocpi_json.proofs.Eaches.{behind_items}

@@ -1,6 +1,6 @@
 -- There are as many values as nodes, so they fit.
 use Rattle.std.proofs.Common.{arith, map}
-use Rattle.serde_json.specs.View.{view}
+use Rattle.json.specs.Value.{value_view as view}
 use Rattle.std.proofs.lemmas.List.{length-map}
 use Rattle.ocpi_types.proofs.Lists.{each_keeps_length}
 use Rattle.ocpi_types.proofs.up_to.read_up_to.Goals as goal

@@ -1,4 +1,4 @@
-use Rattle.serde_json.specs.View.{view}
+use Rattle.json.specs.Value.{value_view as view}
 use Rattle.ocpi_types.proofs.InParts.{restrictions}
 use Rattle.ocpi_types.proofs.restrictions.RestrictionsFromNodeIn.from_node_in.Goals as goal
 

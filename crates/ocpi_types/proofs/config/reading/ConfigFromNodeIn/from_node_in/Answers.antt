@@ -1,4 +1,4 @@
-use Rattle.serde_json.specs.View.{view}
+use Rattle.json.specs.Value.{value_view as view}
 use Rattle.ocpi_types.proofs.InParts.{config}
 use Rattle.ocpi_types.proofs.config.reading.ConfigFromNodeIn.from_node_in.Goals as goal
 

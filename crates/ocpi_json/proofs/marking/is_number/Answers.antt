@@ -1,7 +1,0 @@
-use Rattle.std.proofs.lemmas.Str.{IsUtf8-from_ascii}
-use Rattle.ocpi_json.proofs.Pieces.{ascii_token}
-use Rattle.ocpi_json.proofs.marking.is_number.Goals as goal
-
--- a number token is ASCII, so it is text
-pub returns-in-Err : goal.returns-in-Err
-returns-in-Err c = absurd (c.in-Err.ensures.cases.0 (IsUtf8-from_ascii _ (ascii_token _ c.requires)))

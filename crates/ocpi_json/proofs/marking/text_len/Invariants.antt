@@ -1,6 +1,0 @@
-use Rattle.std.proofs.Common.{◌≡◌, Some, take, false}
-use Rattle.ocpi_json.specs.Cut.{inside}
-use Rattle.ocpi_json.proofs.marking.text_len.Given as goal
-
-abbrev pub invariant-loop-index : goal.invariant-loop-index
-invariant-loop-index l = inside false (take l.index l.bytes) ≡ Some l.kept
