@@ -1,0 +1,5 @@
+pub mod Cut
+pub mod Inner
+pub mod Marked
+pub mod MarkedReading
+pub mod Reading
