@@ -1,0 +1,4 @@
+pub mod Cut
+pub mod Inner
+pub mod Marked
+pub mod MarkedReading
