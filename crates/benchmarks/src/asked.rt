@@ -5,7 +5,7 @@ use std::{env, io};
 pub struct Asked {
     subject: Option<String>,
     part: Option<String>,
-    rounds: Option<u64>,
+    third: Option<String>,
 }
 
 fn is_or_none(word: &Option<String>, name: &str) -> bool {
@@ -20,14 +20,11 @@ impl Asked {
         let mut words = env::args(rt)?.skip(1);
         let subject = words.next();
         let part = words.next();
-        let rounds = match words.next() {
-            Some(word) => word.as_str().parse::<u64>().ok(),
-            None => None,
-        };
+        let third = words.next();
         Ok(Asked {
             subject,
             part,
-            rounds,
+            third,
         })
     }
 
@@ -40,6 +37,17 @@ impl Asked {
     }
 
     pub(crate) fn rounds_or(&self, few: u64) -> u64 {
-        self.rounds.unwrap_or(few)
+        match &self.third {
+            Some(word) => word.as_str().parse::<u64>().unwrap_or(few),
+            None => few,
+        }
+    }
+
+    /// The path of a file, of a subject that reads one.
+    pub(crate) fn file(&self) -> Option<&str> {
+        match &self.third {
+            Some(word) => Some(word.as_str()),
+            None => None,
+        }
     }
 }

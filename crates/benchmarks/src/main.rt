@@ -1,9 +1,11 @@
 //! Does the work that is measured, and writes a checksum of what was found to standard output. The first word is the
-//! subject (`tariffs` or `rating`), the second its part, and the third the number of rounds. Without words every part of
-//! every subject makes a few rounds. The times are taken from outside (`bench/run`).
+//! subject (`tariffs`, `rating` or `lines`), the second its part, and the third the number of rounds, or for `lines` the
+//! file. Without words every part of every subject makes a few rounds. The times are taken from outside (`bench/run`), but
+//! for those of `lines`, which go to standard error.
 #![tactic(auto)]
 
 mod asked;
+mod lines;
 mod rating;
 mod tariffs;
 
@@ -17,6 +19,9 @@ fn work(rt: &HostRuntime, zone: &Zone, asked: &Asked) -> io::Result<()> {
     }
     if asked.names("rating") {
         rating::work(rt, zone, asked)?;
+    }
+    if asked.names("lines") {
+        lines::work(rt, asked)?;
     }
     Ok(())
 }

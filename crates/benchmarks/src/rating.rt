@@ -24,7 +24,8 @@ fn end() -> &'static str {
     r#"],"total_cost":{"excl_vat":1},"total_energy":1,"total_time":1,"last_updated":"2024-07-01T11:05:00Z"}"#
 }
 
-fn text(alloc: Global, periods: usize) -> Result<String, AllocError> {
+/// A CDR as JSON, with so many charging periods.
+pub(crate) fn cdr_text(alloc: Global, periods: usize) -> Result<String, AllocError> {
     let mut text = String::from_str(alloc, beginning())?;
     for place in 0..periods {
         if 0 < place {
@@ -37,7 +38,7 @@ fn text(alloc: Global, periods: usize) -> Result<String, AllocError> {
 }
 
 fn cdr(alloc: Global, periods: usize) -> Option<Cdr> {
-    let text = text(alloc, periods).ok()?;
+    let text = cdr_text(alloc, periods).ok()?;
     let mut room = Room::new(alloc);
     let node = room.read(text.as_bytes()).ok()?;
     Cdr::from_node_in(alloc, &node).ok()

@@ -5,8 +5,8 @@ use Rattle.std.proofs.lemmas.List.{append-nil}
 use Rattle.std.proofs.lemmas.List.Elements.{All-nil, All-cons, All-head, All-tail, All-append}
 use Rattle.std.proofs.lemmas.Bool.Decides.{nat_tests}
 use Rattle.request_lines.specs.Lines.{lines_of, whole_lines, last_line, HasNoNewline, with_newline, AreLines}
-use Rattle.request_lines.specs.Inner.Progress.{whole_from, rest_from}
-use Rattle.request_lines.proofs.LinesLemmas.{whole_from_start, whole_from-append, rest_from-append, lines_end, not_ten}
+use Rattle.request_lines.specs.Inner.Progress.{lines_from, whole_from, rest_from}
+use Rattle.request_lines.proofs.LinesLemmas.{whole_from_start, whole_from-append, rest_from-append, lines_from-append, lines_end, not_ten}
 
 none_more : (p : List ℕ) (x : ℕ) → HasNoNewline p → (x ≢ 10) → HasNoNewline (p ++ x ∷ [])
 none_more p x h k = All-append (λ b. b ≢ 10) p (x ∷ []) h (All-cons (λ b. b ≢ 10) x [] k (All-nil (λ b. b ≢ 10)))
@@ -39,36 +39,47 @@ pub are_lines : (bytes : List ℕ) → AreLines bytes (whole_lines bytes) (rest_
 are_lines bytes = rw (whole_from_start bytes) at (are_from [] bytes (All-nil (λ b. b ≢ 10)))
 
 -- bytes with no newline are of one line
-whole-none : (p line : List ℕ) → HasNoNewline line → whole_from p line ≡ []
+pub whole-none : (p line : List ℕ) → HasNoNewline line → whole_from p line ≡ []
 whole-none p [] h = refl
 whole-none p (x ∷ line) h = rw (not_ten x (All-head (λ b. b ≢ 10) x line h)) (whole-none (p ++ x ∷ []) line (All-tail (λ b. b ≢ 10) x line h))
 
-rest-none : (p line : List ℕ) → HasNoNewline line → rest_from p line ≡ p ++ line
+pub rest-none : (p line : List ℕ) → HasNoNewline line → rest_from p line ≡ p ++ line
 rest-none p [] h = sym (append-nil p)
 rest-none p (x ∷ line) h = rw (not_ten x (All-head (λ b. b ≢ 10) x line h)) (rest-none (p ++ x ∷ []) line (All-tail (λ b. b ≢ 10) x line h) ∙ append_assoc p (x ∷ []) line)
 
-one_line : (line others : List ℕ) → HasNoNewline line → whole_from [] (with_newline line ++ others) ≡ line ∷ whole_from [] others
-one_line line others h =
-    ap (whole_from []) (append_assoc line (10 ∷ []) others) ∙ whole_from-append [] line (10 ∷ others)
-    ∙ ap (λ (ls : List (List ℕ)). ls ++ whole_from (rest_from [] line) (10 ∷ others)) (whole-none [] line h)
-    ∙ ap (λ (p : List ℕ). whole_from p (10 ∷ others)) (rest-none [] line h)
+pub lines-none : (p line others : List ℕ) → HasNoNewline line → lines_from p (line ++ others) ≡ lines_from (p ++ line) others
+lines-none p line others h =
+    lines_from-append p line others
+    ∙ ap (λ (ls : List (List ℕ)). ls ++ lines_from (rest_from p line) others) (whole-none p line h)
+    ∙ ap (λ (q : List ℕ). lines_from q others) (rest-none p line h)
 
-one_rest : (line others : List ℕ) → HasNoNewline line → rest_from [] (with_newline line ++ others) ≡ rest_from [] others
-one_rest line others h =
-    ap (rest_from []) (append_assoc line (10 ∷ []) others) ∙ rest_from-append [] line (10 ∷ others)
+-- a line whose end comes behind a part of it
+pub whole-line : (p line others : List ℕ) → HasNoNewline line → whole_from p (with_newline line ++ others) ≡ (p ++ line) ∷ whole_from [] others
+whole-line p line others h =
+    ap (whole_from p) (append_assoc line (10 ∷ []) others) ∙ whole_from-append p line (10 ∷ others)
+    ∙ ap (λ (ls : List (List ℕ)). ls ++ whole_from (rest_from p line) (10 ∷ others)) (whole-none p line h)
+    ∙ ap (λ (q : List ℕ). whole_from q (10 ∷ others)) (rest-none p line h)
+
+pub rest-line : (p line others : List ℕ) → HasNoNewline line → rest_from p (with_newline line ++ others) ≡ rest_from [] others
+rest-line p line others h =
+    ap (rest_from p) (append_assoc line (10 ∷ []) others) ∙ rest_from-append p line (10 ∷ others)
+
+pub lines-line : (p line others : List ℕ) → HasNoNewline line → lines_from p (with_newline line ++ others) ≡ (p ++ line) ∷ lines_from [] others
+lines-line p line others h =
+    ap (lines_from p) (append_assoc line (10 ∷ []) others) ∙ lines-none p line (10 ∷ others) h
 
 whole_of : (whole : List (List ℕ)) (last : List ℕ) → All HasNoNewline whole → HasNoNewline last → whole_from [] (flat_map with_newline whole ++ last) ≡ whole
 whole_of [] last h k = whole-none [] last k
 whole_of (line ∷ whole) last h k =
     ap (whole_from []) (append_assoc (with_newline line) (flat_map with_newline whole) last)
-    ∙ one_line line (flat_map with_newline whole ++ last) (All-head HasNoNewline line whole h)
+    ∙ whole-line [] line (flat_map with_newline whole ++ last) (All-head HasNoNewline line whole h)
     ∙ ap (λ (ls : List (List ℕ)). line ∷ ls) (whole_of whole last (All-tail HasNoNewline line whole h) k)
 
 rest_of : (whole : List (List ℕ)) (last : List ℕ) → All HasNoNewline whole → HasNoNewline last → rest_from [] (flat_map with_newline whole ++ last) ≡ last
 rest_of [] last h k = rest-none [] last k
 rest_of (line ∷ whole) last h k =
     ap (rest_from []) (append_assoc (with_newline line) (flat_map with_newline whole) last)
-    ∙ one_rest line (flat_map with_newline whole ++ last) (All-head HasNoNewline line whole h)
+    ∙ rest-line [] line (flat_map with_newline whole ++ last) (All-head HasNoNewline line whole h)
     ∙ rest_of whole last (All-tail HasNoNewline line whole h) k
 
 pub only_whole : (bytes : List ℕ) (whole : List (List ℕ)) (last : List ℕ) → AreLines bytes whole last → whole ≡ whole_lines bytes

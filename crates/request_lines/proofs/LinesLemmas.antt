@@ -106,10 +106,6 @@ first_line_of p (x ∷ bs) h =
 pub not_ten : (x : ℕ) → (x ≡ 10 → ⊥) → (x == 10) ≡ false
 not_ten x h = grind (arith, nat_tests)
 
--- a byte that is no newline is part of the first line
-pub first_line_more : (p : List ℕ) (x : ℕ) (bs : List ℕ) → (x ≡ 10 → ⊥) → BeginsWith (p ++ x ∷ []) (lines_from p (x ∷ bs))
-first_line_more p x bs h = rw (not_ten x h) (first_line_of (p ++ x ∷ []) bs (simp length-append (omega arith)))
-
 -- the lines are the whole ones, and what is left if it isn't empty
 pub lines_end : (bytes part : List ℕ) → part ≡ rest_from [] bytes → lines_of bytes ≡ whole_from [] bytes ++ last_line part
 lines_end bytes part f = rw f (sym (lines_from_start bytes) ∙ ap (lines_from []) (sym (append-nil bytes)) ∙ lines_from-append [] bytes [])

@@ -1,13 +1,16 @@
 -- How answered lines go on and end.
 use Rattle.std.proofs.Common.{◌≡◌, ℕ, ◌+◌, ◌-◌, ◌^◌, ◌<◌, ◌≤◌, ◌⊎◌, inl, inr, true, List, [], ◌∷◌, ◌++◌, length, take, refl, ap, sym, ◌∙◌, append_assoc, arith, length-append, All}
+use Rattle.std.proofs.lemmas.Bool.{true≢false}
+use Rattle.std.proofs.lemmas.List.{append-nil}
 use Rattle.std.proofs.lemmas.List.Elements.{All-nil, All-cons, All-append}
 use Rattle.request_lines.specs.declared.progress.Progress.{Progress}
 use Rattle.request_lines.specs.declared.faults.ScriptFault.{ScriptFault}
 use Rattle.request_lines.specs.declared.faults.ScriptFault.TheVariants.{Read, Write, NoMemory, LineTooLong}
-use Rattle.request_lines.specs.Lines.{lines_of, whole_lines, last_line, IsShort}
-use Rattle.request_lines.specs.Answering.{Rule, Run, Input, LinesRead, IsComplete, lines_read, IsDone, IsFault, StopsAtRead, StopsAtWrite, StopsForMemory, StopsAtLongLine}
-use Rattle.request_lines.specs.Inner.Progress.{Stops, IsUnderWay, lines_from, whole_from, rest_from, read_from, read_line, read_last}
-use Rattle.request_lines.proofs.LinesLemmas.{whole_from-append, rest_from-append, lines_from-append, whole_from_start, lines_from_start, lines_end, first_line_more}
+use Rattle.request_lines.specs.Lines.{lines_of, whole_lines, last_line, IsShort, HasNoNewline, with_newline}
+use Rattle.request_lines.specs.Answering.{Rule, Run, Input, LinesRead, IsComplete, lines_read, IsDone, IsFault, StopsAtRead, StopsAtWrite, StopsForMemory, is_write_fault}
+use Rattle.request_lines.specs.Inner.Progress.{Stops, CannotKeep, IsUnderWay, lines_from, whole_from, rest_from, read_from, read_line, read_last}
+use Rattle.request_lines.proofs.LinesLemmas.{whole_from-append, rest_from-append, lines_from-append, whole_from_start, lines_from_start, lines_end, first_line_of}
+use Rattle.request_lines.proofs.LineLaws.{whole-line, rest-line, lines-line, whole-none, rest-none, lines-none}
 
 -- answers that follow one another are answers
 abbrev pub Joins : {A : Type 0} → Rule A → Type 0
@@ -28,12 +31,31 @@ length_step p xs ys part f = ap length (whole_step p xs ys part f) ∙ length-ap
 pub each_step : (p xs ys part : List ℕ) → part ≡ rest_from p xs → All IsShort (whole_from p xs) → All IsShort (whole_from part ys) → All IsShort (whole_from p (xs ++ ys))
 each_step p xs ys part f a b = rw (whole_step p xs ys part f) (All-append IsShort (whole_from p xs) (whole_from part ys) a b)
 
-one_short : (line : List ℕ) → IsShort line → All IsShort (line ∷ [])
+pub one_short : (line : List ℕ) → IsShort line → All IsShort (line ∷ [])
 one_short line h = All-cons IsShort line [] h (All-nil IsShort)
 
 last_short : (part : List ℕ) → IsShort part → All IsShort (last_line part)
 last_short [] h = All-nil IsShort
 last_short (x ∷ part) h = one_short (x ∷ part) h
+
+-- bytes with no newline are kept behind a part
+pub whole_kept : (p xs ys part bytes : List ℕ) → bytes ≡ xs ++ ys → part ≡ rest_from p xs → HasNoNewline ys → whole_from p bytes ≡ whole_from p xs
+whole_kept p xs ys part bytes cut f none =
+    ap (whole_from p) cut ∙ whole_step p xs ys part f ∙ ap (λ (ls : List (List ℕ)). whole_from p xs ++ ls) (whole-none part ys none) ∙ append-nil (whole_from p xs)
+
+pub rest_kept : (p xs ys part bytes : List ℕ) → bytes ≡ xs ++ ys → part ≡ rest_from p xs → HasNoNewline ys → rest_from p bytes ≡ part ++ ys
+rest_kept p xs ys part bytes cut f none = ap (rest_from p) cut ∙ rest_step p xs ys part f ∙ rest-none part ys none
+
+-- a newline ends a line behind a part of it
+pub whole_ended : (p xs line part : List ℕ) → part ≡ rest_from p xs → HasNoNewline line → whole_from p (xs ++ with_newline line) ≡ whole_from p xs ++ (part ++ line) ∷ []
+whole_ended p xs line part f none =
+    whole_step p xs (with_newline line) part f
+    ∙ ap (λ (ys : List ℕ). whole_from p xs ++ whole_from part ys) (sym (append-nil (with_newline line)))
+    ∙ ap (λ (ls : List (List ℕ)). whole_from p xs ++ ls) (whole-line part line [] none)
+
+pub rest_ended : (p xs line part : List ℕ) → part ≡ rest_from p xs → HasNoNewline line → rest_from p (xs ++ with_newline line) ≡ []
+rest_ended p xs line part f none =
+    rest_step p xs (with_newline line) part f ∙ ap (rest_from part) (sym (append-nil (with_newline line))) ∙ rest-line part line [] none
 
 -- ---- which lines are complete
 
@@ -173,16 +195,17 @@ stops_after rule more a b c p bytes xs ys part n n' w w' fault text written cut 
     (λ place. complete_weaker place (length (whole_from p xs) + length (whole_from part ys)) place (length (whole_from p bytes)) ⊥ ⊥ (λ k. omega (arith, k, size)) (λ k. k))
     (stops_later rule more a b c (whole_from p xs) (read_from part ys) n w fault text written first short later)
 
--- ---- one line, and one byte
+-- ---- one line
 
 -- the line that a newline ends stops
-pub stops_at_newline : {A : Type 0} (rule : Rule A) (part line : List ℕ) (byte n w : ℕ) (fault : ScriptFault) (run : Run A) → byte ≡ 10 → line ≡ part → (others : List ℕ) →
-    Stops rule (read_line line (lines_from [] others)) n w fault run → Stops rule (read_from part (byte ∷ others)) n w fault run
-stops_at_newline rule part line byte n w fault run e f others h =
-    let same : lines_from part (byte ∷ others) ≡ line ∷ lines_from [] others = rw (e, f) refl in
-    let size : length (whole_from part (byte ∷ others)) ≡ length (whole_from [] others) + 1 = rw e (omega arith) in
-    stops_in rule (read_line line (lines_from [] others)) (read_from part (byte ∷ others)) n w fault run same
-    (λ place. complete_weaker place 1 place (length (whole_from part (byte ∷ others))) ⊥ ⊥ (λ k. omega (arith, k, size)) (λ k. k)) h
+pub stops_at_line : {A : Type 0} (rule : Rule A) (part end line : List ℕ) (n w : ℕ) (fault : ScriptFault) (run : Run A) → HasNoNewline end → line ≡ part ++ end → (others : List ℕ) →
+    Stops rule (read_line line (lines_from [] others)) n w fault run → Stops rule (read_from part (with_newline end ++ others)) n w fault run
+stops_at_line rule part end line n w fault run none e others h =
+    let bytes = with_newline end ++ others in
+    let same : lines_from part bytes ≡ line ∷ lines_from [] others = rw e (lines-line part end others none) in
+    let size : length (whole_from part bytes) ≡ length (whole_from [] others) + 1 = rw (whole-line part end others none) (omega arith) in
+    stops_in rule (read_line line (lines_from [] others)) (read_from part bytes) n w fault run same
+    (λ place. complete_weaker place 1 place (length (whole_from part bytes)) ⊥ ⊥ (λ k. omega (arith, k, size)) (λ k. k)) h
 
 -- a last line without a newline stops
 pub stops_at_last : {A : Type 0} (rule : Rule A) (part : List ℕ) (n w : ℕ) (fault : ScriptFault) (run : Run A) → 0 < length part →
@@ -190,25 +213,6 @@ pub stops_at_last : {A : Type 0} (rule : Rule A) (part : List ℕ) (n w : ℕ) (
 stops_at_last rule [] n w fault run some h = absurd (omega arith)
 stops_at_last rule (x ∷ part) n w fault run some h =
     stops_in rule (read_line (x ∷ part) []) (read_last (x ∷ part)) n w fault run refl (λ place k. inr tt) h
-
--- a line that is as long as it may be goes on
-pub stops_at_long : {A : Type 0} (rule : Rule A) (a : A) (part : List ℕ) (byte n : ℕ) → rule.answers a [] [] a → (byte ≡ 10 → ⊥) → 1048576 ≤ length part →
-    (others : List ℕ) → (place : ℕ) × (n + 1 ≡ n + place) × StopsAtLongLine rule (lines_from part (byte ∷ others)) place (record { start = a; written = []; now = a })
-stops_at_long rule a part byte n none h long others =
-    let r = first_line_more part byte others h in (
-      1,
-      refl,
-      record {
-        before = [];
-        line = r.line;
-        others = r.others;
-        split = r.split;
-        number_is = refl;
-        each_short = All-nil IsShort;
-        is_long = omega (arith, r.at_least, length-append part (byte ∷ []));
-        answered = none;
-      },
-    )
 
 pub stops_for_memory : {A : Type 0} (rule : Rule A) (a : A) (read : LinesRead) → rule.answers a [] [] a → StopsForMemory rule read (record { start = a; written = []; now = a })
 stops_for_memory rule a read none = record {
@@ -221,6 +225,35 @@ stops_for_memory rule a read none = record {
   answered = none;
   left = inl refl;
 }
+
+-- keeping bytes is no write
+pub keeping_writes_none : (line : List ℕ) (n : ℕ) (fault : ScriptFault) → CannotKeep line n fault → is_write_fault fault ≡ true → ⊥
+keeping_writes_none line n Read h e = h
+keeping_writes_none line n (Write count) h e = h
+keeping_writes_none line n NoMemory h e = true≢false (sym e)
+keeping_writes_none line n (LineTooLong number) h e = true≢false (sym e)
+
+-- more bytes of a line that are not kept stop
+pub stops_at_keep : {A : Type 0} (rule : Rule A) (a : A) (part bytes : List ℕ) (n w : ℕ) (fault : ScriptFault) → rule.answers a [] [] a → HasNoNewline bytes → CannotKeep (part ++ bytes) n fault →
+    (others : List ℕ) → Stops rule (read_from part (bytes ++ others)) n w fault (record { start = a; written = []; now = a })
+stops_at_keep rule a part bytes n w Read first none h others = absurd h
+stops_at_keep rule a part bytes n w (Write count) first none h others = absurd h
+stops_at_keep rule a part bytes n w NoMemory first none h others = stops_for_memory rule a (read_from part (bytes ++ others)) first
+stops_at_keep rule a part bytes n w (LineTooLong number) first none h others =
+    let r = first_line_of (part ++ bytes) others (omega (arith, h.1)) in (
+      1,
+      h.0,
+      record {
+        before = [];
+        line = r.line;
+        others = r.others;
+        split = lines-none part bytes others none ∙ r.split;
+        number_is = refl;
+        each_short = All-nil IsShort;
+        is_long = omega (arith, r.at_least, h.1);
+        answered = first;
+      },
+    )
 
 pub gave_up : {A : Type 0} (rule : Rule A) (a b : A) (line : List ℕ) (others : List (List ℕ)) → rule.answers a [] [] a → rule.gives_up a line b → StopsForMemory rule (read_line line others) (record { start = a; written = []; now = b })
 gave_up rule a b line others none h = record {

@@ -1,10 +1,10 @@
 ghost use Rattle.std.specs.Prelude.{◌≡◌, ℕ, ◌+◌, ◌*◌, ◌^◌, ◌<◌, ◌≤◌, List, [], ◌∷◌, ◌++◌, length, take, true, false, IfOk, OnOk, OnErr, IfErr, MatchResult, All};
-ghost use Rattle.request_lines.specs.Lines.{IsShort, last_line};
+ghost use Rattle.request_lines.specs.Lines.{IsShort, HasNoNewline, last_line, with_newline};
 ghost use Rattle.request_lines.specs.Answering.{Rule, Run, Input, IsDone, IsFault, is_read_fault, is_write_fault};
-ghost use Rattle.request_lines.specs.Inner.Progress.{HasAnswered, HasStopped, state, read_line, read_last, read_from, whole_from, rest_from};
+ghost use Rattle.request_lines.specs.Inner.Progress.{HasAnswered, HasStopped, CannotKeep, state, read_line, read_last, read_from, whole_from, rest_from};
 
 use super::faults::{Count, Failed, ScriptFault};
-use super::lines::{MOST_LINE_BYTES, NEWLINE};
+use super::lines::{MOST_LINE_BYTES, split_line};
 use super::progress::Progress;
 use super::streams::{MOST_READ_BYTES, Sink, Source, write_all};
 use std::alloc::{AllocError, Global};
@@ -80,41 +80,53 @@ fn finish_last<W: Sink, A: Answerer>(
     finish_line(alloc, writer, answerer, progress, part)
 }
 
-/// Takes one byte: answers the line that it ends, or keeps it.
-fn take_byte<W: Sink, A: Answerer>(
+/// Keeps more bytes of a line that has not ended.
+fn keep(progress: &Progress, part: &mut Vec<u8>, bytes: &[u8]) -> Result<(), ScriptFault>
+    requires few { progress.now.lines < 2 ^ 61 }
+    requires short { IsShort part.old.items }
+    ensures part { OnOk result (part.new.items ≡ part.old.items ++ bytes.now) }
+    ensures short { OnOk result (IsShort part.new.items) }
+    ensures err { IfErr result (λ fault. CannotKeep (part.old.items ++ bytes.now) progress.now.lines fault) }
+{
+    if part.len() + bytes.len() > MOST_LINE_BYTES {
+        return Err(ScriptFault::LineTooLong {
+            line: progress.lines + 1,
+        });
+    }
+    match part.extend_from_slice(bytes) {
+        Ok(()) => Ok(()),
+        Err(AllocError) => Err(ScriptFault::NoMemory),
+    }
+}
+
+/// Answers the line of which these are the last bytes before its newline.
+fn end_line<W: Sink, A: Answerer>(
     alloc: Global,
     writer: &mut W,
     answerer: &mut A,
     progress: &mut Progress,
     part: &mut Vec<u8>,
-    byte: u8,
+    end: &[u8],
 ) -> Result<(), ScriptFault>
     requires few { progress.old.lines < 2 ^ 61 }
     requires short { IsShort part.old.items }
-    ensures ok { OnOk result (HasAnswered A.rule W.takes W.failed (whole_from part.old.items (byte ∷ []))
+    requires end_short { IsShort end.now }
+    requires end { HasNoNewline end.now }
+    ensures ok { OnOk result (HasAnswered A.rule W.takes W.failed ((part.old.items ++ end.now) ∷ [])
         (state answerer.old writer.old progress.old) (state answerer.new writer.new progress.new)) }
-    ensures part { OnOk result (part.new.items ≡ rest_from part.old.items (byte ∷ [])) }
-    ensures short { OnOk result (IsShort part.new.items) }
-    ensures each_short { OnOk result (All IsShort (whole_from part.old.items (byte ∷ []))) }
-    ensures few { OnOk result (progress.new.lines ≤ progress.old.lines + 1) }
+    ensures part { OnOk result (part.new.items ≡ []) }
+    ensures line_short { OnOk result (IsShort (part.old.items ++ end.now)) }
     ensures err { IfErr result (λ fault. (others : List ℕ) →
-        HasStopped A.rule W.takes W.failed (read_from part.old.items (byte ∷ others))
+        HasStopped A.rule W.takes W.failed (read_from part.old.items (with_newline end.now ++ others))
         (state answerer.old writer.old progress.old) (state answerer.new writer.new progress.new) fault) }
 {
-    if byte == NEWLINE {
-        finish_line(alloc, writer, answerer, progress, part.as_slice())?;
-        part.clear();
-        return Ok(());
+    if part.is_empty() {
+        return finish_line(alloc, writer, answerer, progress, end);
     }
-    if part.len() >= MOST_LINE_BYTES {
-        return Err(ScriptFault::LineTooLong {
-            line: progress.lines + 1,
-        });
-    }
-    match part.push(byte) {
-        Ok(()) => Ok(()),
-        Err(_) => Err(ScriptFault::NoMemory),
-    }
+    keep(progress, part, end)?;
+    finish_line(alloc, writer, answerer, progress, part.as_slice())?;
+    part.clear();
+    Ok(())
 }
 
 /// Answers the lines that end in these bytes, and keeps what has come of the next.
@@ -127,6 +139,7 @@ fn feed<W: Sink, A: Answerer>(
     bytes: &[u8],
 ) -> Result<(), ScriptFault>
     requires few { progress.old.lines + length bytes.now < 2 ^ 61 }
+    requires block { length bytes.now ≤ 65536 }
     requires short { IsShort part.old.items }
     ensures ok { OnOk result (HasAnswered A.rule W.takes W.failed (whole_from part.old.items bytes.now)
         (state answerer.old writer.old progress.old) (state answerer.new writer.new progress.new)) }
@@ -137,10 +150,12 @@ fn feed<W: Sink, A: Answerer>(
     ensures err { IfErr result (λ fault. HasStopped A.rule W.takes W.failed (read_from part.old.items bytes.now)
         (state answerer.old writer.old progress.old) (state answerer.new writer.new progress.new) fault) }
 {
-    for b in bytes {
-        take_byte(alloc, writer, answerer, progress, part, *b)?;
+    let mut rest = bytes;
+    while let Some((line, others)) = split_line(rest) {
+        end_line(alloc, writer, answerer, progress, part, line)?;
+        rest = others;
     }
-    Ok(())
+    keep(progress, part, rest)
 }
 
 fn zeros(alloc: Global, len: usize) -> Result<Vec<u8>, AllocError>

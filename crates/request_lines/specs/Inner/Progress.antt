@@ -1,5 +1,5 @@
 -- A run over lines while it goes on.
-use Rattle.std.specs.Prelude.{◌≡◌, ◌==◌, ℕ, ◌+◌, Bool, true, false, List, [], ◌∷◌, ◌++◌, length, if◌then◌else◌, All}
+use Rattle.std.specs.Prelude.{◌≡◌, ◌==◌, ℕ, ◌+◌, ◌<◌, Bool, true, false, List, [], ◌∷◌, ◌++◌, length, if◌then◌else◌, All}
 use Rattle.request_lines.specs.declared.progress.Progress.{Progress}
 use Rattle.request_lines.specs.declared.faults.ScriptFault.{ScriptFault}
 use Rattle.request_lines.specs.declared.faults.ScriptFault.TheVariants.{Read, Write, NoMemory, LineTooLong}
@@ -37,6 +37,13 @@ Stops rule read lines size Read run = ⊥
 Stops rule read lines size (Write count) run = (count ≡ size + length run.written) × StopsAtWrite rule read run
 Stops rule read lines size NoMemory run = StopsForMemory rule read run
 Stops rule read lines size (LineTooLong number) run = (place : ℕ) × (number ≡ lines + place) × StopsAtLongLine rule read.lines place run
+
+-- why this much of a line could not be kept, after so many lines
+abbrev pub CannotKeep : List ℕ → ℕ → ScriptFault → Type 0
+CannotKeep line lines Read = ⊥
+CannotKeep line lines (Write count) = ⊥
+CannotKeep line lines NoMemory = Unit {0}
+CannotKeep line lines (LineTooLong number) = (number ≡ lines + 1) × (1048576 < length line)
 
 -- what changes from line to line
 pub record State (A W : Type 0) : Type 0 where
