@@ -47,7 +47,7 @@ struct Finder {
 }
 
 // The CDR of a line, if it has one.
-fn cdr_node(line: &Node) -> Option<&Node> {
+fn cdr_node<'n, 'a>(line: &'n Node<'a>) -> Option<&'n Node<'a>> {
     fields::object(line, Name::Cdr).ok()
 }
 

@@ -2,8 +2,8 @@
 
 use super::asked::Asked;
 use cdr_rating::rate;
-use ocpi_json::objects::FromNodeIn;
 use ocpi_json::Room;
+use ocpi_json::objects::FromNodeIn;
 use ocpi_types::{Cdr, Zone};
 use std::alloc::{AllocError, Global};
 use std::io;

@@ -2,8 +2,8 @@
 
 use super::asked::Asked;
 use jiff::Timestamp;
-use ocpi_json::objects::FromNodeIn;
 use ocpi_json::Room;
+use ocpi_json::objects::FromNodeIn;
 use ocpi_types::{ComponentKind, Element, Tariff, Zone};
 use std::alloc::Global;
 use std::io;

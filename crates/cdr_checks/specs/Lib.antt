@@ -1,1 +1,6 @@
 pub mod Admission
+pub mod CdrAdmission
+pub mod CdrConditions
+pub mod Checked
+pub mod FirstRefusal
+pub mod Inner

@@ -1,106 +1,185 @@
 ghost use Rattle.std.specs.Prelude.{◌≡◌, MatchResult, Ok, Err, IfOk};
-ghost use Rattle.cdr_checks.specs.Admission.{admission, command_of, names_unknown_party, is_not_yours, has_wrong_currency, is_unsupported, acting_party, first_refusal, IsAdmitted};
+ghost use Rattle.cdr_checks.specs.Admission.{admission, ask_admission, authorize_admission, exposure_admission, find_admission, post_admission, put_tariff_admission, put_token_admission, release_admission, IsAdmitted};
+ghost use Rattle.cdr_checks.specs.Inner.HandedBack.{handed_back};
 
-use super::request::{Ask, Command, Request};
+use super::cdr_admission::check;
+use super::refusing::ensure;
+use super::request::{Ask, Authorize, Command, ExposureOf, Find, Release, Request};
 use ocpi_json::ci_text::CiText;
-use ocpi_types::{Config, Party, Refusal};
+use ocpi_types::{Cdr, Config, Refusal, Tariff, Token};
 use tariff_elements::supported;
 
-fn names_unknown_party(config: &Config, ask: &Ask) -> bool
-    ensures { result ≡ names_unknown_party config.now ask.now }
+fn ensure_tariff(config: &Config, platform: &CiText<36>, tariff: &Tariff) -> Result<(), Refusal>
+    ensures { MatchResult result (λ _. put_tariff_admission config.now platform.now tariff.now ≡ Ok (Command.PutTariff tariff.now))
+        (λ refusal. put_tariff_admission config.now platform.now tariff.now ≡ Err refusal) }
+{
+    ensure(config.is_operator(&tariff.operator), Refusal::UnknownParty)?;
+    ensure(
+        config.may_act_for(platform, &tariff.operator),
+        Refusal::NotYours,
+    )?;
+    ensure(
+        config.has_currency(&tariff.currency),
+        Refusal::WrongCurrency,
+    )?;
+    ensure(supported(tariff), Refusal::UnsupportedRestriction)?;
+    Ok(())
+}
+
+fn put_tariff(
+    config: &Config,
+    platform: &CiText<36>,
+    tariff: Tariff,
+) -> Result<Command, (Ask, Refusal)>
+    ensures { result ≡ handed_back (Ask.PutTariff tariff) (put_tariff_admission config.now platform.now tariff) }
+{
+    match ensure_tariff(config, platform, &tariff) {
+        Ok(()) => Ok(Command::PutTariff(tariff)),
+        Err(refusal) => Err((Ask::PutTariff(tariff), refusal)),
+    }
+}
+
+fn put_token(config: &Config, platform: &CiText<36>, token: &Token) -> Result<Command, Refusal>
+    ensures { result ≡ put_token_admission config.now platform.now token.now }
+{
+    ensure(config.is_provider(&token.provider), Refusal::UnknownParty)?;
+    ensure(
+        config.may_act_for(platform, &token.provider),
+        Refusal::NotYours,
+    )?;
+    Ok(Command::PutToken(*token))
+}
+
+fn authorize(
+    config: &Config,
+    platform: &CiText<36>,
+    authorize: &Authorize,
+) -> Result<Command, Refusal>
+    ensures { result ≡ authorize_admission config.now platform.now authorize.now }
+{
+    ensure(
+        config.is_operator(&authorize.operator),
+        Refusal::UnknownParty,
+    )?;
+    ensure(
+        config.is_provider(&authorize.provider),
+        Refusal::UnknownParty,
+    )?;
+    ensure(
+        config.may_act_for(platform, &authorize.operator),
+        Refusal::NotYours,
+    )?;
+    ensure(
+        config.has_currency(&authorize.currency),
+        Refusal::WrongCurrency,
+    )?;
+    Ok(Command::Authorize(*authorize))
+}
+
+fn release(config: &Config, platform: &CiText<36>, release: &Release) -> Result<Command, Refusal>
+    ensures { result ≡ release_admission config.now platform.now release.now }
+{
+    ensure(config.is_operator(&release.operator), Refusal::UnknownParty)?;
+    ensure(config.is_provider(&release.provider), Refusal::UnknownParty)?;
+    ensure(
+        config.may_act_for(platform, &release.operator),
+        Refusal::NotYours,
+    )?;
+    Ok(Command::Release(*release))
+}
+
+fn exposure(
+    config: &Config,
+    platform: &CiText<36>,
+    exposure: &ExposureOf,
+) -> Result<Command, Refusal>
+    ensures { result ≡ exposure_admission config.now platform.now exposure.now }
+{
+    ensure(
+        config.is_provider(&exposure.provider),
+        Refusal::UnknownParty,
+    )?;
+    ensure(
+        config.may_act_for(platform, &exposure.provider),
+        Refusal::NotYours,
+    )?;
+    ensure(
+        config.has_currency(&exposure.currency),
+        Refusal::WrongCurrency,
+    )?;
+    Ok(Command::Exposure(*exposure))
+}
+
+fn post(config: &Config, platform: &CiText<36>, cdr: Cdr) -> Result<Command, (Ask, Refusal)>
+    ensures { result ≡ handed_back (Ask.Post cdr) (post_admission config.now platform.now cdr) }
+{
+    match check(config, platform, cdr) {
+        Ok(checked) => Ok(Command::Post(checked)),
+        Err((cdr, refusal)) => Err((Ask::Post(cdr), refusal)),
+    }
+}
+
+fn find(config: &Config, platform: &CiText<36>, find: &Find) -> Result<Command, Refusal>
+    ensures { result ≡ find_admission config.now platform.now find.now }
+{
+    ensure(config.is_operator(&find.operator), Refusal::UnknownParty)?;
+    ensure(
+        config.may_act_for(platform, &find.operator),
+        Refusal::NotYours,
+    )?;
+    Ok(Command::Find(*find))
+}
+
+// What was asked stands beside the refusal.
+fn handed_back(ask: Ask, admitted: Result<Command, Refusal>) -> Result<Command, (Ask, Refusal)>
+    ensures { result ≡ handed_back ask admitted }
+{
+    match admitted {
+        Ok(command) => Ok(command),
+        Err(refusal) => Err((ask, refusal)),
+    }
+}
+
+fn admit_ask(config: &Config, platform: &CiText<36>, ask: Ask) -> Result<Command, (Ask, Refusal)>
+    ensures { result ≡ handed_back ask (ask_admission config.now platform.now ask) }
 {
     match ask {
-        Ask::PutTariff(tariff) => !config.is_operator(&tariff.operator),
-        Ask::PutToken(token) => !config.is_provider(&token.provider),
-        Ask::Authorize(authorize) => {
-            !config.is_operator(&authorize.operator) || !config.is_provider(&authorize.provider)
+        Ask::PutTariff(tariff) => put_tariff(config, platform, tariff),
+        Ask::PutToken(token) => {
+            let admitted = put_token(config, platform, &token);
+            handed_back(Ask::PutToken(token), admitted)
         }
-        Ask::Release(release) => {
-            !config.is_operator(&release.operator) || !config.is_provider(&release.provider)
+        Ask::Authorize(asked) => {
+            let admitted = authorize(config, platform, &asked);
+            handed_back(Ask::Authorize(asked), admitted)
         }
-        Ask::Exposure(exposure) => !config.is_provider(&exposure.provider),
+        Ask::Release(asked) => {
+            let admitted = release(config, platform, &asked);
+            handed_back(Ask::Release(asked), admitted)
+        }
+        Ask::Exposure(asked) => {
+            let admitted = exposure(config, platform, &asked);
+            handed_back(Ask::Exposure(asked), admitted)
+        }
+        Ask::Post(cdr) => post(config, platform, cdr),
+        Ask::Find(asked) => {
+            let admitted = find(config, platform, &asked);
+            handed_back(Ask::Find(asked), admitted)
+        }
     }
 }
 
-fn acting_party(ask: &Ask) -> &Party
-    ensures { result.now ≡ acting_party ask.now }
-{
-    match ask {
-        Ask::PutTariff(tariff) => &tariff.operator,
-        Ask::PutToken(token) => &token.provider,
-        Ask::Authorize(authorize) => &authorize.operator,
-        Ask::Release(release) => &release.operator,
-        Ask::Exposure(exposure) => &exposure.provider,
-    }
-}
-
-fn is_not_yours(config: &Config, platform: &CiText<36>, ask: &Ask) -> bool
-    ensures { result ≡ is_not_yours config.now platform.now ask.now }
-{
-    !config.may_act_for(platform, acting_party(ask))
-}
-
-fn has_wrong_currency(config: &Config, ask: &Ask) -> bool
-    ensures { result ≡ has_wrong_currency config.now ask.now }
-{
-    match ask {
-        Ask::PutTariff(tariff) => !config.has_currency(&tariff.currency),
-        Ask::PutToken(_) | Ask::Release(_) => false,
-        Ask::Authorize(authorize) => !config.has_currency(&authorize.currency),
-        Ask::Exposure(exposure) => !config.has_currency(&exposure.currency),
-    }
-}
-
-fn is_unsupported(ask: &Ask) -> bool
-    ensures { result ≡ is_unsupported ask.now }
-{
-    match ask {
-        Ask::PutTariff(tariff) => !supported(tariff),
-        Ask::PutToken(_) | Ask::Authorize(_) | Ask::Release(_) | Ask::Exposure(_) => false,
-    }
-}
-
-fn first_refusal(config: &Config, platform: &CiText<36>, ask: &Ask) -> Option<Refusal>
-    ensures { result ≡ first_refusal config.now platform.now ask.now }
-{
-    if names_unknown_party(config, ask) {
-        return Some(Refusal::UnknownParty);
-    }
-    if is_not_yours(config, platform, ask) {
-        return Some(Refusal::NotYours);
-    }
-    if has_wrong_currency(config, ask) {
-        return Some(Refusal::WrongCurrency);
-    }
-    if is_unsupported(ask) {
-        return Some(Refusal::UnsupportedRestriction);
-    }
-    None
-}
-
-fn command_of(ask: Ask) -> Command
-    ensures { result ≡ command_of ask }
-{
-    match ask {
-        Ask::PutTariff(tariff) => Command::PutTariff(tariff),
-        Ask::PutToken(token) => Command::PutToken(token),
-        Ask::Authorize(authorize) => Command::Authorize(authorize),
-        Ask::Release(release) => Command::Release(release),
-        Ask::Exposure(exposure) => Command::Exposure(exposure),
-    }
-}
-
+/// Admits a request. What is refused is handed back with the first refusal that holds.
 #[tactic(auto, unfolding(crate::specs::Admission::admission, crate::specs::Admission::IsAdmitted))]
-/// Admits a request. What is refused is handed back with the first refusal that holds: `UnknownParty`, `NotYours`,
-/// `WrongCurrency` or `UnsupportedRestriction`.
 pub fn admit(config: &Config, request: Request) -> Result<Command, (Request, Refusal)>
     ensures admission { MatchResult result (λ command. admission config.now request ≡ Ok command)
         (λ refused. admission config.now request ≡ Err refused.1) }
     ensures handed_back { MatchResult result (λ _. Unit {0}) (λ refused. refused.0 ≡ request) }
     ensures admitted { IfOk result (λ command. IsAdmitted config.now command) }
 {
-    match first_refusal(config, &request.platform, &request.ask) {
-        Some(refusal) => Err((request, refusal)),
-        None => Ok(command_of(request.ask)),
+    let Request { platform, ask } = request;
+    match admit_ask(config, &platform, ask) {
+        Ok(command) => Ok(command),
+        Err((ask, refusal)) => Err((Request { platform, ask }, refusal)),
     }
 }

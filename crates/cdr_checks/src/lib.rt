@@ -1,8 +1,15 @@
-//! Requests, and the commands that a house takes of them.
+//! Requests, which of them are admitted, and the commands that a house takes of them.
 #![tactic(auto)]
 
 mod admission;
+mod cdr_admission;
+mod cdr_conditions;
+mod checked;
+mod refusing;
 mod request;
 
 pub use admission::admit;
-pub use request::{Ask, Authorize, Command, ExposureOf, Release, Request};
+pub use cdr_admission::check;
+pub use cdr_conditions::is_within_tolerance;
+pub use checked::Checked;
+pub use request::{Ask, Authorize, Command, ExposureOf, Find, Release, Request};

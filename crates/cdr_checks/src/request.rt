@@ -1,5 +1,6 @@
+use super::checked::Checked;
 use ocpi_json::ci_text::CiText;
-use ocpi_types::{Currency, Party, Tariff, Token, TokenKind, TryCopy};
+use ocpi_types::{Cdr, Currency, Party, Tariff, Token, TokenKind, TryCopy};
 use std::alloc::{AllocError, Global};
 
 /// An operator asks to authorise a token of a provider.
@@ -27,6 +28,13 @@ pub struct ExposureOf {
     pub currency: Currency,
 }
 
+/// An operator asks for a CDR by its id.
+#[derive(Clone, Copy)]
+pub struct Find {
+    pub operator: Party,
+    pub id: CiText<39>,
+}
+
 /// What a request asks for.
 #[derive(Drop)]
 pub enum Ask {
@@ -35,6 +43,8 @@ pub enum Ask {
     Authorize(Authorize),
     Release(Release),
     Exposure(ExposureOf),
+    Post(Cdr),
+    Find(Find),
 }
 
 /// What a line says: a platform asks for something.
@@ -52,6 +62,8 @@ pub enum Command {
     Authorize(Authorize),
     Release(Release),
     Exposure(ExposureOf),
+    Post(Checked),
+    Find(Find),
 }
 
 impl TryCopy for Ask {
@@ -62,6 +74,8 @@ impl TryCopy for Ask {
             Ask::Authorize(authorize) => Ok(Ask::Authorize(*authorize)),
             Ask::Release(release) => Ok(Ask::Release(*release)),
             Ask::Exposure(exposure) => Ok(Ask::Exposure(*exposure)),
+            Ask::Post(cdr) => Ok(Ask::Post(cdr.copy(alloc)?)),
+            Ask::Find(find) => Ok(Ask::Find(*find)),
         }
     }
 }
@@ -84,6 +98,8 @@ impl TryCopy for Command {
             Command::Authorize(authorize) => Ok(Command::Authorize(*authorize)),
             Command::Release(release) => Ok(Command::Release(*release)),
             Command::Exposure(exposure) => Ok(Command::Exposure(*exposure)),
+            Command::Post(checked) => Ok(Command::Post(checked.copy(alloc)?)),
+            Command::Find(find) => Ok(Command::Find(*find)),
         }
     }
 }

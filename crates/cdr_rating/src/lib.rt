@@ -12,4 +12,6 @@ mod volumes;
 pub use laws::{energy_splits_at_no_cost, rounded_is_half_up, up_to_step_is_least};
 pub use ocpi_types::Zone;
 pub use price::rate;
+pub use pricing::lacks_tariff;
 pub use tally::Priced;
+pub use volumes::energy_of;

@@ -1,7 +1,7 @@
 ghost use Rattle.std.specs.Prelude.{◌≡◌, find};
 ghost use Rattle.std.specs.Option.{option_copied};
 ghost use Rattle.ocpi_json.specs.Folded.{same_folded};
-ghost use Rattle.cdr_rating.specs.Pricing.{seconds_between, tariff_of};
+ghost use Rattle.cdr_rating.specs.Pricing.{lacks_its_tariff, lacks_tariff, seconds_between, tariff_of};
 
 use jiff::Timestamp;
 use ocpi_json::ci_text::CiText;
@@ -34,4 +34,20 @@ pub(crate) fn tariff_of<'a>(cdr: &'a Cdr, period: &ChargingPeriod) -> Option<&'a
         Some(id) => tariff_among(cdr.tariffs.as_slice(), id),
         None => None,
     }
+}
+
+fn lacks_its_tariff(cdr: &Cdr, period: &ChargingPeriod) -> bool
+    ensures { result ≡ lacks_its_tariff cdr.now period.now }
+{
+    period.tariff_id.is_some() && tariff_of(cdr, period).is_none()
+}
+
+/// A charging period names a tariff that the CDR does not have.
+pub fn lacks_tariff(cdr: &Cdr) -> bool
+    ensures { result ≡ lacks_tariff cdr.now }
+{
+    cdr.charging_periods
+        .as_slice()
+        .iter()
+        .any(|period| lacks_its_tariff(cdr, period))
 }

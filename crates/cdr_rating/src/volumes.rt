@@ -1,7 +1,7 @@
 ghost use Rattle.std.specs.Prelude.{◌≡◌, ◌*◌, ◌^◌, ◌≤◌, ℤ, unsigned_abs};
-ghost use Rattle.cdr_rating.specs.Volumes.{charges_for, charging_kind, millionths_in, seconds_of_hours, volume_in};
+ghost use Rattle.cdr_rating.specs.Volumes.{charges_for, charging_kind, energy_of, millionths_in, seconds_of_hours, volume_in};
 
-use ocpi_types::{ChargingPeriod, ComponentKind, Dimension, DimensionKind};
+use ocpi_types::{Cdr, ChargingPeriod, ComponentKind, Dimension, DimensionKind};
 
 // The kind of component that charges for what a dimension counts.
 fn charging_kind(counted: &DimensionKind) -> Option<ComponentKind>
@@ -75,4 +75,17 @@ pub(crate) fn time_in(period: &ChargingPeriod) -> u128
     ensures bound { result ≤ 4 * 10 ^ 14 }
 {
     seconds_of_hours(millionths_in(ComponentKind::Time, period))
+}
+
+/// The energy of a session, in millionths of a kWh.
+pub fn energy_of(cdr: &Cdr) -> u128
+    ensures value { result ≡ energy_of cdr.now.charging_periods }
+    ensures bound { result ≤ 10 ^ 20 }
+{
+    let periods = cdr.charging_periods.as_slice();
+    let mut total = 0;
+    for period in periods {
+        total += energy_in(period);
+    }
+    total
 }

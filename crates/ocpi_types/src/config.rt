@@ -24,6 +24,9 @@ pub type CreditLimit = AtMost<1_000_000_000_000_000>;
 /// What an authorisation holds, in ten-thousandths of the currency unit.
 pub type HoldAmount = AtMost<1_000_000_000_000>;
 
+/// What a session costs, in ten-thousandths of the currency unit.
+pub type Cost = AtMost<1_000_000_000_000>;
+
 /// An operator and its time zone.
 #[derive(Drop)]
 pub struct Operator {

@@ -29,7 +29,7 @@ pub use cdr::Cdr;
 pub use cdr_token::{AuthMethod, CdrToken};
 pub use charging_period::ChargingPeriod;
 pub use component::{ComponentKind, PriceComponent, StepSize};
-pub use config::{Config, ConfigFault};
+pub use config::{Config, ConfigFault, Cost};
 pub use copying::{TryCopy, copied};
 pub use currency::Currency;
 pub use day_of_week::DayOfWeek;

@@ -1,4 +1,13 @@
+pub mod BookedLemmas
+pub mod DebtsLemmas
+pub mod EntriesLemmas
+pub mod ExposureLater
 pub mod HoldsLemmas
+pub mod LegalLemmas
 pub mod LimitsLemmas
+pub mod PeriodsLemmas
 pub mod PrintableLemmas
-pub mod SameParty
+pub mod SameScope
+pub mod TariffsLemmas
+pub mod TokensLemmas
+pub mod VerdictLemmas

@@ -1,58 +1,74 @@
--- The reply to a command on a list of events, and the event that it adds: the first case that holds.
-use Rattle.std.specs.Prelude.{ℕ, ◌+◌, pos, Bool, true, false, ◌||◌, List, [], ◌∷◌, ◌++◌, nat_lt, count_by, if◌then◌else◌, Option, Some, None, unwrap_or, option_map, codes, decimal}
+-- The reply to a command on a list of events, and the event that it adds.
+use Rattle.std.specs.Prelude.{ℕ, ◌+◌, pos, Bool, true, false, ◌||◌, List, [], ◌∷◌, ◌++◌, nat_lt, count_by, length, if◌then◌else◌, Option, Some, None, unwrap_or, option_map, codes, decimal, Ok, Err}
+use Rattle.ocpi_types.specs.declared.cdr.Cdr.{Cdr}
 use Rattle.ocpi_types.specs.declared.config.Config.{Config}
 use Rattle.ocpi_types.specs.declared.party.Party.{Party}
 use Rattle.ocpi_types.specs.declared.refusal.Refusal.TheVariants as refusal
+use Rattle.ocpi_types.specs.declared.refusal.Store.TheVariants as store
 use Rattle.ocpi_types.specs.declared.tariff.Tariff.{Tariff}
+use Rattle.ocpi_types.specs.declared.token.Token.{Token}
 use Rattle.ocpi_types.specs.Party.{same_party}
 use Rattle.ocpi_types.specs.Config.{provider_of, limit_of, hold_of, pair_limit_of}
 use Rattle.ocpi_types.specs.SameTariff.{same_tariff}
 use Rattle.cdr_checks.specs.declared.request.Authorize.{Authorize}
 use Rattle.cdr_checks.specs.declared.request.ExposureOf.{ExposureOf}
+use Rattle.cdr_checks.specs.declared.request.Find.{Find}
 use Rattle.cdr_checks.specs.declared.request.Release.{Release}
 use Rattle.cdr_checks.specs.declared.request.Command.{Command}
 use Rattle.cdr_checks.specs.declared.request.Command.TheVariants as command
+use Rattle.cdr_checks.specs.Checked.{Checked}
 use Rattle.plain_house.specs.declared.event.Hold.{Hold}
 use Rattle.plain_house.specs.declared.event.Event.{Event}
 use Rattle.plain_house.specs.declared.event.Event.TheVariants as event
 use Rattle.plain_house.specs.declared.answer.Answer.{Answer}
 use Rattle.plain_house.specs.declared.answer.Answer.TheVariants as answer
-use Rattle.plain_house.specs.Exposure.{released_hold, holds_of, debts_of, exposure_of, pair_exposure_of}
-use Rattle.plain_house.specs.Replies.{Reply, Outcome, Follows, refused, answered}
-use Rattle.plain_house.specs.Room.{full_for_provider, full_for_tariff, unless_full}
+use Rattle.plain_house.specs.declared.entry.AccountEntry.{AccountEntry}
+use Rattle.plain_house.specs.declared.entry.AccountEntry.TheVariants as account
+use Rattle.plain_house.specs.declared.entry.BookEntry.{BookEntry}
+use Rattle.plain_house.specs.Booked.{Booked, booked_as, is_credited}
+use Rattle.plain_house.specs.Entries.{period_of, book_entries, account_entries, charge_of}
+use Rattle.plain_house.specs.Exposure.{of_provider, of_pair, released_hold, holds_of, debts_of, exposure_of}
+use Rattle.plain_house.specs.Posting.{Judged, OrderSays, judged_cdr, judged_credit, over_limit, posted}
+use Rattle.plain_house.specs.Replies.{Reply, Follows, stamped, with_event}
+use Rattle.plain_house.specs.Room.{are_cdrs_full, are_versions_full, is_account_full, is_order_full, first_full}
 use Rattle.plain_house.specs.Tariffs.{stored_version}
 use Rattle.plain_house.specs.Tokens.{validity}
+use Rattle.plain_house.specs.Verdict.{Verdict, Case, replies, accepts, refused_at, unless}
 
--- ---- periods
+-- ---- put_tariff
 
-abbrev pub is_close : Event → Bool
-is_close (event.Tariff tariff) = false
-is_close (event.Token token) = false
-is_close (event.Authorised hold) = false
-is_close (event.Released release) = false
-is_close (event.Closed period) = true
+abbrev pub stored_already : Tariff → Option Tariff → Case
+stored_already tariff None = None
+stored_already tariff (Some stored) =
+    Some (if same_tariff stored tariff then Ok answer.Unchanged else Err refusal.Conflict)
 
--- the current period: periods are numbered from 0, and a close begins the next
-abbrev pub period_of : List Event → ℕ
-period_of events = count_by is_close events
+abbrev pub tariff_put : Config → List Event → Tariff → Verdict
+tariff_put config events tariff =
+    unless
+    (stored_already tariff (stored_version tariff (book_entries events))
+    ∷ refused_at (first_full ((store.Tariffs, are_versions_full config tariff.operator (book_entries events)) ∷ (store.Order, is_order_full config events) ∷ []))
+    ∷ []) (accepts answer.Stored (event.Tariff tariff))
 
--- ---- tariffs
+-- ---- put_token
 
--- by whether the version is stored already
-abbrev pub put_tariff : Config → List Event → Tariff → Option Tariff → Outcome
-put_tariff config events tariff None =
-    unless_full events (full_for_tariff config events tariff.operator) (answered events answer.Stored (event.Tariff tariff ∷ []))
-put_tariff config events tariff (Some stored) =
-    if same_tariff stored tariff then answered events answer.Unchanged [] else refused events refusal.Conflict
+-- refused where an entry of the provider's account finds no room
+abbrev pub no_room_for : Config → List Event → Party → Case
+no_room_for config events provider =
+    refused_at (first_full ((store.Account, is_account_full config provider (account_entries events)) ∷ (store.Order, is_order_full config events) ∷ []))
 
--- ---- authorisations
+abbrev pub token_put : Config → List Event → Token → Verdict
+token_put config events token =
+    unless (no_room_for config events token.provider ∷ []) (accepts answer.Stored (event.Token token))
 
-abbrev pub is_authorisation_of : Party → Event → Bool
-is_authorisation_of provider (event.Tariff tariff) = false
-is_authorisation_of provider (event.Token token) = false
-is_authorisation_of provider (event.Authorised hold) = same_party hold.provider provider
-is_authorisation_of provider (event.Released release) = false
-is_authorisation_of provider (event.Closed period) = false
+-- ---- authorize
+
+abbrev pub is_hold_of : Party → AccountEntry → Bool
+is_hold_of provider (account.Token token) = false
+is_hold_of provider (account.Hold hold) = same_party hold.provider provider
+is_hold_of provider (account.Release release) = false
+is_hold_of provider (account.Charge charge) = false
+is_hold_of provider (account.Credit credit) = false
+is_hold_of provider (account.Settlement settlement) = false
 
 -- a provider as it is configured
 abbrev pub as_configured : Config → Party → Party
@@ -62,71 +78,128 @@ abbrev pub reference_text : Party → ℕ → List ℕ
 reference_text party number = party.country_code ++ (party.party_id ++ (codes "-" ++ decimal number))
 
 -- the reference of the provider's next authorisation: its codes and the count of its authorisations so far plus 1
-abbrev pub next_reference : Config → List Event → Party → List ℕ
-next_reference config events provider =
-    reference_text (as_configured config provider) (count_by (is_authorisation_of provider) events + 1)
+abbrev pub next_reference : Config → Party → List AccountEntry → List ℕ
+next_reference config provider entries =
+    reference_text (as_configured config provider) (count_by (is_hold_of provider) entries + 1)
 
 abbrev pub passes : Option ℕ → ℕ → Bool
 passes None amount = false
 passes (Some limit) amount = nat_lt limit amount
 
 -- the hold of an authorisation would pass the provider's credit limit, or its limit with the operator
-abbrev pub lacks_credit : Config → List Event → Authorize → Bool
-lacks_credit config events ask =
+abbrev pub lacks_credit : Config → Authorize → List AccountEntry → Bool
+lacks_credit config ask entries =
     nat_lt (limit_of config ask.provider ask.currency)
-    (exposure_of events ask.provider ask.currency + hold_of config ask.provider ask.currency)
+    (exposure_of (of_provider ask.provider ask.currency) entries + hold_of config ask.provider ask.currency)
     || passes (pair_limit_of config ask.operator ask.provider ask.currency)
-    (pair_exposure_of events ask.operator ask.provider ask.currency + hold_of config ask.provider ask.currency)
+    (exposure_of (of_pair ask.operator ask.provider ask.currency) entries + hold_of config ask.provider ask.currency)
 
-abbrev pub hold_for : Config → List Event → Authorize → Hold
-hold_for config events ask = record {
+abbrev pub hold_for : Config → Authorize → List AccountEntry → Hold
+hold_for config ask entries = record {
   operator = ask.operator;
   provider = ask.provider;
   currency = ask.currency;
   amount = hold_of config ask.provider ask.currency;
-  reference = next_reference config events ask.provider;
+  reference = next_reference config ask.provider entries;
 }
 
-abbrev pub allowed : List Event → Hold → Outcome
-allowed events hold = answered events (answer.Allowed hold.reference) (event.Authorised hold ∷ [])
-
 -- by whether the token is known, and valid
-abbrev pub authorized : Config → List Event → Authorize → Option Bool → Outcome
-authorized config events ask None = refused events refusal.UnknownToken
-authorized config events ask (Some false) = answered events answer.Blocked []
-authorized config events ask (Some true) =
-    unless_full events (full_for_provider config events ask.provider)
-    (if lacks_credit config events ask then answered events answer.NoCredit [] else allowed events (hold_for config events ask))
+abbrev pub unless_valid : Option Bool → Case
+unless_valid None = Some (Err refusal.UnknownToken)
+unless_valid (Some false) = Some (Ok answer.Blocked)
+unless_valid (Some true) = None
 
--- ---- releases
+abbrev pub unless_covered : Bool → Case
+unless_covered true = Some (Ok answer.NoCredit)
+unless_covered false = None
+
+abbrev pub allows : Hold → Verdict
+allows hold = accepts (answer.Allowed hold.reference) (event.Authorised hold)
+
+abbrev pub authorized : Config → List Event → Authorize → Verdict
+authorized config events ask =
+    unless
+    (unless_valid (validity ask.provider ask.uid ask.kind (account_entries events)) ∷ no_room_for config events ask.provider
+    ∷ unless_covered (lacks_credit config ask (account_entries events)) ∷ [])
+    (allows (hold_for config ask (account_entries events)))
+
+-- ---- release
 
 -- by the open hold that the release ends
-abbrev pub release_of : Config → List Event → Release → Option Hold → Outcome
-release_of config events release None = refused events refusal.UnknownHold
+abbrev pub release_of : Config → List Event → Release → Option Hold → Verdict
+release_of config events release None = replies (Err refusal.UnknownHold)
 release_of config events release (Some hold) =
-    unless_full events (full_for_provider config events release.provider)
-    (answered events (answer.Released (pos hold.amount)) (event.Released release ∷ []))
+    unless (no_room_for config events release.provider ∷ [])
+    (accepts (answer.Released (pos hold.amount)) (event.Released release))
+
+-- ---- post
+
+abbrev pub order_says : Config → List Event → OrderSays
+order_says config events = record { is_full = is_order_full config events; period = period_of events }
+
+-- by what the operator's book says
+abbrev pub cdr_judged : Config → List Event → Cdr → ℕ → Judged → Verdict
+cdr_judged config events cdr cost judged =
+    posted
+    (record { judged = judged; is_full = are_cdrs_full config cdr.operator (book_entries events) })
+    (record { is_full = is_account_full config cdr.cdr_token.provider (account_entries events); over_limit = over_limit config (charge_of cdr cost (period_of events)) (account_entries events) })
+    (order_says config events)
+    (λ amount. accepts (answer.Accepted amount (period_of events)) (event.Cdr cdr cost))
+
+abbrev pub cdr_posted : Config → List Event → Cdr → ℕ → Verdict
+cdr_posted config events cdr cost = cdr_judged config events cdr cost (judged_cdr cdr cost (book_entries events))
+
+-- a Credit CDR passes no limit
+abbrev pub credit_judged : Config → List Event → Cdr → Judged → Verdict
+credit_judged config events credit judged =
+    posted
+    (record { judged = judged; is_full = are_cdrs_full config credit.operator (book_entries events) })
+    (record { is_full = is_account_full config credit.cdr_token.provider (account_entries events); over_limit = None })
+    (order_says config events)
+    (λ amount. accepts (answer.Accepted amount (period_of events)) (event.Credit credit amount))
+
+abbrev pub credit_posted : Config → List Event → Cdr → Verdict
+credit_posted config events credit =
+    credit_judged config events credit (judged_credit config (period_of events) credit (book_entries events))
+
+-- by what its session costs, which a Credit CDR has not
+abbrev pub post_of : Config → List Event → Cdr → Option ℕ → Verdict
+post_of config events cdr None = credit_posted config events cdr
+post_of config events cdr (Some cost) = cdr_posted config events cdr cost
+
+-- ---- exposure and find
+
+abbrev pub exposed : Config → ExposureOf → List AccountEntry → Answer
+exposed config ask entries =
+    answer.Exposure (pos (holds_of (of_provider ask.provider ask.currency) entries))
+    (pos (debts_of (of_provider ask.provider ask.currency) entries)) (pos (limit_of config ask.provider ask.currency))
+
+-- by the CDR of that operator and id
+abbrev pub found_of : Find → List BookEntry → Option Booked → Verdict
+found_of find entries None = replies (Err refusal.UnknownCdr)
+found_of find entries (Some found) =
+    replies (Ok (answer.Found found.amount found.period (is_credited find.operator find.id entries)))
 
 -- ---- commands
 
-abbrev pub exposed : Config → List Event → ExposureOf → Answer
-exposed config events ask =
-    answer.Exposure (pos (holds_of events ask.provider ask.currency)) (pos (debts_of events ask.provider ask.currency))
-    (pos (limit_of config ask.provider ask.currency))
+abbrev pub verdict : Config → List Event → Command → Verdict
+verdict config events (command.PutTariff tariff) = tariff_put config events tariff
+verdict config events (command.PutToken token) = token_put config events token
+verdict config events (command.Authorize ask) = authorized config events ask
+verdict config events (command.Release release) =
+    release_of config events release (released_hold (account_entries events) release)
+verdict config events (command.Post checked) = post_of config events checked.cdr checked.cost
+verdict config events (command.Exposure ask) = replies (Ok (exposed config ask (account_entries events)))
+verdict config events (command.Find find) =
+    found_of find (book_entries events) (booked_as find.operator find.id (book_entries events))
 
-abbrev pub outcome : Config → List Event → Command → Outcome
-outcome config events (command.PutTariff tariff) = put_tariff config events tariff (stored_version events tariff)
-outcome config events (command.PutToken token) =
-    unless_full events (full_for_provider config events token.provider) (answered events answer.Stored (event.Token token ∷ []))
-outcome config events (command.Authorize ask) =
-    authorized config events ask (validity events ask.provider ask.uid ask.kind)
-outcome config events (command.Release release) = release_of config events release (released_hold events release)
-outcome config events (command.Exposure ask) = answered events (exposed config events ask) []
+abbrev pub reply_of : Config → List Event → Command → Reply
+reply_of config events command = stamped (length events) (verdict config events command).reply
 
 -- the list after the command
 abbrev pub events_after : Config → List Event → Command → List Event
-events_after config events command = events ++ (outcome config events command).added
+events_after config events command = with_event events (verdict config events command).event
 
 -- the reply and the list after a command
 abbrev pub Does : Config → List Event → Command → Reply → List Event → Type 0
-Does config events command reply now = Follows (outcome config events command) events reply now
+Does config events command reply now = Follows (verdict config events command) events reply now

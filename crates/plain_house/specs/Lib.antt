@@ -1,9 +1,13 @@
+pub mod Booked
+pub mod Entries
 pub mod Exposure
 pub mod House
 pub mod Inner
 pub mod Legal
+pub mod Posting
 pub mod Replies
 pub mod Room
 pub mod State
 pub mod Tariffs
 pub mod Tokens
+pub mod Verdict

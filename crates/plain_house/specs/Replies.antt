@@ -1,5 +1,5 @@
--- What a command is replied to on a list of events, and what it adds to the list.
-use Rattle.std.specs.Prelude.{◌≡◌, ◌==◌, Bool, true, false, List, [], ◌++◌, length, Some, None, Result, Ok, Err}
+-- A reply: an answer or a refusal, with the number of events before it.
+use Rattle.std.specs.Prelude.{◌≡◌, ◌==◌, ℕ, Bool, true, false, List, [], ◌∷◌, ◌++◌, length, Option, Some, None, Result, Ok, Err}
 use Rattle.ocpi_types.specs.declared.refusal.Refusal.{Refusal}
 use Rattle.ocpi_types.specs.declared.refusal.Refusal.TheVariants as refusal
 use Rattle.ocpi_types.specs.Refusal.{refusal_number}
@@ -7,19 +7,19 @@ use Rattle.plain_house.specs.declared.event.Event.{Event}
 use Rattle.plain_house.specs.declared.answer.Answer.{Answer}
 use Rattle.plain_house.specs.declared.answer.Replied.{Replied}
 use Rattle.plain_house.specs.declared.answer.Refused.{Refused}
+use Rattle.plain_house.specs.Verdict.{Verdict}
 
 abbrev pub Reply : Type 0
 Reply = Result Replied Refused
 
-pub record Outcome : Type 0 where
-  pub reply : Reply
-  pub added : List Event
+-- the number of events is put on
+abbrev pub stamped : ℕ → Result Answer Refusal → Reply
+stamped at (Ok answer) = Ok (record { at = at; answer = answer })
+stamped at (Err refusal) = Err (record { at = Some at; refusal = refusal })
 
-abbrev pub refused : List Event → Refusal → Outcome
-refused events refusal = record { reply = Err (record { at = Some (length events); refusal = refusal }); added = [] }
-
-abbrev pub answered : List Event → Answer → List Event → Outcome
-answered events answer added = record { reply = Ok (record { at = length events; answer = answer }); added = added }
+abbrev pub with_event : List Event → Option Event → List Event
+with_event events None = events
+with_event events (Some event) = events ++ event ∷ []
 
 -- ---- want of memory
 
@@ -34,9 +34,9 @@ abbrev pub is_no_memory : Reply → Bool
 is_no_memory (Ok replied) = false
 is_no_memory (Err refused) = is_refusal_no_memory refused.refusal
 
--- the reply is the outcome's and the list has what it adds, or memory was refused and the list is as before
-pub record Follows (outcome : Outcome) (events : List Event) (reply : Reply) (now : List Event) : Type 0 where
-  pub reply_is : is_no_memory reply ≡ false → reply ≡ outcome.reply
-  pub events_are : is_no_memory reply ≡ false → now ≡ events ++ outcome.added
+-- the reply is the verdict's and the list has its event, or memory was refused and the list is as before
+pub record Follows (verdict : Verdict) (events : List Event) (reply : Reply) (now : List Event) : Type 0 where
+  pub reply_is : is_no_memory reply ≡ false → reply ≡ stamped (length events) verdict.reply
+  pub events_are : is_no_memory reply ≡ false → now ≡ with_event events verdict.event
   pub refused_is : is_no_memory reply ≡ true → reply ≡ no_memory
   pub unchanged : is_no_memory reply ≡ true → now ≡ events

@@ -1,34 +1,31 @@
--- The tokens that a list of events has put. A token is known by provider, uid and type; a later put replaces it.
-use Rattle.std.specs.Prelude.{ℕ, List, Bool, false, ◌&&◌, Option, option_map, find, reverse}
+-- The tokens that accounts hold. A token is known by provider, uid and type; a later put replaces it.
+use Rattle.std.specs.Prelude.{ℕ, List, [], ◌∷◌, Bool, ◌&&◌, Option, option_map, find, flat_map, reverse}
 use Rattle.ocpi_json.specs.Folded.{same_folded}
 use Rattle.ocpi_types.specs.declared.party.Party.{Party}
 use Rattle.ocpi_types.specs.declared.token.Token.{Token}
 use Rattle.ocpi_types.specs.declared.token.TokenKind.{TokenKind}
 use Rattle.ocpi_types.specs.Party.{same_party}
 use Rattle.ocpi_types.specs.TokenKind.{same_token_kind}
-use Rattle.plain_house.specs.declared.event.Event.{Event}
-use Rattle.plain_house.specs.declared.event.Event.TheVariants as event
+use Rattle.plain_house.specs.declared.entry.AccountEntry.{AccountEntry}
+use Rattle.plain_house.specs.declared.entry.AccountEntry.TheVariants as account
+
+abbrev pub token_in : AccountEntry → List Token
+token_in (account.Token token) = token ∷ []
+token_in (account.Hold hold) = []
+token_in (account.Release release) = []
+token_in (account.Charge charge) = []
+token_in (account.Credit credit) = []
+token_in (account.Settlement settlement) = []
+
+abbrev pub tokens : List AccountEntry → List Token
+tokens entries = flat_map token_in entries
 
 -- the token of this provider, uid and type
-abbrev pub is_token : Token → Party → List ℕ → TokenKind → Bool
-is_token token provider uid kind =
+abbrev pub is_token : Party → List ℕ → TokenKind → Token → Bool
+is_token provider uid kind token =
     same_party token.provider provider && same_folded token.uid uid && same_token_kind token.kind kind
 
--- the event puts that token
-abbrev pub puts : Party → List ℕ → TokenKind → Event → Bool
-puts provider uid kind (event.Tariff tariff) = false
-puts provider uid kind (event.Token token) = is_token token provider uid kind
-puts provider uid kind (event.Authorised hold) = false
-puts provider uid kind (event.Released release) = false
-puts provider uid kind (event.Closed period) = false
-
-abbrev pub is_valid_in : Event → Bool
-is_valid_in (event.Tariff tariff) = false
-is_valid_in (event.Token token) = token.valid
-is_valid_in (event.Authorised hold) = false
-is_valid_in (event.Released release) = false
-is_valid_in (event.Closed period) = false
-
--- whether the token is valid, by the last event that puts it
-abbrev pub validity : List Event → Party → List ℕ → TokenKind → Option Bool
-validity events provider uid kind = option_map is_valid_in (find (puts provider uid kind) (reverse events))
+-- whether the token is valid, as it was put last
+abbrev pub validity : Party → List ℕ → TokenKind → List AccountEntry → Option Bool
+validity provider uid kind entries =
+    option_map (λ token. token.valid) (find (is_token provider uid kind) (reverse (tokens entries)))

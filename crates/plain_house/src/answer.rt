@@ -20,10 +20,26 @@ pub enum Answer {
     Released {
         amount: Amount,
     },
+    /// The CDR is booked at this amount, in this period.
+    Accepted {
+        amount: Amount,
+        period: u64,
+    },
+    /// The same CDR was booked before, at this amount and in this period.
+    Repeated {
+        amount: Amount,
+        period: u64,
+    },
     Exposure {
         holds: Amount,
         debts: Amount,
         limit: Amount,
+    },
+    /// The CDR stands at this amount in this period.
+    Found {
+        amount: Amount,
+        period: u64,
+        credited: bool,
     },
 }
 

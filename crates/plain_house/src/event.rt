@@ -1,7 +1,8 @@
+use super::booked_amount::BookedAmount;
 use cdr_checks::Release;
 use ocpi_json::ci_text::CiText;
 use ocpi_types::config::HoldAmount;
-use ocpi_types::{Currency, Party, Tariff, Token, TryCopy};
+use ocpi_types::{Cdr, Cost, Currency, Party, Tariff, Token, TryCopy};
 use std::alloc::{AllocError, Global};
 
 /// What an allowed authorisation holds of its provider's credit.
@@ -14,6 +15,14 @@ pub struct Hold {
     pub reference: CiText<36>,
 }
 
+/// A provider has paid what it owed of a period in a currency.
+#[derive(Clone, Copy)]
+pub struct Settlement {
+    pub provider: Party,
+    pub currency: Currency,
+    pub period: u64,
+}
+
 /// What has happened in a house.
 #[derive(Drop)]
 pub enum Event {
@@ -21,6 +30,11 @@ pub enum Event {
     Token(Token),
     Authorised(Hold),
     Released(Release),
+    /// A CDR that is no Credit CDR, booked at what its session costs.
+    Cdr { cdr: Cdr, cost: Cost },
+    /// A Credit CDR, booked at the negated amount of the CDR that it credits.
+    Credit { cdr: Cdr, amount: BookedAmount },
+    Settled(Settlement),
     Closed { period: u64 },
 }
 
@@ -31,6 +45,15 @@ impl TryCopy for Event {
             Event::Token(token) => Ok(Event::Token(*token)),
             Event::Authorised(hold) => Ok(Event::Authorised(*hold)),
             Event::Released(release) => Ok(Event::Released(*release)),
+            Event::Cdr { cdr, cost } => Ok(Event::Cdr {
+                cdr: cdr.copy(alloc)?,
+                cost: *cost,
+            }),
+            Event::Credit { cdr, amount } => Ok(Event::Credit {
+                cdr: cdr.copy(alloc)?,
+                amount: *amount,
+            }),
+            Event::Settled(settlement) => Ok(Event::Settled(*settlement)),
             Event::Closed { period } => Ok(Event::Closed { period: *period }),
         }
     }

@@ -1,66 +1,95 @@
 //! The open holds of a list of events.
 
-ghost use Rattle.std.specs.Prelude.{◌≡◌, ◌<◌, ◌^◌, find, filter, option_copied};
+ghost use Rattle.std.specs.Prelude.{◌≡◌, ◌<◌, ◌^◌, ◌++◌, ◌&&◌, find, filter, option_copied};
+ghost use Rattle.ocpi_types.specs.Currency.{same_currency};
+ghost use Rattle.ocpi_types.specs.Party.{same_party};
 ghost use Rattle.std.specs.List.{list_any};
-ghost use Rattle.plain_house.specs.Exposure.{ends_hold, open_hold, total_held, holds_of, pair_holds_of, released_hold};
-ghost use Rattle.plain_house.specs.declared.event.Event.TheVariants.{Released};
-ghost use Rattle.plain_house.specs.Inner.Counted.{is_by, is_counted, counted_amount};
+ghost use Rattle.plain_house.specs.Entries.{account_entries};
+ghost use Rattle.plain_house.specs.Exposure.{ends_hold, holds_of, names, released_hold, total_held};
+ghost use Rattle.plain_house.specs.declared.entry.AccountEntry.TheVariants as account;
+ghost use Rattle.plain_house.specs.Inner.Scanned.{event_ends_hold, event_open_hold, event_open_holds, still_holds, uses, with_charge};
 
+use super::entry::Charge;
 use super::event::{Event, Hold};
+use super::scope::Scope;
 use cdr_checks::Release;
-use ocpi_types::{Currency, Party};
+use ocpi_json::ci_text::CiText;
+use ocpi_types::Cdr;
+
+/// The reference is there and is this one.
+pub fn names<const MOST: usize>(id: &CiText<MOST>, reference: &Option<CiText<MOST>>) -> bool
+    ensures { result ≡ names id.now reference.now }
+{
+    match reference {
+        Some(other) => *other == *id,
+        None => false,
+    }
+}
 
 fn is_released_by(hold: &Hold, release: &Release) -> bool
-    ensures { result ≡ ends_hold hold.now (Released release.now) }
+    ensures { result ≡ ends_hold hold.now (account.Release release.now) }
 {
     release.operator.is(&hold.operator)
         && release.provider.is(&hold.provider)
         && release.reference == hold.reference
 }
 
+fn is_charged_by(hold: &Hold, charge: &Charge) -> bool
+    ensures { result ≡ ends_hold hold.now (account.Charge charge.now) }
+{
+    charge.operator.is(&hold.operator)
+        && charge.provider.is(&hold.provider)
+        && charge.currency.is(&hold.currency)
+        && names(&hold.reference, &charge.hold)
+}
+
+fn is_used_by(hold: &Hold, cdr: &Cdr) -> bool
+    ensures { result ≡ (same_party cdr.now.operator hold.now.operator && same_party cdr.now.cdr_token.provider hold.now.provider
+        && same_currency cdr.now.currency hold.now.currency && names hold.now.reference cdr.now.authorization_reference) }
+{
+    cdr.operator.is(&hold.operator)
+        && cdr.cdr_token.provider.is(&hold.provider)
+        && cdr.currency.is(&hold.currency)
+        && names(&hold.reference, &cdr.authorization_reference)
+}
+
 fn ends(event: &Event, hold: &Hold) -> bool
-    ensures { result ≡ ends_hold hold.now event.now }
+    ensures { result ≡ event_ends_hold hold.now event.now }
 {
     match event {
         Event::Released(release) => is_released_by(hold, release),
+        Event::Cdr { cdr, .. } => is_used_by(hold, cdr),
         _ => false,
     }
 }
 
 fn is_ended(hold: &Hold, later: &[Event]) -> bool
-    ensures { result ≡ list_any (ends_hold hold.now) later.now }
+    ensures { result ≡ list_any (event_ends_hold hold.now) later.now }
 {
     later.iter().any(|event| ends(event, hold))
 }
 
-fn is_by(hold: &Hold, operator: Option<&Party>) -> bool
-    ensures { result ≡ is_by (option_copied operator.entry) hold.now }
+fn uses(charge: Option<&Charge>, hold: &Hold) -> bool
+    ensures { result ≡ uses (option_copied charge.entry) hold.now }
 {
-    match operator {
-        Some(operator) => hold.operator.is(operator),
-        None => true,
+    match charge {
+        Some(charge) => is_charged_by(hold, charge),
+        None => false,
     }
 }
 
-// The hold is one of the provider in the currency, and of the operator where one is given.
-fn is_counted(hold: &Hold, operator: Option<&Party>, provider: &Party, currency: &Currency) -> bool
-    ensures { result ≡ is_counted (option_copied operator.entry) provider.now currency.now hold.now }
+fn still_holds(hold: &Hold, scope: &Scope, charge: Option<&Charge>) -> bool
+    ensures { result ≡ still_holds scope.now (option_copied charge.entry) hold.now }
 {
-    is_by(hold, operator) && hold.provider.is(provider) && hold.currency.is(currency)
+    scope.covers(&hold.operator, &hold.provider, &hold.currency) && !uses(charge, hold)
 }
 
-fn open_amount(
-    event: &Event,
-    later: &[Event],
-    operator: Option<&Party>,
-    provider: &Party,
-    currency: &Currency,
-) -> u64
-    ensures value { result ≡ total_held (filter (is_counted (option_copied operator.entry) provider.now currency.now) (open_hold event.now later.now)) }
+fn held_by(event: &Event, later: &[Event], scope: &Scope, charge: Option<&Charge>) -> u64
+    ensures { result ≡ total_held (filter (still_holds scope.now (option_copied charge.entry)) (event_open_hold event.now later.now)) }
 {
     match event {
         Event::Authorised(hold) => {
-            if !is_ended(hold, later) && is_counted(hold, operator, provider, currency) {
+            if !is_ended(hold, later) && still_holds(hold, scope, charge) {
                 hold.amount.get()
             } else {
                 0
@@ -71,48 +100,31 @@ fn open_amount(
 }
 
 #[tactic(auto, using(crate::proofs::HoldsLemmas::holds))]
-fn counted_amount(
-    events: &[Event],
-    operator: Option<&Party>,
-    provider: &Party,
-    currency: &Currency,
-) -> u64
-    requires { counted_amount (option_copied operator) provider.now currency.now events.now < 2 ^ 64 }
-    ensures { result ≡ counted_amount (option_copied operator.entry) provider.now currency.now events.now }
+fn held_by_all(events: &[Event], scope: &Scope, charge: Option<&Charge>) -> u64
+    requires { total_held (filter (still_holds scope.now (option_copied charge)) (event_open_holds events.now)) < 2 ^ 64 }
+    ensures { result ≡ total_held (filter (still_holds scope.now (option_copied charge.entry)) (event_open_holds events.now)) }
 {
     let mut total = 0;
     let mut rest = events;
     while let Some((event, later)) = rest.split_first() {
-        total += open_amount(event, later, operator, provider, currency);
+        total += held_by(event, later, scope, charge);
         rest = later;
     }
     total
 }
 
-/// The open holds of a provider in a currency, in ten-thousandths.
-pub fn holds_of(events: &[Event], provider: &Party, currency: &Currency) -> u64
-    requires { holds_of events.now provider.now currency.now < 2 ^ 64 }
-    ensures { result ≡ holds_of events.now provider.now currency.now }
+#[tactic(auto, using(crate::proofs::HoldsLemmas::holds_with))]
+/// The open holds within the scope, once the charge is added where one is given, in ten-thousandths.
+pub fn holds_of(events: &[Event], scope: &Scope, charge: Option<&Charge>) -> u64
+    requires { holds_of scope.now (account_entries events.now ++ with_charge (option_copied charge)) < 2 ^ 64 }
+    ensures { result ≡ holds_of scope.now (account_entries events.now ++ with_charge (option_copied charge.entry)) }
 {
-    counted_amount(events, None, provider, currency)
-}
-
-/// The open holds of a provider with one operator in a currency, in ten-thousandths.
-pub fn pair_holds_of(
-    events: &[Event],
-    operator: &Party,
-    provider: &Party,
-    currency: &Currency,
-) -> u64
-    requires { pair_holds_of events.now operator.now provider.now currency.now < 2 ^ 64 }
-    ensures { result ≡ pair_holds_of events.now operator.now provider.now currency.now }
-{
-    counted_amount(events, Some(operator), provider, currency)
+    held_by_all(events, scope, charge)
 }
 
 // The hold of the event, where it is open and the release ends it.
 fn released_in<'a>(event: &'a Event, later: &[Event], release: &Release) -> Option<&'a Hold>
-    ensures { option_copied result ≡ find (λ hold. ends_hold hold (Released release.now)) (open_hold event.now later.now) }
+    ensures { option_copied result ≡ find (λ hold. ends_hold hold (account.Release release.now)) (event_open_hold event.now later.now) }
 {
     match event {
         Event::Authorised(hold) => {
@@ -126,10 +138,9 @@ fn released_in<'a>(event: &'a Event, later: &[Event], release: &Release) -> Opti
     }
 }
 
-/// The open hold that the release ends.
 #[tactic(auto, using(crate::proofs::HoldsLemmas::first_hold))]
-pub fn released_hold<'a>(events: &'a [Event], release: &Release) -> Option<&'a Hold>
-    ensures { option_copied result ≡ released_hold events.now release.now }
+fn first_released<'a>(events: &'a [Event], release: &Release) -> Option<&'a Hold>
+    ensures { option_copied result ≡ find (λ hold. ends_hold hold (account.Release release.now)) (event_open_holds events.now) }
 {
     let mut rest = events;
     while let Some((event, later)) = rest.split_first() {
@@ -140,4 +151,12 @@ pub fn released_hold<'a>(events: &'a [Event], release: &Release) -> Option<&'a H
         rest = later;
     }
     None
+}
+
+#[tactic(auto, using(crate::proofs::EntriesLemmas::open_in_events))]
+/// The open hold that the release ends.
+pub fn released_hold<'a>(events: &'a [Event], release: &Release) -> Option<&'a Hold>
+    ensures { option_copied result ≡ released_hold (account_entries events.now) release.now }
+{
+    first_released(events, release)
 }

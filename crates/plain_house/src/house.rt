@@ -11,7 +11,10 @@ use std::alloc::Global;
 use std::marker::Model;
 
 mod authorize;
+mod credit;
 mod exposure;
+mod find;
+mod post;
 mod put_tariff;
 mod put_token;
 mod release;
@@ -27,6 +30,8 @@ fn reply(config: &Config, events: &mut Vec<Event>, command: Command) -> Result<R
         Command::PutToken(token) => put_token::put_token(config, events, token),
         Command::Authorize(ask) => authorize::authorize(config, events, ask),
         Command::Release(release) => release::release(config, events, release),
+        Command::Post(checked) => post::post(config, events, checked),
+        Command::Find(find) => find::find(events.as_slice(), find),
         Command::Exposure(ask) => Ok(exposure::exposure(config, events.as_slice(), ask)),
     }
 }
@@ -40,13 +45,13 @@ pub struct PlainHouse {
 
 impl Model for PlainHouse {
     ghost use Rattle.plain_house.specs.State.{State};
-    ghost use Rattle.plain_house.specs.Legal.{KeepsLimits};
+    ghost use Rattle.plain_house.specs.Legal.{IsLegal};
 
     ghost Value = { State };
 
     ghost view = { λ house. record { config = house.config; events = house.events.items } };
 
-    ghost invariant = { λ house. KeepsLimits house.config house.events.items };
+    ghost invariant = { λ house. IsLegal house.config house.events.items };
 }
 
 impl PlainHouse {

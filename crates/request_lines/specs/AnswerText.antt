@@ -1,6 +1,6 @@
 -- The line that answers a request: one JSON object, with its members in this order and no space, and a newline.
 use Rattle.std.specs.Prelude.{ℕ, ℤ, Bool, true, false, List, [], ◌∷◌, ◌++◌, Option, Some, None, Ok, Err, codes, decimal}
-use Rattle.json.specs.Token.{Token, begin_object, end_object, key, string, number}
+use Rattle.json.specs.Token.{Token, begin_object, end_object, key, string, number, boolean}
 use Rattle.json.specs.Print.{print}
 use Rattle.exact_money.specs.Amount.{amount_text}
 use Rattle.ocpi_json.specs.Name as name
@@ -8,7 +8,7 @@ use Rattle.ocpi_types.specs.declared.refusal.Refusal.{Refusal}
 use Rattle.ocpi_types.specs.declared.refusal.Refusal.TheVariants as refusal
 use Rattle.ocpi_types.specs.Refusal.{refusal_name, store_name, refusal_number, refusal_status}
 use Rattle.plain_house.specs.declared.answer.Answer.{Answer}
-use Rattle.plain_house.specs.declared.answer.Answer.TheVariants.{Stored, Unchanged, Allowed, Blocked, NoCredit, Released, Exposure}
+use Rattle.plain_house.specs.declared.answer.Answer.TheVariants.{Stored, Unchanged, Allowed, Blocked, NoCredit, Released, Accepted, Repeated, Exposure, Found}
 use Rattle.plain_house.specs.declared.answer.Replied.{Replied}
 use Rattle.plain_house.specs.declared.answer.Refused.{Refused}
 use Rattle.plain_house.specs.Replies.{Reply}
@@ -26,6 +26,13 @@ number_member called n = key called ∷ number (decimal n) ∷ []
 unfoldable pub amount_member : List ℕ → ℤ → List Token
 amount_member called amount = key called ∷ string (amount_text amount) ∷ []
 
+unfoldable pub flag_member : List ℕ → Bool → List Token
+flag_member called flag = key called ∷ boolean flag ∷ []
+
+-- where a CDR is booked
+abbrev pub booked_members : ℤ → ℕ → List Token
+booked_members amount period = amount_member (codes "amount") amount ++ number_member (codes "period") period
+
 -- ---- answers
 
 abbrev pub answer_name : Answer → List ℕ
@@ -35,7 +42,10 @@ answer_name (Allowed reference) = codes "ALLOWED"
 answer_name Blocked = codes "BLOCKED"
 answer_name NoCredit = codes "NO_CREDIT"
 answer_name (Released amount) = codes "Released"
+answer_name (Accepted amount period) = codes "Accepted"
+answer_name (Repeated amount period) = codes "Repeated"
 answer_name (Exposure holds debts limit) = codes "Exposure"
+answer_name (Found amount period credited) = codes "Found"
 
 abbrev pub answer_values : Answer → List Token
 answer_values Stored = []
@@ -44,8 +54,11 @@ answer_values (Allowed reference) = text_member (codes "authorization_reference"
 answer_values Blocked = []
 answer_values NoCredit = []
 answer_values (Released amount) = amount_member (codes "amount") amount
+answer_values (Accepted amount period) = booked_members amount period
+answer_values (Repeated amount period) = booked_members amount period
 answer_values (Exposure holds debts limit) =
     amount_member (codes "holds") holds ++ (amount_member (codes "debts") debts ++ amount_member (codes "limit") limit)
+answer_values (Found amount period credited) = booked_members amount period ++ flag_member (codes "credited") credited
 
 -- ---- refusals
 

@@ -2,7 +2,7 @@
 use Rattle.std.specs.Prelude.{ℕ, List, Option, Some, None, codes, if◌then◌else◌}
 use Rattle.std.specs.Str.{bytes_eq}
 use Rattle.request_lines.specs.declared.requests.CommandName.{CommandName}
-use Rattle.request_lines.specs.declared.requests.CommandName.TheVariants.{PutTariff, PutToken, Authorize, Release, Exposure}
+use Rattle.request_lines.specs.declared.requests.CommandName.TheVariants.{PutTariff, PutToken, Authorize, Release, Post, Exposure, Find}
 
 abbrev pub command_named : List ℕ → Option CommandName
 command_named text =
@@ -10,4 +10,6 @@ command_named text =
     else (if bytes_eq text (codes "put_token") then Some PutToken
     else (if bytes_eq text (codes "authorize") then Some Authorize
     else (if bytes_eq text (codes "release") then Some Release
-    else (if bytes_eq text (codes "exposure") then Some Exposure else None))))
+    else (if bytes_eq text (codes "post") then Some Post
+    else (if bytes_eq text (codes "exposure") then Some Exposure
+    else (if bytes_eq text (codes "find") then Some Find else None))))))

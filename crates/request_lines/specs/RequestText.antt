@@ -10,6 +10,7 @@ use Rattle.ocpi_types.specs.declared.refusal.Refusal.{Refusal}
 use Rattle.ocpi_types.specs.declared.refusal.Refusal.TheVariants as refusal
 use Rattle.ocpi_types.specs.declared.token.TokenKind.{TokenKind}
 use Rattle.ocpi_types.specs.declared.token.TokenKind.TheVariants.{Rfid}
+use Rattle.ocpi_types.specs.Cdr.{cdr_at}
 use Rattle.ocpi_types.specs.Currency.{currency_of}
 use Rattle.ocpi_types.specs.Party.{party_of}
 use Rattle.ocpi_types.specs.Tariff.{tariff_at}
@@ -54,18 +55,32 @@ release_at node = do
   reference ← required (as_ci_text 36) name.Reference node
   Ok (ask.Release (record { operator = operator; provider = provider; reference = reference }))
 
+unfoldable pub post_at : Data → Result Ask Name
+post_at node = do
+  object ← required as_object_node name.Cdr node
+  cdr ← cdr_at object
+  Ok (ask.Post cdr)
+
 unfoldable pub exposure_at : Data → Result Ask Name
 exposure_at node = do
   provider ← required (as_parsed party_of) name.Provider node
   currency ← required (as_parsed currency_of) name.Currency node
   Ok (ask.Exposure (record { provider = provider; currency = currency }))
 
+unfoldable pub find_at : Data → Result Ask Name
+find_at node = do
+  operator ← required (as_parsed party_of) name.Operator node
+  id ← required (as_ci_text 39) name.Id node
+  Ok (ask.Find (record { operator = operator; id = id }))
+
 abbrev pub ask_at : CommandName → Data → Result Ask Name
 ask_at command.PutTariff node = tariff_ask_at node
 ask_at command.PutToken node = token_ask_at node
 ask_at command.Authorize node = authorize_at node
 ask_at command.Release node = release_at node
+ask_at command.Post node = post_at node
 ask_at command.Exposure node = exposure_at node
+ask_at command.Find node = find_at node
 
 unfoldable pub request_at : Data → Result Request Name
 request_at node = do

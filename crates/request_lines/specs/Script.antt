@@ -6,7 +6,7 @@ use Rattle.cdr_checks.specs.declared.request.Command.{Command}
 use Rattle.cdr_checks.specs.declared.request.Request.{Request}
 use Rattle.cdr_checks.specs.Admission.{admission}
 use Rattle.plain_house.specs.declared.event.Event.{Event}
-use Rattle.plain_house.specs.House.{outcome, events_after}
+use Rattle.plain_house.specs.House.{reply_of, events_after}
 use Rattle.plain_house.specs.Replies.{Reply}
 use Rattle.request_lines.specs.RequestText.{request_of}
 use Rattle.request_lines.specs.AnswerText.{answer_text}
@@ -24,7 +24,7 @@ unfoldable pub command_in : Config → List ℕ → Result Command Refusal
 command_in config line = admitted config (request_of line)
 
 abbrev pub reply_to : Config → List Event → Result Command Refusal → Reply
-reply_to config events (Ok command) = (outcome config events command).reply
+reply_to config events (Ok command) = reply_of config events command
 reply_to config events (Err refusal) = Err (record { at = None; refusal = refusal })
 
 abbrev pub list_with : Config → List Event → Result Command Refusal → List Event

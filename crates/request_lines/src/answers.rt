@@ -2,7 +2,7 @@
 
 ghost use Rattle.std.specs.Prelude.{◌≡◌, IfOk, [], option_map};
 ghost use Rattle.request_lines.specs.Inner.Adding.{Adds};
-ghost use Rattle.request_lines.specs.AnswerText.{text_member, number_member, amount_member, answer_name, answer_values, at_member, scope_member, refusal_values, opening, replied_values, refused_values, reply_values, answer_text};
+ghost use Rattle.request_lines.specs.AnswerText.{text_member, number_member, amount_member, flag_member, booked_members, answer_name, answer_values, at_member, scope_member, refusal_values, opening, replied_values, refused_values, reply_values, answer_text};
 
 use super::lines::NEWLINE;
 use exact_money::Amount;
@@ -51,7 +51,10 @@ fn answer_name(answer: &Answer) -> &'static str
         Answer::Blocked => "BLOCKED",
         Answer::NoCredit => "NO_CREDIT",
         Answer::Released { .. } => "Released",
+        Answer::Accepted { .. } => "Accepted",
+        Answer::Repeated { .. } => "Repeated",
         Answer::Exposure { .. } => "Exposure",
+        Answer::Found { .. } => "Found",
     }
 }
 
@@ -69,6 +72,39 @@ fn put_exposure(
     put_amount(alloc, out, "limit", limit)
 }
 
+#[tactic(auto, unfolding(crate::specs::AnswerText::flag_member))]
+fn put_flag(out: &mut Writer, called: &str, flag: bool) -> Result<(), AllocError>
+    ensures { Adds result out.old out.new (flag_member called.now flag) }
+{
+    out.key(called)?;
+    out.boolean(flag)
+}
+
+fn put_booked(
+    alloc: Global,
+    out: &mut Writer,
+    amount: Amount,
+    period: u64,
+) -> Result<(), AllocError>
+    ensures { Adds result out.old out.new (booked_members amount period) }
+{
+    put_amount(alloc, out, "amount", amount)?;
+    put_number(out, "period", period)
+}
+
+fn put_found(
+    alloc: Global,
+    out: &mut Writer,
+    amount: Amount,
+    period: u64,
+    credited: bool,
+) -> Result<(), AllocError>
+    ensures { Adds result out.old out.new (answer_values (Answer.Found amount period credited)) }
+{
+    put_booked(alloc, out, amount, period)?;
+    put_flag(out, "credited", credited)
+}
+
 fn put_answer_values(alloc: Global, out: &mut Writer, answer: &Answer) -> Result<(), AllocError>
     ensures { Adds result out.old out.new (answer_values answer.now) }
 {
@@ -78,6 +114,13 @@ fn put_answer_values(alloc: Global, out: &mut Writer, answer: &Answer) -> Result
             put_text(out, "authorization_reference", reference.as_str())
         }
         Answer::Released { amount } => put_amount(alloc, out, "amount", *amount),
+        Answer::Accepted { amount, period } => put_booked(alloc, out, *amount, *period),
+        Answer::Repeated { amount, period } => put_booked(alloc, out, *amount, *period),
+        Answer::Found {
+            amount,
+            period,
+            credited,
+        } => put_found(alloc, out, *amount, *period, *credited),
         Answer::Exposure {
             holds,
             debts,

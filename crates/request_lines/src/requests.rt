@@ -4,14 +4,14 @@ ghost use Rattle.std.specs.Prelude.{◌≡◌, IfOk, IfErr, Ok, Err, false};
 ghost use Rattle.json.specs.Value.{value_view as view};
 ghost use Rattle.ocpi_json.specs.Faults.{Finds};
 ghost use Rattle.plain_house.specs.Replies.{is_refusal_no_memory};
-ghost use Rattle.request_lines.specs.RequestText.{authorize_at, exposure_at, release_at, tariff_ask_at, token_ask_at, ask_at, request_at, kind_or_rfid, request_of};
+ghost use Rattle.request_lines.specs.RequestText.{authorize_at, exposure_at, find_at, post_at, release_at, tariff_ask_at, token_ask_at, ask_at, request_at, kind_or_rfid, request_of};
 
-use cdr_checks::{Ask, Authorize, ExposureOf, Release, Request};
+use cdr_checks::{Ask, Authorize, ExposureOf, Find, Release, Request};
 use ocpi_json::fields::{self, FieldFault};
 use ocpi_json::name::Name;
 use ocpi_json::objects::{FromNode, FromNodeIn, FromText};
 use ocpi_json::{Node, ReadFault, Room};
-use ocpi_types::{Refusal, Tariff, Token, TokenKind, members};
+use ocpi_types::{Cdr, Refusal, Tariff, Token, TokenKind, members};
 use std::alloc::Global;
 
 /// The commands of request lines, as the member `do` names them.
@@ -21,7 +21,9 @@ pub enum CommandName {
     PutToken,
     Authorize,
     Release,
+    Post,
     Exposure,
+    Find,
 }
 
 impl FromText for CommandName {
@@ -35,7 +37,9 @@ impl FromText for CommandName {
             "put_token" => Some(CommandName::PutToken),
             "authorize" => Some(CommandName::Authorize),
             "release" => Some(CommandName::Release),
+            "post" => Some(CommandName::Post),
             "exposure" => Some(CommandName::Exposure),
+            "find" => Some(CommandName::Find),
             _ => None,
         }
     }
@@ -95,6 +99,14 @@ fn read_release(node: &Node) -> Result<Ask, Name>
     }))
 }
 
+#[tactic(auto, unfolding(crate::specs::RequestText::post_at))]
+fn read_post(alloc: Global, node: &Node) -> Result<Ask, FieldFault>
+    ensures { Finds result (post_at (view node.now)) }
+{
+    let cdr = Cdr::from_node_in(alloc, fields::object(node, Name::Cdr)?)?;
+    Ok(Ask::Post(cdr))
+}
+
 #[tactic(auto, unfolding(crate::specs::RequestText::exposure_at))]
 fn read_exposure(node: &Node) -> Result<Ask, Name>
     ensures { result ≡ exposure_at (view node.now) }
@@ -102,6 +114,15 @@ fn read_exposure(node: &Node) -> Result<Ask, Name>
     let provider = members::party(node, Name::Provider)?;
     let currency = members::currency(node, Name::Currency)?;
     Ok(Ask::Exposure(ExposureOf { provider, currency }))
+}
+
+#[tactic(auto, unfolding(crate::specs::RequestText::find_at))]
+fn read_find(node: &Node) -> Result<Ask, Name>
+    ensures { result ≡ find_at (view node.now) }
+{
+    let operator = members::party(node, Name::Operator)?;
+    let id = fields::ci_text(node, Name::Id)?;
+    Ok(Ask::Find(Find { operator, id }))
 }
 
 fn read_ask(alloc: Global, command: CommandName, node: &Node) -> Result<Ask, FieldFault>
@@ -112,7 +133,9 @@ fn read_ask(alloc: Global, command: CommandName, node: &Node) -> Result<Ask, Fie
         CommandName::PutToken => Ok(read_token(node)?),
         CommandName::Authorize => Ok(read_authorize(node)?),
         CommandName::Release => Ok(read_release(node)?),
+        CommandName::Post => read_post(alloc, node),
         CommandName::Exposure => Ok(read_exposure(node)?),
+        CommandName::Find => Ok(read_find(node)?),
     }
 }
 

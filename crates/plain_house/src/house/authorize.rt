@@ -1,18 +1,22 @@
 //! Authorising a token.
 
-ghost use Rattle.std.specs.Prelude.{◌≡◌, ◌≤◌, ◌+◌, ◌^◌, true, Some};
+ghost use Rattle.std.specs.Prelude.{◌≡◌, ◌≤◌, ◌+◌, ◌^◌, [], ◌∷◌, count_by, length};
 ghost use Rattle.ocpi_types.specs.Config.{pair_limit_of};
 ghost use Rattle.cdr_checks.specs.declared.request.Command.TheVariants.{Authorize as AuthorizeCommand};
-ghost use Rattle.plain_house.specs.Exposure.{pair_exposure_of};
-ghost use Rattle.plain_house.specs.House.{Does, is_authorisation_of, lacks_credit, next_reference, authorized, hold_for, passes, reference_text};
+ghost use Rattle.plain_house.specs.Entries.{account_entries};
+ghost use Rattle.plain_house.specs.Exposure.{exposure_of, of_pair};
+ghost use Rattle.plain_house.specs.House.{Does, allows, hold_for, is_hold_of, lacks_credit, next_reference, no_room_for, passes, reference_text, unless_covered};
+ghost use Rattle.plain_house.specs.Inner.Scanned.{event_is_hold_of};
 ghost use Rattle.plain_house.specs.Legal.{KeepsLimits};
 ghost use Rattle.plain_house.specs.Replies.{Follows};
+ghost use Rattle.plain_house.specs.Verdict.{unless};
 
 use super::replies::{add, refused, replied};
 use super::room::full_for_provider;
 use crate::answer::{Answer, Refused, Replied};
+use crate::debts::exposure_of;
 use crate::event::{Event, Hold};
-use crate::holds::{holds_of, pair_holds_of};
+use crate::scope::Scope;
 use crate::tokens::validity;
 use arrayvec::ArrayString;
 use cdr_checks::Authorize;
@@ -20,8 +24,8 @@ use itoa::Buffer;
 use ocpi_json::ci_text::CiText;
 use ocpi_types::{Config, Party, Refusal};
 
-fn is_authorisation_of(event: &Event, provider: &Party) -> bool
-    ensures { result ≡ is_authorisation_of provider.now event.now }
+fn is_hold_of(event: &Event, provider: &Party) -> bool
+    ensures { result ≡ event_is_hold_of provider.now event.now }
 {
     match event {
         Event::Authorised(hold) => hold.provider.is(provider),
@@ -29,15 +33,26 @@ fn is_authorisation_of(event: &Event, provider: &Party) -> bool
     }
 }
 
+fn holds_in(events: &[Event], provider: &Party) -> u64
+    ensures value { result ≡ count_by (event_is_hold_of provider.now) events.now }
+    ensures bound { result ≤ length events.now }
+{
+    let found = events.iter().filter(|event| is_hold_of(event, provider));
+    found.count() as u64
+}
+
+fn holds_so_far(events: &[Event], provider: &Party) -> u64
+    ensures value { result ≡ count_by (is_hold_of provider.now) (account_entries events.now) }
+    ensures bound { result ≤ length events.now }
+{
+    holds_in(events, provider)
+}
+
 // The reference of the provider's next authorisation.
 fn next_reference(config: &Config, events: &[Event], provider: &Party) -> CiText<36>
-    ensures { result ≡ next_reference config.now events.now provider.now }
+    ensures { result ≡ next_reference config.now provider.now (account_entries events.now) }
 {
-    let count = events
-        .iter()
-        .filter(|event| is_authorisation_of(event, provider))
-        .count();
-    let number = count as u64 + 1;
+    let number = holds_so_far(events, provider) + 1;
     match config.provider(provider) {
         Some(configured) => reference(&configured.party, number),
         None => reference(provider, number),
@@ -60,11 +75,12 @@ fn reference(party: &Party, number: u64) -> CiText<36>
 // The hold would pass the provider's credit limit, or its limit with the operator.
 fn lacks_credit(config: &Config, events: &[Event], ask: &Authorize) -> bool
     requires { KeepsLimits config.now events.now }
-    ensures { result ≡ lacks_credit config.now events.now ask.now }
+    ensures { result ≡ lacks_credit config.now ask.now (account_entries events.now) }
 {
     let hold = config.hold(&ask.provider, &ask.currency).get();
     let limit = config.limit(&ask.provider, &ask.currency).get();
-    let exposure = holds_of(events, &ask.provider, &ask.currency);
+    let scope = Scope::of_provider(ask.provider, ask.currency);
+    let exposure = exposure_of(events, &scope, None);
     limit < exposure + hold || lacks_pair_credit(config, events, ask, hold)
 }
 
@@ -72,12 +88,13 @@ fn lacks_pair_credit(config: &Config, events: &[Event], ask: &Authorize, hold: u
     requires limits { KeepsLimits config.now events.now }
     requires hold { hold ≤ 10 ^ 12 }
     ensures { result ≡ passes (pair_limit_of config.now ask.now.operator ask.now.provider ask.now.currency)
-        (pair_exposure_of events.now ask.now.operator ask.now.provider ask.now.currency + hold) }
+        (exposure_of (of_pair ask.now.operator ask.now.provider ask.now.currency) (account_entries events.now) + hold) }
 {
     match config.pair_limit(&ask.operator, &ask.provider, &ask.currency) {
         Some(limit) => {
             let most = limit.get();
-            let exposure = pair_holds_of(events, &ask.operator, &ask.provider, &ask.currency);
+            let scope = Scope::of_pair(ask.operator, ask.provider, ask.currency);
+            let exposure = exposure_of(events, &scope, None);
             most < exposure + hold
         }
         None => false,
@@ -85,7 +102,7 @@ fn lacks_pair_credit(config: &Config, events: &[Event], ask: &Authorize, hold: u
 }
 
 fn hold_for(config: &Config, events: &[Event], ask: &Authorize) -> Hold
-    ensures { result ≡ hold_for config.now events.now ask.now }
+    ensures { result ≡ hold_for config.now ask.now (account_entries events.now) }
 {
     Hold {
         operator: ask.operator,
@@ -99,7 +116,9 @@ fn hold_for(config: &Config, events: &[Event], ask: &Authorize) -> Hold
 // Authorises a valid token.
 fn grant(config: &Config, events: &mut Vec<Event>, ask: &Authorize) -> Result<Replied, Refused>
     requires { KeepsLimits config.now events.old.items }
-    ensures { Follows (authorized config.now events.old.items ask.now (Some true)) events.old.items result events.new.items }
+    ensures { Follows (unless (no_room_for config.now events.old.items ask.now.provider
+        ∷ unless_covered (lacks_credit config.now ask.now (account_entries events.old.items)) ∷ [])
+        (allows (hold_for config.now ask.now (account_entries events.old.items)))) events.old.items result events.new.items }
 {
     let at = events.len();
     if let Some(what) = full_for_provider(config, events.as_slice(), &ask.provider) {

@@ -1,55 +1,15 @@
 //! Storing a version of a tariff.
 
-ghost use Rattle.std.specs.Prelude.{◌≡◌, find};
-ghost use Rattle.std.specs.Option.{option_copied};
+ghost use Rattle.std.specs.Prelude.{◌≡◌};
 ghost use Rattle.cdr_checks.specs.declared.request.Command.TheVariants.{PutTariff};
 ghost use Rattle.plain_house.specs.House.{Does};
-ghost use Rattle.plain_house.specs.Tariffs.{same_version, stores, tariff_in, stored_version};
 
 use super::replies::{add, refused, replied};
 use super::room::full_for_tariff;
 use crate::answer::{Answer, Refused, Replied};
 use crate::event::Event;
+use crate::tariffs::stored_version;
 use ocpi_types::{Config, Refusal, Tariff, same_tariff};
-
-// The same operator, id and moment.
-fn is_version(tariff: &Tariff, version: &Tariff) -> bool
-    ensures { result ≡ same_version tariff.now version.now }
-{
-    tariff.operator.is(&version.operator)
-        && tariff.id == version.id
-        && tariff.last_updated == version.last_updated
-}
-
-fn stores(event: &Event, version: &Tariff) -> bool
-    ensures { result ≡ stores version.now event.now }
-{
-    match event {
-        Event::Tariff(tariff) => is_version(tariff, version),
-        _ => false,
-    }
-}
-
-fn tariff_in(event: &Event) -> Option<&Tariff>
-    ensures { option_copied result ≡ tariff_in event.now }
-{
-    match event {
-        Event::Tariff(tariff) => Some(tariff),
-        _ => None,
-    }
-}
-
-fn storing_event<'a>(events: &'a [Event], version: &Tariff) -> Option<&'a Event>
-    ensures { option_copied result ≡ find (stores version.now) events.now }
-{
-    events.iter().find(|event| stores(event, version))
-}
-
-fn stored_version<'a>(events: &'a [Event], version: &Tariff) -> Option<&'a Tariff>
-    ensures { option_copied result ≡ stored_version events.now version.now }
-{
-    tariff_in(storing_event(events, version)?)
-}
 
 pub fn put_tariff(
     config: &Config,

@@ -1,7 +1,8 @@
 //! Replies, and the events that go with them.
 
-ghost use Rattle.std.specs.Prelude.{◌≡◌, Some, None, ◌∷◌, []};
-ghost use Rattle.plain_house.specs.Replies.{Follows, answered};
+ghost use Rattle.std.specs.Prelude.{◌≡◌, Some, None};
+ghost use Rattle.plain_house.specs.Replies.{Follows, stamped};
+ghost use Rattle.plain_house.specs.Verdict.{accepts};
 
 use crate::answer::{Answer, Refused, Replied};
 use crate::event::Event;
@@ -36,9 +37,19 @@ pub fn replied(at: usize, answer: Answer) -> Replied
     }
 }
 
+/// The reply of a house that has `at` events.
+pub fn stamped(at: usize, reply: Result<Answer, Refusal>) -> Result<Replied, Refused>
+    ensures { result ≡ stamped at reply }
+{
+    match reply {
+        Ok(answer) => Ok(replied(at, answer)),
+        Err(refusal) => Err(refused(at, refusal)),
+    }
+}
+
 /// Adds the event and answers.
 pub fn add(events: &mut Vec<Event>, event: Event, answer: Answer) -> Result<Replied, Refused>
-    ensures { Follows (answered events.old.items answer (event ∷ [])) events.old.items result events.new.items }
+    ensures { Follows (accepts answer event) events.old.items result events.new.items }
 {
     let at = events.len();
     match events.push(event) {

@@ -1,0 +1,8 @@
+use Rattle.std.proofs.Common.{subst, sym, List}
+use Rattle.plain_house.specs.declared.event.Event.{Event}
+use Rattle.plain_house.specs.Legal.{IsLegal}
+use Rattle.plain_house.proofs.LegalLemmas.{legal_empty}
+use Rattle.plain_house.proofs.house.PlainHouse.new.Goals as goal
+
+pub invariant_of-result : goal.invariant_of-result
+invariant_of-result c = rw c.new.ensures.items (legal_empty _)

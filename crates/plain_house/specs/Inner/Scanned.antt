@@ -1,0 +1,195 @@
+-- What is sought in entries, said of the events themselves: a scan of events finds the same.
+use Rattle.std.specs.Prelude.{◌≡◌, ℕ, pos, Result, List, [], ◌∷◌, ◌++◌, Bool, false, not, ◌&&◌, ◌==◌, if◌then◌else◌, Option, Some, None, filter}
+use Rattle.std.specs.List.{list_any}
+use Rattle.ocpi_json.specs.Folded.{same_folded}
+use Rattle.ocpi_types.specs.declared.party.Party.{Party}
+use Rattle.ocpi_types.specs.declared.tariff.Tariff.{Tariff}
+use Rattle.ocpi_types.specs.declared.token.Token.{Token}
+use Rattle.ocpi_types.specs.Party.{same_party}
+use Rattle.ocpi_types.specs.Currency.{same_currency}
+use Rattle.ocpi_types.specs.SameTariff.{same_tariff}
+use Rattle.ocpi_types.specs.declared.refusal.Refusal.{Refusal}
+use Rattle.plain_house.specs.declared.answer.Answer.{Answer}
+use Rattle.plain_house.specs.Replies.{is_no_memory, stamped}
+use Rattle.plain_house.specs.declared.scope.Scope.{Scope}
+use Rattle.plain_house.specs.declared.event.Hold.{Hold}
+use Rattle.plain_house.specs.declared.event.Event.{Event}
+use Rattle.plain_house.specs.declared.event.Event.TheVariants as event
+use Rattle.plain_house.specs.declared.entry.AccountEntry.{AccountEntry}
+use Rattle.plain_house.specs.declared.entry.AccountEntry.TheVariants as account
+use Rattle.plain_house.specs.declared.entry.Charge.{Charge}
+use Rattle.plain_house.specs.Exposure.{names, charges, charges_within, ends_hold, holds_within}
+use Rattle.plain_house.specs.Booked.{Booked}
+use Rattle.plain_house.specs.declared.booked.BookedCdr.{BookedCdr}
+
+-- ---- books
+
+abbrev pub version_of_event : Event → List Tariff
+version_of_event (event.Tariff tariff) = tariff ∷ []
+version_of_event (event.Token token) = []
+version_of_event (event.Authorised hold) = []
+version_of_event (event.Released release) = []
+version_of_event (event.Cdr cdr cost) = []
+version_of_event (event.Credit cdr amount) = []
+version_of_event (event.Settled settlement) = []
+version_of_event (event.Closed period) = []
+
+-- the event stores a version of the operator with the content of the tariff
+abbrev pub event_registers : Party → Tariff → Event → Bool
+event_registers operator tariff (event.Tariff version) = same_party version.operator operator && same_tariff version tariff
+event_registers operator tariff (event.Token token) = false
+event_registers operator tariff (event.Authorised hold) = false
+event_registers operator tariff (event.Released release) = false
+event_registers operator tariff (event.Cdr cdr cost) = false
+event_registers operator tariff (event.Credit cdr amount) = false
+event_registers operator tariff (event.Settled settlement) = false
+event_registers operator tariff (event.Closed period) = false
+
+abbrev pub event_is_version_of : Party → Event → Bool
+event_is_version_of operator (event.Tariff tariff) = same_party tariff.operator operator
+event_is_version_of operator (event.Token token) = false
+event_is_version_of operator (event.Authorised hold) = false
+event_is_version_of operator (event.Released release) = false
+event_is_version_of operator (event.Cdr cdr cost) = false
+event_is_version_of operator (event.Credit cdr amount) = false
+event_is_version_of operator (event.Settled settlement) = false
+event_is_version_of operator (event.Closed period) = false
+
+abbrev pub event_is_cdr_of : Party → Event → Bool
+event_is_cdr_of operator (event.Tariff tariff) = false
+event_is_cdr_of operator (event.Token token) = false
+event_is_cdr_of operator (event.Authorised hold) = false
+event_is_cdr_of operator (event.Released release) = false
+event_is_cdr_of operator (event.Cdr cdr cost) = same_party cdr.operator operator
+event_is_cdr_of operator (event.Credit cdr amount) = same_party cdr.operator operator
+event_is_cdr_of operator (event.Settled settlement) = false
+event_is_cdr_of operator (event.Closed period) = false
+
+abbrev pub event_credits : Party → List ℕ → Event → Bool
+event_credits operator id (event.Tariff tariff) = false
+event_credits operator id (event.Token token) = false
+event_credits operator id (event.Authorised hold) = false
+event_credits operator id (event.Released release) = false
+event_credits operator id (event.Cdr cdr cost) = same_party cdr.operator operator && names id cdr.credit
+event_credits operator id (event.Credit cdr amount) = same_party cdr.operator operator && names id cdr.credit
+event_credits operator id (event.Settled settlement) = false
+event_credits operator id (event.Closed period) = false
+
+-- ---- accounts
+
+abbrev pub event_is_entry_of : Party → Event → Bool
+event_is_entry_of provider (event.Tariff tariff) = false
+event_is_entry_of provider (event.Token token) = same_party token.provider provider
+event_is_entry_of provider (event.Authorised hold) = same_party hold.provider provider
+event_is_entry_of provider (event.Released release) = same_party release.provider provider
+event_is_entry_of provider (event.Cdr cdr cost) = same_party cdr.cdr_token.provider provider
+event_is_entry_of provider (event.Credit cdr amount) = same_party cdr.cdr_token.provider provider
+event_is_entry_of provider (event.Settled settlement) = same_party settlement.provider provider
+event_is_entry_of provider (event.Closed period) = false
+
+abbrev pub event_is_hold_of : Party → Event → Bool
+event_is_hold_of provider (event.Tariff tariff) = false
+event_is_hold_of provider (event.Token token) = false
+event_is_hold_of provider (event.Authorised hold) = same_party hold.provider provider
+event_is_hold_of provider (event.Released release) = false
+event_is_hold_of provider (event.Cdr cdr cost) = false
+event_is_hold_of provider (event.Credit cdr amount) = false
+event_is_hold_of provider (event.Settled settlement) = false
+event_is_hold_of provider (event.Closed period) = false
+
+abbrev pub token_of_event : Event → List Token
+token_of_event (event.Tariff tariff) = []
+token_of_event (event.Token token) = token ∷ []
+token_of_event (event.Authorised hold) = []
+token_of_event (event.Released release) = []
+token_of_event (event.Cdr cdr cost) = []
+token_of_event (event.Credit cdr amount) = []
+token_of_event (event.Settled settlement) = []
+token_of_event (event.Closed period) = []
+
+abbrev pub event_ends_hold : Hold → Event → Bool
+event_ends_hold hold (event.Tariff tariff) = false
+event_ends_hold hold (event.Token token) = false
+event_ends_hold hold (event.Authorised another) = false
+event_ends_hold hold (event.Released release) =
+    same_party release.operator hold.operator && same_party release.provider hold.provider
+    && same_folded release.reference hold.reference
+event_ends_hold hold (event.Cdr cdr cost) =
+    same_party cdr.operator hold.operator && same_party cdr.cdr_token.provider hold.provider
+    && same_currency cdr.currency hold.currency && names hold.reference cdr.authorization_reference
+event_ends_hold hold (event.Credit cdr amount) = false
+event_ends_hold hold (event.Settled settlement) = false
+event_ends_hold hold (event.Closed period) = false
+
+abbrev pub event_ends_debt : Charge → Event → Bool
+event_ends_debt charge (event.Tariff tariff) = false
+event_ends_debt charge (event.Token token) = false
+event_ends_debt charge (event.Authorised hold) = false
+event_ends_debt charge (event.Released release) = false
+event_ends_debt charge (event.Cdr cdr cost) = false
+event_ends_debt charge (event.Credit cdr amount) = same_party cdr.operator charge.operator && names charge.cdr cdr.credit
+event_ends_debt charge (event.Settled settlement) =
+    same_party settlement.provider charge.provider && same_currency settlement.currency charge.currency
+    && (settlement.period == charge.period)
+event_ends_debt charge (event.Closed period) = false
+
+-- ---- open holds
+
+abbrev pub event_open_hold : Event → List Event → List Hold
+event_open_hold (event.Tariff tariff) later = []
+event_open_hold (event.Token token) later = []
+event_open_hold (event.Authorised hold) later = if list_any (event_ends_hold hold) later then [] else hold ∷ []
+event_open_hold (event.Released release) later = []
+event_open_hold (event.Cdr cdr cost) later = []
+event_open_hold (event.Credit cdr amount) later = []
+event_open_hold (event.Settled settlement) later = []
+event_open_hold (event.Closed period) later = []
+
+abbrev pub event_open_holds : List Event → List Hold
+event_open_holds [] = []
+event_open_holds (event ∷ later) = event_open_hold event later ++ event_open_holds later
+
+-- ---- one more charge
+
+abbrev pub with_charge : Option Charge → List AccountEntry
+with_charge None = []
+with_charge (Some charge) = account.Charge charge ∷ []
+
+abbrev pub uses : Option Charge → Hold → Bool
+uses None hold = false
+uses (Some charge) hold = ends_hold hold (account.Charge charge)
+
+-- the hold is within the scope, and the charge does not use it up
+abbrev pub still_holds : Scope → Option Charge → Hold → Bool
+still_holds scope charge hold = holds_within scope hold && not (uses charge hold)
+
+-- ---- debts
+
+-- the charge is within the scope, and none of the events ends its debt
+abbrev pub is_owed_in : Scope → List Event → Charge → Bool
+is_owed_in scope events charge = charges_within scope charge && not (list_any (event_ends_debt charge) events)
+
+-- those of these entries
+abbrev pub owed_charges : Scope → List Event → List AccountEntry → List Charge
+owed_charges scope events entries = filter (is_owed_in scope events) (charges entries)
+
+-- ---- CDRs as a scan finds them
+
+abbrev pub shown_booked : BookedCdr → Booked
+shown_booked found = record { cdr = found.cdr.now; amount = found.amount; period = found.period }
+
+abbrev pub booked_of_event : Event → ℕ → Option Booked
+booked_of_event (event.Tariff tariff) period = None
+booked_of_event (event.Token token) period = None
+booked_of_event (event.Authorised hold) period = None
+booked_of_event (event.Released release) period = None
+booked_of_event (event.Cdr cdr cost) period = Some (record { cdr = cdr; amount = pos cost; period = period })
+booked_of_event (event.Credit cdr amount) period = Some (record { cdr = cdr; amount = amount; period = period })
+booked_of_event (event.Settled settlement) period = None
+booked_of_event (event.Closed closed) period = None
+
+-- ---- replies
+
+-- the reply is not want of memory
+abbrev pub IsTold : Result Answer Refusal → Type 0
+IsTold reply = (at : ℕ) → is_no_memory (stamped at reply) ≡ false

@@ -1,0 +1,122 @@
+//! What providers owe by a list of events.
+
+ghost use Rattle.std.specs.Prelude.{◌≡◌, ◌<◌, ◌≤◌, ◌^◌, ◌++◌, [], ◌∷◌, filter, option_copied};
+ghost use Rattle.std.specs.List.{list_any};
+ghost use Rattle.plain_house.specs.Entries.{account_entries, account_entry, charge_of};
+ghost use Rattle.plain_house.specs.Exposure.{debts_of, ends_debt, exposure_of, total_charged};
+ghost use Rattle.plain_house.specs.declared.entry.AccountEntry.TheVariants as account;
+ghost use Rattle.plain_house.specs.Inner.Scanned.{event_ends_debt, is_owed_in, owed_charges, with_charge};
+
+use super::entry::Charge;
+use super::event::{Event, Settlement};
+use super::holds::{holds_of, names};
+use super::periods::period_after;
+use super::scope::Scope;
+use ocpi_types::{Cdr, Cost};
+
+/// What a CDR of this cost, booked in this period, adds to its provider's debts.
+pub fn charge_of(cdr: &Cdr, cost: Cost, period: u64) -> Charge
+    ensures { result ≡ charge_of cdr.now cost period }
+{
+    Charge {
+        operator: cdr.operator,
+        provider: cdr.cdr_token.provider,
+        currency: cdr.currency,
+        cdr: cdr.id,
+        cost,
+        period,
+        hold: cdr.authorization_reference,
+    }
+}
+
+fn is_settled_by(charge: &Charge, settlement: &Settlement) -> bool
+    ensures { result ≡ ends_debt charge.now (account.Settlement settlement.now) }
+{
+    settlement.provider.is(&charge.provider)
+        && settlement.currency.is(&charge.currency)
+        && settlement.period == charge.period
+}
+
+fn ends_debt(event: &Event, charge: &Charge) -> bool
+    ensures { result ≡ event_ends_debt charge.now event.now }
+{
+    match event {
+        Event::Credit { cdr, .. } => {
+            cdr.operator.is(&charge.operator) && names(&charge.cdr, &cdr.credit)
+        }
+        Event::Settled(settlement) => is_settled_by(charge, settlement),
+        _ => false,
+    }
+}
+
+fn is_paid(events: &[Event], charge: &Charge) -> bool
+    ensures { result ≡ list_any (event_ends_debt charge.now) events.now }
+{
+    events.iter().any(|event| ends_debt(event, charge))
+}
+
+fn owed_on(events: &[Event], charge: &Charge, scope: &Scope) -> u64
+    ensures value { result ≡ total_charged (filter (is_owed_in scope.now events.now) (charge.now ∷ [])) }
+    ensures bound { result ≤ 10 ^ 12 }
+{
+    if scope.covers(&charge.operator, &charge.provider, &charge.currency)
+        && !is_paid(events, charge)
+    {
+        charge.cost.get()
+    } else {
+        0
+    }
+}
+
+fn owed_by(event: &Event, period: u64, events: &[Event], scope: &Scope) -> u64
+    ensures { result ≡ total_charged (owed_charges scope.now events.now (account_entry event.now period)) }
+{
+    match event {
+        Event::Cdr { cdr, cost } => owed_on(events, &charge_of(cdr, *cost, period), scope),
+        _ => 0,
+    }
+}
+
+#[tactic(auto, using(crate::proofs::DebtsLemmas::debts))]
+fn owed_by_all(events: &[Event], scope: &Scope) -> u64
+    requires { total_charged (owed_charges scope.now events.now (account_entries events.now)) < 2 ^ 64 }
+    ensures { result ≡ total_charged (owed_charges scope.now events.now (account_entries events.now)) }
+{
+    let mut total = 0;
+    let mut period = 0;
+    let mut rest = events;
+    while let Some((event, later)) = rest.split_first() {
+        total += owed_by(event, period, events, scope);
+        period = period_after(period, event);
+        rest = later;
+    }
+    total
+}
+
+// What one more charge adds.
+fn owed_on_added(events: &[Event], scope: &Scope, charge: Option<&Charge>) -> u64
+    ensures value { result ≡ total_charged (owed_charges scope.now events.now (with_charge (option_copied charge.entry))) }
+    ensures bound { result ≤ 10 ^ 12 }
+{
+    match charge {
+        Some(charge) => owed_on(events, charge, scope),
+        None => 0,
+    }
+}
+
+#[tactic(auto, using(crate::proofs::DebtsLemmas::debts_with))]
+/// The debts within the scope, once the charge is added where one is given, in ten-thousandths.
+pub fn debts_of(events: &[Event], scope: &Scope, charge: Option<&Charge>) -> u64
+    requires { debts_of scope.now (account_entries events.now ++ with_charge (option_copied charge)) < 2 ^ 64 }
+    ensures { result ≡ debts_of scope.now (account_entries events.now ++ with_charge (option_copied charge.entry)) }
+{
+    owed_by_all(events, scope) + owed_on_added(events, scope, charge)
+}
+
+/// The exposure within the scope, once the charge is added where one is given, in ten-thousandths.
+pub fn exposure_of(events: &[Event], scope: &Scope, charge: Option<&Charge>) -> u64
+    requires { exposure_of scope.now (account_entries events.now ++ with_charge (option_copied charge)) < 2 ^ 64 }
+    ensures { result ≡ exposure_of scope.now (account_entries events.now ++ with_charge (option_copied charge.entry)) }
+{
+    holds_of(events, scope, charge) + debts_of(events, scope, charge)
+}

@@ -1,0 +1,55 @@
+use super::booked_amount::BookedAmount;
+use super::event::{Hold, Settlement};
+use cdr_checks::Release;
+use ocpi_json::ci_text::CiText;
+use ocpi_types::{Cdr, Cost, Currency, Party, Tariff, Token};
+
+/// What an operator's book keeps of an event. CDRs and Credit CDRs keep the period in which they were booked.
+#[derive(Drop)]
+pub enum BookEntry {
+    Tariff(Tariff),
+    Cdr {
+        cdr: Cdr,
+        cost: Cost,
+        period: u64,
+    },
+    Credit {
+        cdr: Cdr,
+        amount: BookedAmount,
+        period: u64,
+    },
+}
+
+/// What a CDR adds to its provider's debts.
+#[derive(Clone, Copy)]
+pub struct Charge {
+    pub operator: Party,
+    pub provider: Party,
+    pub currency: Currency,
+    pub cdr: CiText<39>,
+    pub cost: Cost,
+    pub period: u64,
+    /// The hold that it uses up, where it names one.
+    pub hold: Option<CiText<36>>,
+}
+
+/// What a Credit CDR takes from its provider's debts: the charge of the CDR that it credits.
+#[derive(Clone, Copy)]
+pub struct Credit {
+    pub operator: Party,
+    pub provider: Party,
+    pub currency: Currency,
+    pub original: Option<CiText<39>>,
+    pub period: u64,
+}
+
+/// What a provider's account keeps of an event. Charges and credits keep the period in which they were booked.
+#[derive(Clone, Copy)]
+pub enum AccountEntry {
+    Token(Token),
+    Hold(Hold),
+    Release(Release),
+    Charge(Charge),
+    Credit(Credit),
+    Settlement(Settlement),
+}

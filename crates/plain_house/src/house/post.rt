@@ -1,0 +1,232 @@
+//! Posting a CDR or a Credit CDR.
+
+ghost use Rattle.std.specs.Prelude.{◌≡◌, ◌<◌, ◌≤◌, ◌^◌, [], ◌∷◌, ◌++◌, Ok, IfErr, pos};
+ghost use Rattle.ocpi_types.specs.Config.{pair_limit_of};
+ghost use Rattle.cdr_checks.specs.declared.request.Command.TheVariants.{Post};
+ghost use Rattle.plain_house.specs.Entries.{account_entries, book_entries, period_of};
+ghost use Rattle.plain_house.specs.Exposure.{exposure_of, of_pair};
+ghost use Rattle.plain_house.specs.House.{Does, cdr_judged, cdr_posted, credit_judged, credit_posted};
+ghost use Rattle.plain_house.specs.Inner.Scanned.{IsTold, shown_booked};
+ghost use Rattle.plain_house.specs.Legal.{KeepsLimits};
+ghost use Rattle.plain_house.specs.Posting.{above, above_if_any, judged_cdr, judged_credit, over_limit, reply_to_booked};
+ghost use Rattle.plain_house.specs.Replies.{Follows};
+ghost use Rattle.plain_house.specs.declared.entry.AccountEntry.TheVariants as account;
+
+use super::credit::credited_amount;
+use super::replies::{add, refused, stamped};
+use super::room::full_for_cdr;
+use crate::answer::{Answer, Refused, Replied};
+use crate::booked::{BookedCdr, booked_as};
+use crate::booked_amount::BookedAmount;
+use crate::debts::{charge_of, exposure_of};
+use crate::entry::Charge;
+use crate::event::Event;
+use crate::periods::period_of;
+use crate::scope::Scope;
+use crate::tariffs::lacks_registered;
+use cdr_checks::Checked;
+use exact_money::Amount;
+use ocpi_types::{Cdr, Config, Cost, Refusal, same_cdr};
+
+// The reply to a CDR whose id is booked already.
+fn known_reply(found: &BookedCdr<'_>, cdr: &Cdr) -> Result<Answer, Refusal>
+    ensures value { result ≡ reply_to_booked (shown_booked found.now) cdr.now }
+    ensures told { IsTold result }
+{
+    if same_cdr(found.cdr, cdr) {
+        Ok(Answer::Repeated {
+            amount: found.amount.amount(),
+            period: found.period,
+        })
+    } else {
+        Err(Refusal::Conflict)
+    }
+}
+
+// The amount at which the book takes a CDR, or its reply.
+fn judged_cdr(
+    events: &[Event],
+    cdr: &Cdr,
+    cost: Cost,
+) -> Result<BookedAmount, Result<Answer, Refusal>>
+    ensures value { result ≡ judged_cdr cdr.now cost (book_entries events.now) }
+    ensures told { IfErr result (λ reply. IsTold reply) }
+{
+    if let Some(found) = booked_as(events, &cdr.operator, &cdr.id) {
+        return Err(known_reply(&found, cdr));
+    }
+    if lacks_registered(events, cdr) {
+        return Err(Err(Refusal::TariffNotRegistered));
+    }
+    Ok(BookedAmount::of_cost(cost))
+}
+
+// The same of a Credit CDR.
+fn judged_credit(
+    config: &Config,
+    events: &[Event],
+    credit: &Cdr,
+) -> Result<BookedAmount, Result<Answer, Refusal>>
+    ensures value { result ≡ judged_credit config.now (period_of events.now) credit.now (book_entries events.now) }
+    ensures told { IfErr result (λ reply. IsTold reply) }
+{
+    if let Some(found) = booked_as(events, &credit.operator, &credit.id) {
+        return Err(known_reply(&found, credit));
+    }
+    match credited_amount(config, events, period_of(events), credit) {
+        Ok(amount) => Ok(amount),
+        Err(refusal) => Err(Err(refusal)),
+    }
+}
+
+fn above(limit: u64, exposure: u64, pair: bool) -> Option<Refusal>
+    requires limit { limit < 2 ^ 63 }
+    requires exposure { exposure < 2 ^ 63 }
+    ensures { result ≡ above limit exposure pair }
+{
+    if limit < exposure {
+        Some(Refusal::OverLimit {
+            exposure: Amount::from_ten_thousandths(exposure as i64),
+            limit: Amount::from_ten_thousandths(limit as i64),
+            pair,
+        })
+    } else {
+        None
+    }
+}
+
+// The refusal where an exposure with the charge added is above its limit.
+fn above_with(
+    limit: u64,
+    events: &[Event],
+    scope: &Scope,
+    charge: &Charge,
+    pair: bool,
+) -> Option<Refusal>
+    requires limit { limit ≤ 10 ^ 15 }
+    requires cost { charge.now.cost ≤ 10 ^ 12 }
+    requires exposure { exposure_of scope.now (account_entries events.now) ≤ limit }
+    ensures { result ≡ above limit (exposure_of scope.now (account_entries events.now ++ account.Charge charge.now ∷ [])) pair }
+{
+    above(limit, exposure_of(events, scope, Some(charge)), pair)
+}
+
+fn over_pair_limit(config: &Config, events: &[Event], charge: &Charge) -> Option<Refusal>
+    requires { KeepsLimits config.now events.now }
+    ensures { result ≡ above_if_any (pair_limit_of config.now charge.now.operator charge.now.provider charge.now.currency)
+        (exposure_of (of_pair charge.now.operator charge.now.provider charge.now.currency)
+        (account_entries events.now ++ account.Charge charge.now ∷ [])) }
+{
+    match config.pair_limit(&charge.operator, &charge.provider, &charge.currency) {
+        Some(limit) => {
+            let most = limit.get();
+            let _cost = charge.cost.get();
+            let scope = Scope::of_pair(charge.operator, charge.provider, charge.currency);
+            above_with(most, events, &scope, charge, true)
+        }
+        None => None,
+    }
+}
+
+// With the charge added, an exposure would be above its limit.
+fn over_limit(config: &Config, events: &[Event], charge: &Charge) -> Option<Refusal>
+    requires { KeepsLimits config.now events.now }
+    ensures { result ≡ over_limit config.now charge.now (account_entries events.now) }
+{
+    let limit = config.limit(&charge.provider, &charge.currency).get();
+    let _cost = charge.cost.get();
+    let scope = Scope::of_provider(charge.provider, charge.currency);
+    let refusal = above_with(limit, events, &scope, charge, false);
+    if refusal.is_some() {
+        return refusal;
+    }
+    over_pair_limit(config, events, charge)
+}
+
+// Books a CDR that its operator's book takes.
+fn book_cdr(
+    config: &Config,
+    events: &mut Vec<Event>,
+    cdr: Cdr,
+    cost: Cost,
+) -> Result<Replied, Refused>
+    requires { KeepsLimits config.now events.old.items }
+    ensures { Follows (cdr_judged config.now events.old.items cdr cost (Ok (pos cost))) events.old.items result events.new.items }
+{
+    let at = events.len();
+    if let Some(what) = full_for_cdr(config, events.as_slice(), &cdr) {
+        return Err(refused(at, Refusal::Full { what }));
+    }
+    let period = period_of(events.as_slice());
+    let charge = charge_of(&cdr, cost, period);
+    if let Some(refusal) = over_limit(config, events.as_slice(), &charge) {
+        return Err(refused(at, refusal));
+    }
+    let amount = BookedAmount::of_cost(cost).amount();
+    add(
+        events,
+        Event::Cdr { cdr, cost },
+        Answer::Accepted { amount, period },
+    )
+}
+
+fn post_cdr(
+    config: &Config,
+    events: &mut Vec<Event>,
+    cdr: Cdr,
+    cost: Cost,
+) -> Result<Replied, Refused>
+    requires { KeepsLimits config.now events.old.items }
+    ensures { Follows (cdr_posted config.now events.old.items cdr cost) events.old.items result events.new.items }
+{
+    match judged_cdr(events.as_slice(), &cdr, cost) {
+        Ok(_) => book_cdr(config, events, cdr, cost),
+        Err(reply) => stamped(events.len(), reply),
+    }
+}
+
+// Books a Credit CDR that its operator's book takes.
+fn book_credit(
+    config: &Config,
+    events: &mut Vec<Event>,
+    credit: Cdr,
+    booked: BookedAmount,
+) -> Result<Replied, Refused>
+    ensures { Follows (credit_judged config.now events.old.items credit (Ok booked)) events.old.items result events.new.items }
+{
+    let at = events.len();
+    if let Some(what) = full_for_cdr(config, events.as_slice(), &credit) {
+        return Err(refused(at, Refusal::Full { what }));
+    }
+    let period = period_of(events.as_slice());
+    let amount = booked.amount();
+    add(
+        events,
+        Event::Credit {
+            cdr: credit,
+            amount: booked,
+        },
+        Answer::Accepted { amount, period },
+    )
+}
+
+fn post_credit(config: &Config, events: &mut Vec<Event>, credit: Cdr) -> Result<Replied, Refused>
+    ensures { Follows (credit_posted config.now events.old.items credit) events.old.items result events.new.items }
+{
+    match judged_credit(config, events.as_slice(), &credit) {
+        Ok(amount) => book_credit(config, events, credit, amount),
+        Err(reply) => stamped(events.len(), reply),
+    }
+}
+
+pub fn post(config: &Config, events: &mut Vec<Event>, checked: Checked) -> Result<Replied, Refused>
+    requires { KeepsLimits config.now events.old.items }
+    ensures { Does config.now events.old.items (Post checked) result events.new.items }
+{
+    let cost = checked.cost();
+    let cdr = checked.into_cdr();
+    match cost {
+        Some(cost) => post_cdr(config, events, cdr, cost),
+        None => post_credit(config, events, cdr),
+    }
+}

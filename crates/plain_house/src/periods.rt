@@ -1,0 +1,38 @@
+//! The periods in which events stand.
+
+ghost use Rattle.std.specs.Prelude.{◌≡◌, ◌<◌, ◌≤◌, ◌+◌, ◌^◌};
+ghost use Rattle.plain_house.specs.Entries.{is_close, period_after, period_of};
+
+use super::event::Event;
+
+fn is_close(event: &Event) -> bool
+    ensures { result ≡ is_close event.now }
+{
+    match event {
+        Event::Closed { .. } => true,
+        _ => false,
+    }
+}
+
+/// The period after an event that stands in this one.
+pub fn period_after(period: u64, event: &Event) -> u64
+    requires { period + 1 < 2 ^ 64 }
+    ensures value { result ≡ period_after period event.now }
+    ensures bound { result ≤ period + 1 }
+{
+    if is_close(event) { period + 1 } else { period }
+}
+
+/// The current period: how many closes there are.
+#[tactic(auto, using(crate::proofs::PeriodsLemmas::next_period))]
+pub fn period_of(events: &[Event]) -> u64
+    ensures { result ≡ period_of events.now }
+{
+    let mut period = 0;
+    let mut rest = events;
+    while let Some((event, later)) = rest.split_first() {
+        period = period_after(period, event);
+        rest = later;
+    }
+    period
+}
