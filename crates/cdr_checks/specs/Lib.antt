@@ -4,3 +4,4 @@ pub mod CdrConditions
 pub mod Checked
 pub mod FirstRefusal
 pub mod Inner
+pub mod Law

@@ -5,6 +5,7 @@ mod admission;
 mod cdr_admission;
 mod cdr_conditions;
 mod checked;
+mod laws;
 mod refusing;
 mod request;
 
@@ -12,4 +13,5 @@ pub use admission::admit;
 pub use cdr_admission::check;
 pub use cdr_conditions::is_within_tolerance;
 pub use checked::Checked;
+pub use laws::posts_are_checked;
 pub use request::{Ask, Authorize, Command, ExposureOf, Find, Release, Request};

@@ -1,4 +1,6 @@
 pub mod BookedLemmas
+pub mod BookingLemmas
+pub mod ChargeLemmas
 pub mod DebtsLemmas
 pub mod EntriesLemmas
 pub mod ExposureLater

@@ -104,8 +104,8 @@ fn owed_on_added(events: &[Event], scope: &Scope, charge: Option<&Charge>) -> u6
     }
 }
 
-#[tactic(auto, using(crate::proofs::DebtsLemmas::debts_with))]
 /// The debts within the scope, once the charge is added where one is given, in ten-thousandths.
+#[tactic(auto, using(crate::proofs::DebtsLemmas::debts_with))]
 pub fn debts_of(events: &[Event], scope: &Scope, charge: Option<&Charge>) -> u64
     requires { debts_of scope.now (account_entries events.now ++ with_charge (option_copied charge)) < 2 ^ 64 }
     ensures { result ≡ debts_of scope.now (account_entries events.now ++ with_charge (option_copied charge.entry)) }

@@ -113,8 +113,8 @@ fn held_by_all(events: &[Event], scope: &Scope, charge: Option<&Charge>) -> u64
     total
 }
 
-#[tactic(auto, using(crate::proofs::HoldsLemmas::holds_with))]
 /// The open holds within the scope, once the charge is added where one is given, in ten-thousandths.
+#[tactic(auto, using(crate::proofs::HoldsLemmas::holds_with))]
 pub fn holds_of(events: &[Event], scope: &Scope, charge: Option<&Charge>) -> u64
     requires { holds_of scope.now (account_entries events.now ++ with_charge (option_copied charge)) < 2 ^ 64 }
     ensures { result ≡ holds_of scope.now (account_entries events.now ++ with_charge (option_copied charge.entry)) }
@@ -153,8 +153,8 @@ fn first_released<'a>(events: &'a [Event], release: &Release) -> Option<&'a Hold
     None
 }
 
-#[tactic(auto, using(crate::proofs::EntriesLemmas::open_in_events))]
 /// The open hold that the release ends.
+#[tactic(auto, using(crate::proofs::EntriesLemmas::open_in_events))]
 pub fn released_hold<'a>(events: &'a [Event], release: &Release) -> Option<&'a Hold>
     ensures { option_copied result ≡ released_hold (account_entries events.now) release.now }
 {

@@ -21,6 +21,9 @@ pub use booked_amount::BookedAmount;
 pub use entry::{AccountEntry, BookEntry, Charge, Credit};
 pub use event::{Event, Hold, Settlement};
 pub use house::PlainHouse;
-pub use laws::{commands_keep_lists_legal, legal_lists_begin_legally, legal_lists_keep_limits};
+pub use laws::{
+    commands_keep_lists_legal, legal_cdrs_are_charged, legal_credits_are_taken_back,
+    legal_lists_begin_legally, legal_lists_keep_limits,
+};
 pub use scope::Scope;
 pub use sequential::Sequential;

@@ -48,8 +48,8 @@ fn last_validity(
     found
 }
 
-#[tactic(auto, using(crate::proofs::EntriesLemmas::tokens_in_events))]
 /// Whether the token of this provider, uid and type is valid; none where the list puts no such token.
+#[tactic(auto, using(crate::proofs::EntriesLemmas::tokens_in_events))]
 pub fn validity(
     events: &[Event],
     provider: &Party,

@@ -1,0 +1,8 @@
+//! What follows from the definitions.
+
+ghost use Rattle.cdr_checks.specs.Law.{PostsAreChecked};
+
+/// A CDR that is admitted has its operator's zone, and as cost its price there, or none where it is a Credit CDR.
+pub fn posts_are_checked()
+    ensures { PostsAreChecked }
+{}
