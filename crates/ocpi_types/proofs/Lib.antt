@@ -1,5 +1,6 @@
 pub mod Eaches
 pub mod InParts
+pub mod Letters
 pub mod Lists
 pub mod PartyTexts
 pub mod Quantities

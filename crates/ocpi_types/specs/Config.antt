@@ -1,7 +1,8 @@
 -- What the configuration says of parties, currencies and limits. Parties and platform names are compared with letters
 -- folded, currencies exactly.
-use Rattle.std.specs.Prelude.{ℕ, List, Bool, false, ◌&&◌, Option, find, option_map, option_and_then, unwrap_or, is_some}
+use Rattle.std.specs.Prelude.{ℕ, List, Bool, false, ◌&&◌, ◌||◌, Option, find, option_map, option_and_then, unwrap_or, is_some}
 use Rattle.std.specs.List.{list_any}
+use Rattle.std.specs.Option.{option_or}
 use Rattle.ocpi_json.specs.Folded.{same_folded}
 use Rattle.ocpi_types.specs.Currency.{same_currency}
 use Rattle.ocpi_types.specs.Party.{same_party}
@@ -33,6 +34,17 @@ is_operator config party = is_some (operator_of config party)
 
 abbrev pub is_provider : Config → Party → Bool
 is_provider config party = is_some (provider_of config party)
+
+-- an operator, a provider or both
+abbrev pub is_party : Config → Party → Bool
+is_party config party = is_operator config party || is_provider config party
+
+-- a party as it is configured, where it is both as it stands among the operators
+abbrev pub as_configured : Config → Party → Party
+as_configured config party =
+    unwrap_or
+    (option_or (option_map (λ operator. operator.party) (operator_of config party)) (option_map (λ provider. provider.party) (provider_of config party)))
+    party
 
 abbrev pub has_currency : Config → List ℕ → Bool
 has_currency config currency = has_currency_among config.currencies currency
@@ -67,6 +79,10 @@ acts_for platform party = list_any (λ other. same_party other party) platform.p
 -- the platform of that name acts for the party; an unknown platform acts for none
 abbrev pub may_act_for : Config → List ℕ → Party → Bool
 may_act_for config name party = unwrap_or (option_map (λ platform. acts_for platform party) (platform_of config name)) false
+
+-- the platform of that name is a hub
+abbrev pub is_hub : Config → List ℕ → Bool
+is_hub config name = unwrap_or (option_map (λ platform. platform.hub) (platform_of config name)) false
 
 -- ---- of which a list has no two
 

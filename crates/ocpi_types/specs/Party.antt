@@ -1,5 +1,5 @@
 -- A party: country code and party id, compared with letters folded.
-use Rattle.std.specs.Prelude.{ℕ, List, length, take, drop, slice_index, ◌==◌, Bool, ◌&&◌, if◌then◌else◌, Option, Some, None, Result, Ok}
+use Rattle.std.specs.Prelude.{ℕ, List, ◌++◌, codes, length, take, drop, slice_index, ◌==◌, Bool, ◌&&◌, if◌then◌else◌, Option, Some, None, Result, Ok}
 use Rattle.std.specs.Char.{is_ascii_alphabetic, is_ascii_alphanumeric}
 use Rattle.std.specs.List.{list_all}
 use Rattle.json.specs.Json.{Json as Data}
@@ -23,6 +23,10 @@ is_party text =
 -- the party that a text as `NL/CPA` names
 unfoldable pub party_of : List ℕ → Option Party
 party_of text = if is_party text then Some (record { country_code = take 2 text; party_id = drop 3 text }) else None
+
+-- how a party is written
+abbrev pub party_text : Party → List ℕ
+party_text party = party.country_code ++ (codes "/" ++ party.party_id)
 
 -- the party of an object (OCPI 2.2.1, the objects Token, Tariff, CDR and CdrToken)
 unfoldable pub party_at : Data → Result Party Name

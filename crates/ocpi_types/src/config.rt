@@ -2,6 +2,7 @@
 
 use super::bounded::AtMost;
 use super::currency::Currency;
+use super::different::Distinct;
 use super::party::Party;
 use super::zone::Zone;
 use ocpi_json::ci_text::CiText;
@@ -85,12 +86,12 @@ pub struct PairLimit {
 #[derive(Drop)]
 pub struct Config {
     pub tolerance: Tolerance,
-    pub currencies: Sequence<Currency>,
-    pub operators: Sequence<Operator>,
-    pub providers: Sequence<Provider>,
-    pub platforms: Sequence<Platform>,
+    pub currencies: Distinct<Currency, 16>,
+    pub operators: Distinct<Operator, 64>,
+    pub providers: Distinct<Provider, 64>,
+    pub platforms: Distinct<Platform, 128>,
     pub limits: Limits,
-    pub pair_limits: Sequence<PairLimit>,
+    pub pair_limits: Distinct<PairLimit, 4096>,
     /// How many periods after its original's period a Credit CDR may come; none is no bound.
     pub credit_window: Option<AtMost<10_000>>,
 }

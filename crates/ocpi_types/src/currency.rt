@@ -6,6 +6,7 @@ use super::different::Alike;
 use ocpi_json::objects::FromText;
 use std::alloc::AllocError;
 use std::marker::Model;
+use std::str;
 
 /// A currency by its ISO 4217 code of three letters A to Z, compared exactly (OCPI 2.2.1, CDR object, `currency`).
 #[derive(Debug, PartialEq, Eq, PartialOrd, Ord)]
@@ -14,11 +15,14 @@ pub struct Currency {
 }
 
 impl Model for Currency {
-    ghost use Rattle.std.specs.Prelude.{List, ℕ};
+    ghost use Rattle.std.specs.Prelude.{◌≡◌, List, ℕ, true};
+    ghost use Rattle.ocpi_types.specs.Currency.{is_currency};
 
     ghost Value = { List ℕ };
 
     ghost view = { λ currency. currency.letters };
+
+    ghost invariant = { λ currency. is_currency currency.letters ≡ true };
 
     ghost inverse = { λ letters. record { letters = letters } };
 }
@@ -62,10 +66,10 @@ impl Currency {
         }
     }
 
-    pub fn as_bytes(&self) -> &[u8]
+    pub fn as_str(&self) -> &str
         ensures { result.now ≡ self.now }
     {
-        &self.letters
+        unsafe { str::from_utf8_unchecked(&self.letters) }
     }
 
     /// The same currency.

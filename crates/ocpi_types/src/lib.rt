@@ -33,6 +33,7 @@ pub use config::{Config, ConfigFault, Cost};
 pub use copying::{TryCopy, copied};
 pub use currency::Currency;
 pub use day_of_week::DayOfWeek;
+pub use different::{Alike, Distinct};
 pub use dimension::{Dimension, DimensionKind};
 pub use element::Element;
 pub use party::Party;

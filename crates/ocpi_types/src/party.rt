@@ -8,6 +8,7 @@ use ocpi_json::ci_text::CiText;
 use ocpi_json::name::Name;
 use ocpi_json::objects::{FromNode, FromText};
 use ocpi_json::{Node, fields};
+use std::fmt;
 
 /// A party by its country code and party id (OCPI 2.2.1, 'Credentials': ISO 3166 country code and party id), both
 /// case insensitive.
@@ -93,5 +94,18 @@ impl FromNode for Party {
             country_code,
             party_id,
         })
+    }
+}
+
+impl fmt::Display for Party {
+    ghost use Rattle.std.specs.Prelude.{Some};
+    ghost use Rattle.ocpi_types.specs.Party.{party_text};
+
+    ghost output = { λ party. Some (party_text party) };
+
+    fn fmt<W: fmt::Write>(&self, f: &mut fmt::Formatter<W>) -> fmt::Result {
+        let country_code = self.country_code.as_str();
+        let party_id = self.party_id.as_str();
+        write!(f, "{country_code}/{party_id}")
     }
 }

@@ -1,5 +1,6 @@
 use super::{Config, Operator, Platform, Provider};
 use crate::copying::{TryCopy, copied};
+use crate::different::copied_distinct;
 use std::alloc::{AllocError, Global};
 
 impl TryCopy for Operator {
@@ -35,11 +36,11 @@ impl TryCopy for Platform {
 
 impl TryCopy for Config {
     fn copy(&self, alloc: Global) -> Result<Config, AllocError> {
-        let currencies = copied(alloc, &self.currencies)?;
+        let currencies = copied_distinct(alloc, &self.currencies)?;
         let operators = self.operators.copy(alloc)?;
         let providers = self.providers.copy(alloc)?;
         let platforms = self.platforms.copy(alloc)?;
-        let pair_limits = copied(alloc, &self.pair_limits)?;
+        let pair_limits = copied_distinct(alloc, &self.pair_limits)?;
         Ok(Config {
             tolerance: self.tolerance,
             currencies,

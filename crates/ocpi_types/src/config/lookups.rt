@@ -38,7 +38,7 @@ impl Platform {
 
 impl Config {
     ghost use Rattle.std.specs.Prelude.{◌≡◌, option_copied, option_map};
-    ghost use Rattle.ocpi_types.specs.Config.{has_currency, hold_of, is_operator, is_provider, limit_of, may_act_for, operator_of, pair_limit_of, platform_of, provider_of, row_of};
+    ghost use Rattle.ocpi_types.specs.Config.{as_configured, has_currency, hold_of, is_hub, is_operator, is_party, is_provider, limit_of, may_act_for, operator_of, pair_limit_of, platform_of, provider_of, row_of};
 
     pub fn operator(&self, party: &Party) -> Option<&Operator>
         ensures { option_copied result ≡ operator_of self.now party.now }
@@ -62,6 +62,26 @@ impl Config {
         ensures { result ≡ is_provider self.now party.now }
     {
         self.provider(party).is_some()
+    }
+
+    /// The party is configured as an operator, as a provider or as both.
+    pub fn is_party(&self, party: &Party) -> bool
+        ensures { result ≡ is_party self.now party.now }
+    {
+        self.is_operator(party) || self.is_provider(party)
+    }
+
+    /// The party as it is configured, where it is both as it stands among the operators.
+    pub fn as_configured(&self, party: &Party) -> Party
+        ensures { result ≡ as_configured self.now party.now }
+    {
+        if let Some(operator) = self.operator(party) {
+            return operator.party;
+        }
+        match self.provider(party) {
+            Some(provider) => provider.party,
+            None => *party,
+        }
     }
 
     pub fn has_currency(&self, currency: &Currency) -> bool
@@ -121,6 +141,16 @@ impl Config {
             .as_slice()
             .iter()
             .find(|platform| platform.name == *name)
+    }
+
+    /// The platform of that name is a hub; an unknown platform is none.
+    pub fn is_hub(&self, name: &CiText<36>) -> bool
+        ensures { result ≡ is_hub self.now name.now }
+    {
+        let Some(platform) = self.platform(name) else {
+            return false;
+        };
+        platform.hub
     }
 
     /// The platform of that name acts for the party; an unknown platform acts for none.

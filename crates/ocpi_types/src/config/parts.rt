@@ -10,7 +10,7 @@ use super::lookups::{has_currency, operator_among, provider_among};
 use super::{Limits, Operator, PairLimit, Platform, Provider, ProviderLimit};
 use crate::bounded::AtMost;
 use crate::currency::Currency;
-use crate::different::are_all_different;
+use crate::different::{Distinct, are_all_different};
 use crate::members::{self, at_most, at_most_or_none, ensure};
 use crate::party::Party;
 use ocpi_json::Node;
@@ -26,9 +26,9 @@ const MOST_ITEMS: usize = 1_048_576;
 /// The currencies and parties of a configuration, which its other parts name.
 #[derive(Drop)]
 pub struct Known {
-    pub currencies: Sequence<Currency>,
-    pub operators: Sequence<Operator>,
-    pub providers: Sequence<Provider>,
+    pub currencies: Distinct<Currency, 16>,
+    pub operators: Distinct<Operator, 64>,
+    pub providers: Distinct<Provider, 64>,
 }
 
 /// A type whose values stand in nodes, name what is known, and take no memory.
@@ -143,13 +143,16 @@ impl FromNode for Operator {
     }
 }
 
-impl FromNodeWith<Sequence<Currency>> for ProviderLimit {
+impl FromNodeWith<Distinct<Currency, 16>> for ProviderLimit {
     ghost use Rattle.ocpi_types.specs.ConfigParts.{provider_limit_at};
 
     ghost at_with = { provider_limit_at };
 
     #[tactic(auto, unfolding(crate::specs::ConfigParts::provider_limit_at))]
-    fn from_node_with(currencies: &Sequence<Currency>, node: &Node) -> Result<ProviderLimit, Name> {
+    fn from_node_with(
+        currencies: &Distinct<Currency, 16>,
+        node: &Node,
+    ) -> Result<ProviderLimit, Name> {
         let currency = currency(currencies.as_slice(), node)?;
         let limit = at_most(node, Name::Limit, 0)?;
         let hold = at_most(node, Name::Hold, 1)?;
@@ -161,7 +164,7 @@ impl FromNodeWith<Sequence<Currency>> for ProviderLimit {
     }
 }
 
-impl FromNodeWithIn<Sequence<Currency>> for Provider {
+impl FromNodeWithIn<Distinct<Currency, 16>> for Provider {
     ghost use Rattle.ocpi_types.specs.ConfigParts.{provider_entry_at};
 
     ghost at_with = { provider_entry_at };
@@ -169,7 +172,7 @@ impl FromNodeWithIn<Sequence<Currency>> for Provider {
     #[tactic(auto, unfolding(crate::specs::ConfigParts::provider_entry_at))]
     fn from_node_with_in(
         alloc: Global,
-        currencies: &Sequence<Currency>,
+        currencies: &Distinct<Currency, 16>,
         node: &Node,
     ) -> Result<Provider, FieldFault> {
         let party = members::party(node, Name::Party)?;

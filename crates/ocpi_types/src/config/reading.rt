@@ -10,12 +10,11 @@ use super::parts::{Known, read_each_with, read_each_with_in};
 use super::{Config, Limits, Operator, PairLimit, Platform, Provider, Tolerance};
 use crate::bounded::AtMost;
 use crate::currency::Currency;
-use crate::different::are_all_different;
+use crate::different::Distinct;
 use crate::members::{at_most_or_none, ensure};
 use ocpi_json::fields::{self, FieldFault};
 use ocpi_json::name::Name;
 use ocpi_json::objects::{FromNodeIn, parsed_each, read_each, read_if_any};
-use ocpi_json::sequence::Sequence;
 use ocpi_json::{Node, ReadFault, Room};
 use std::alloc::Global;
 
@@ -58,36 +57,33 @@ impl From<FieldFault> for ConfigFault {
 }
 
 #[tactic(auto, unfolding(crate::specs::ConfigText::currencies_at))]
-fn read_currencies(alloc: Global, node: &Node) -> Result<Sequence<Currency>, FieldFault>
+fn read_currencies(alloc: Global, node: &Node) -> Result<Distinct<Currency, 16>, FieldFault>
     ensures { Finds result (currencies_at (view node.now)) }
 {
     let nodes = fields::list(node, Name::Currencies, 1, 16)?;
     let currencies = parsed_each(alloc, nodes, Name::Currencies)?;
-    ensure(are_all_different(currencies.as_slice()), Name::Currencies)?;
-    Ok(currencies)
+    Ok(Distinct::new(currencies, Name::Currencies)?)
 }
 
 #[tactic(auto, unfolding(crate::specs::ConfigText::operators_at))]
-fn read_operators(alloc: Global, node: &Node) -> Result<Sequence<Operator>, FieldFault>
+fn read_operators(alloc: Global, node: &Node) -> Result<Distinct<Operator, 64>, FieldFault>
     ensures { Finds result (operators_at (view node.now)) }
 {
     let operators = read_each(alloc, fields::list(node, Name::Operators, 1, 64)?)?;
-    ensure(are_all_different(operators.as_slice()), Name::Operators)?;
-    Ok(operators)
+    Ok(Distinct::new(operators, Name::Operators)?)
 }
 
 #[tactic(auto, unfolding(crate::specs::ConfigText::providers_at))]
 fn read_providers(
     alloc: Global,
-    currencies: &Sequence<Currency>,
+    currencies: &Distinct<Currency, 16>,
     node: &Node,
-) -> Result<Sequence<Provider>, FieldFault>
+) -> Result<Distinct<Provider, 64>, FieldFault>
     ensures { Finds result (providers_at currencies.now (view node.now)) }
 {
     let nodes = fields::list(node, Name::Providers, 1, 64)?;
     let providers = read_each_with_in(alloc, currencies, nodes)?;
-    ensure(are_all_different(providers.as_slice()), Name::Providers)?;
-    Ok(providers)
+    Ok(Distinct::new(providers, Name::Providers)?)
 }
 
 #[tactic(auto, unfolding(crate::specs::ConfigText::platforms_at))]
@@ -95,13 +91,12 @@ fn read_platforms(
     alloc: Global,
     known: &Known,
     node: &Node,
-) -> Result<Sequence<Platform>, FieldFault>
+) -> Result<Distinct<Platform, 128>, FieldFault>
     ensures { Finds result (platforms_at known.now (view node.now)) }
 {
     let nodes = fields::list(node, Name::Platforms, 1, 128)?;
     let platforms = read_each_with_in(alloc, known, nodes)?;
-    ensure(are_all_different(platforms.as_slice()), Name::Platforms)?;
-    Ok(platforms)
+    Ok(Distinct::new(platforms, Name::Platforms)?)
 }
 
 #[tactic(auto, unfolding(crate::specs::ConfigText::house_limits_at))]
@@ -117,13 +112,12 @@ fn read_stated_pair_limits(
     alloc: Global,
     known: &Known,
     node: &Node,
-) -> Result<Sequence<PairLimit>, FieldFault>
+) -> Result<Distinct<PairLimit, 4096>, FieldFault>
     ensures { Finds result (stated_pair_limits_at known.now (view node.now)) }
 {
     let nodes = fields::list_or_empty(node, Name::PairLimits, 4096)?;
     let pair_limits = read_each_with(alloc, known, nodes)?;
-    ensure(are_all_different(pair_limits.as_slice()), Name::PairLimits)?;
-    Ok(pair_limits)
+    Ok(Distinct::new(pair_limits, Name::PairLimits)?)
 }
 
 #[tactic(auto, unfolding(crate::specs::ConfigText::pair_limits_at))]
@@ -132,13 +126,13 @@ fn read_pair_limits(
     version: u64,
     known: &Known,
     node: &Node,
-) -> Result<Sequence<PairLimit>, FieldFault>
+) -> Result<Distinct<PairLimit, 4096>, FieldFault>
     ensures { Finds result (pair_limits_at version known.now (view node.now)) }
 {
     if version == 2 {
         read_stated_pair_limits(alloc, known, node)
     } else {
-        Ok(Sequence::new(alloc))
+        Ok(Distinct::empty(alloc))
     }
 }
 
@@ -176,9 +170,9 @@ fn read_known(alloc: Global, node: &Node) -> Result<Known, FieldFault>
 /// What a configuration says of platforms and limits.
 #[derive(Drop)]
 struct Stated {
-    platforms: Sequence<Platform>,
+    platforms: Distinct<Platform, 128>,
     limits: Limits,
-    pair_limits: Sequence<PairLimit>,
+    pair_limits: Distinct<PairLimit, 4096>,
     credit_window: Option<AtMost<10_000>>,
 }
 
