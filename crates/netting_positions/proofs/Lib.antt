@@ -1,0 +1,13 @@
+pub mod AmongLemmas
+pub mod BalanceLemmas
+pub mod Capitals
+pub mod DifferentLemmas
+pub mod KeyOrder
+pub mod NetFound
+pub mod NetLemmas
+pub mod RowSearch
+pub mod SameParties
+pub mod ShortLemmas
+pub mod StatedLemmas
+pub mod Sums
+pub mod Walks

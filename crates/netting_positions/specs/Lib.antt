@@ -1,0 +1,5 @@
+pub mod Inner
+pub mod Laws
+pub mod Netting
+pub mod State
+pub mod Statement

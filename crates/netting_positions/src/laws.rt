@@ -1,0 +1,28 @@
+//! What follows from the definitions.
+
+ghost use Rattle.netting_positions.specs.Laws.{PartiesAreConfigured, PartiesAreDifferent, PositionsBalance, StatementsAreInOrder, StatementsAreShort};
+
+/// In each currency the net positions of all parties add up to 0.
+pub fn positions_balance()
+    ensures { PositionsBalance }
+{}
+
+/// No two parties of a configuration are the same.
+pub fn parties_are_different()
+    ensures { PartiesAreDifferent }
+{}
+
+/// The parties of a configuration are its operators and its providers.
+pub fn parties_are_configured()
+    ensures { PartiesAreConfigured }
+{}
+
+/// The rows of a statement rise by their keys, and are those of its obligations.
+pub fn statements_are_in_order()
+    ensures { StatementsAreInOrder }
+{}
+
+/// A statement has at most as many rows as there are currencies times parties.
+pub fn statements_are_short()
+    ensures { StatementsAreShort }
+{}
