@@ -1,5 +1,6 @@
 -- What the admission of a CDR that is posted says.
-use Rattle.std.proofs.Common.{◌≡◌, ℕ, ℤ, pos, List, Bool, true, false, not, refl, sym, ap, subst, ◌∙◌, Option, Some, None, Result, Ok, Err, unsigned_abs, if◌then◌else◌, nat_lt, ltb}
+use Rattle.std.proofs.Common.{◌≡◌, ℕ, ℤ, pos, List, Bool, true, false, not, refl, ap, subst, ◌∙◌, Option, Some, None, Result, Ok, Err, unsigned_abs, if◌then◌else◌, nat_lt, arith, ◌≤◌, ◌^◌, unwrap_or}
+use Rattle.std.proofs.lemmas.Bool.{ltb-false}
 use Rattle.jiff.specs.Types.{TimeZone as PlainZone}
 use Rattle.ocpi_types.specs.declared.cdr.Cdr.{Cdr}
 use Rattle.ocpi_types.specs.declared.config.Config.{Config}
@@ -7,21 +8,20 @@ use Rattle.ocpi_types.specs.declared.config.Operator.{Operator}
 use Rattle.ocpi_types.specs.declared.refusal.Refusal.{Refusal}
 use Rattle.ocpi_types.specs.declared.refusal.Refusal.TheVariants as refusal
 use Rattle.ocpi_types.specs.Cdr.{is_credit}
-use Rattle.ocpi_types.specs.Config.{operator_of, is_operator, is_provider, has_currency, may_act_for}
+use Rattle.ocpi_types.specs.Config.{operator_of, is_hub, is_operator, is_party, is_provider, has_currency, may_act_for}
 use Rattle.tariff_elements.specs.Active.{supported}
-use Rattle.cdr_rating.specs.Price.{price, within_limit, rounded_amount}
+use Rattle.cdr_rating.specs.Price.{price, rounded_amount}
 use Rattle.cdr_rating.specs.Pricing.{lacks_tariff}
 use Rattle.cdr_checks.specs.declared.request.Ask.{Ask}
 use Rattle.cdr_checks.specs.declared.request.Ask.TheVariants as ask
 use Rattle.cdr_checks.specs.declared.request.Command.{Command}
 use Rattle.cdr_checks.specs.declared.request.Command.TheVariants as command
-use Rattle.cdr_checks.specs.declared.request.Request.{Request}
-use Rattle.cdr_checks.specs.Admission.{admission, ask_admission, put_tariff_admission, put_token_admission, authorize_admission, release_admission, exposure_admission, find_admission, IsAdmitted}
+use Rattle.cdr_checks.specs.Admission.{admission, ask_admission, IsAdmitted}
 use Rattle.cdr_checks.specs.CdrAdmission.{checked_of, rated_cost, session_cost}
 use Rattle.cdr_checks.specs.CdrConditions.{has_dates_in_order, has_energy_of_periods, has_one_currency, has_reservation, has_supported_tariffs, is_within_tolerance}
 use Rattle.cdr_checks.specs.Checked.{Checked, IsCostOf}
 use Rattle.cdr_checks.specs.FirstRefusal.{◌>>=◌, ensure, or_refusal}
-use Rattle.cdr_checks.specs.Law.{PostsAreChecked}
+use Rattle.cdr_checks.specs.Law.{IsChecked, PostsAreChecked}
 
 -- ---- the price
 
@@ -33,6 +33,20 @@ natural cdr zone amount h = by (lacks_tariff cdr) (nat_lt 1_000_000_000_000 (rou
     by true large g = absurd (cc)
     by false true g = absurd (cc)
     by false false g = let same : pos (rounded_amount cdr zone) ≡ amount = cc in subst (λ (z : ℤ). z ≡ pos (unsigned_abs z)) same refl
+
+-- and the amount is at most 10^12
+bounded : (cdr : Cdr) (zone : PlainZone) (n : ℕ) → price cdr zone ≡ Ok (pos n) → n ≤ 10 ^ 12
+unfolding price
+bounded cdr zone n h = by (lacks_tariff cdr) (nat_lt 1_000_000_000_000 (rounded_amount cdr zone)) refl h
+  where
+    by : (lacks large : Bool) → nat_lt 1_000_000_000_000 (rounded_amount cdr zone) ≡ large
+        → (if lacks then Err refusal.TariffNotGiven else (if large then Err refusal.AmountTooLarge else Ok (pos (rounded_amount cdr zone)))) ≡ Ok (pos n) → n ≤ 10 ^ 12
+    by true large e g = absurd (cc)
+    by false true e g = absurd (cc)
+    by false false e g =
+        let same : rounded_amount cdr zone ≡ n = cc in
+        let most = ltb-false 1_000_000_000_000 (rounded_amount cdr zone) e in
+        omega (arith, same, most)
 
 rated_price : (config : Config) (zone : PlainZone) (cdr : Cdr) (cost : ℕ) → rated_cost config zone cdr ≡ Ok cost → price cdr zone ≡ Ok (pos cost)
 unfolding rated_cost
@@ -74,37 +88,40 @@ session config zone cdr cost h = by (is_credit cdr) refl h
     by true e g = let same : None ≡ cost = cc in subst (λ (o : Option ℕ). IsCostOf o cdr zone) same e
     by false e g = rated (rated_cost config zone cdr) e refl g
 
-abbrev HasItsCost : Config → Checked → Type 0
-HasItsCost config checked =
-    (operator : Operator) × (operator_of config checked.cdr.operator ≡ Some operator) × (checked.zone ≡ operator.zone) × IsCostOf checked.cost checked.cdr checked.zone
-
 abbrev made : Cdr → Operator → Option ℕ → Checked
 made cdr operator cost = record { cdr = cdr; zone = operator.zone; cost = cost }
 
-pub checked_has : (config : Config) (platform : List ℕ) (cdr : Cdr) (checked : Checked) → checked_of config platform cdr ≡ Ok checked → HasItsCost config checked
+pub checked_has : (config : Config) (platform : List ℕ) (cdr : Cdr) (checked : Checked) → checked_of config platform cdr ≡ Ok checked → IsChecked config checked
 unfolding checked_of
 checked_has config platform cdr checked h = by (operator_of config cdr.operator) refl h
   where
-    tests : (operator : Operator) → operator_of config cdr.operator ≡ Some operator → (known yours currency : Bool) (m : Result (Option ℕ) Refusal) → session_cost config operator.zone cdr ≡ m
+    small : (cost : Option ℕ) (zone : PlainZone) → IsCostOf cost cdr zone → unwrap_or cost 0 ≤ 10 ^ 12
+    small None zone is = omega arith
+    small (Some n) zone is = bounded cdr zone n is.1
+
+    tests : (operator : Operator) → operator_of config cdr.operator ≡ Some operator → (known yours currency : Bool) (m : Result (Option ℕ) Refusal)
+        → is_provider config cdr.cdr_token.provider ≡ known → has_currency config cdr.currency ≡ currency → session_cost config operator.zone cdr ≡ m
         → (ensure known refusal.UnknownParty >>= λ _. (ensure yours refusal.NotYours >>= λ _. (ensure currency refusal.WrongCurrency >>= λ _. (m >>= λ cost. Ok (made cdr operator cost)))))
-        ≡ Ok checked → HasItsCost config checked
-    tests operator found true true true (Ok cost) e g =
+        ≡ Ok checked → IsChecked config checked
+    tests operator found true true true (Ok cost) p c e g =
         let same : made cdr operator cost ≡ checked = cc in
-        subst (HasItsCost config) same (operator, found, refl, session config operator.zone cdr cost e)
-    tests operator found true true true (Err why) e g = absurd (cc)
-    tests operator found true true false m e g = absurd (cc)
-    tests operator found true false currency m e g = absurd (cc)
-    tests operator found false yours currency m e g = absurd (cc)
+        let has : IsCostOf cost cdr operator.zone = session config operator.zone cdr cost e in
+        subst (IsChecked config) same
+        (record { operator = operator; has_operator = found; has_provider = p; has_currency = c; in_zone = refl; at_cost = has; within = small cost operator.zone has })
+    tests operator found true true true (Err why) p c e g = absurd (cc)
+    tests operator found true true false m p c e g = absurd (cc)
+    tests operator found true false currency m p c e g = absurd (cc)
+    tests operator found false yours currency m p c e g = absurd (cc)
 
     by : (o : Option Operator) → operator_of config cdr.operator ≡ o
         → (or_refusal refusal.UnknownParty o >>= λ operator. (ensure (is_provider config cdr.cdr_token.provider) refusal.UnknownParty >>= λ _.
         (ensure (may_act_for config platform cdr.operator) refusal.NotYours >>= λ _. (ensure (has_currency config cdr.currency) refusal.WrongCurrency >>= λ _.
         (session_cost config operator.zone cdr >>= λ cost. Ok (made cdr operator cost))))))
-        ≡ Ok checked → HasItsCost config checked
+        ≡ Ok checked → IsChecked config checked
     by None e g = absurd (cc)
     by (Some operator) e g =
         tests operator e (is_provider config cdr.cdr_token.provider) (may_act_for config platform cdr.operator) (has_currency config cdr.currency)
-        (session_cost config operator.zone cdr) refl g
+        (session_cost config operator.zone cdr) refl refl refl g
 
 -- ---- the request
 
@@ -125,16 +142,20 @@ posts_are_checked config checked admitted = by admitted.0.platform admitted.0.as
     three true false c w x y told h = absurd (cc)
     three false b c w x y told h = absurd (cc)
 
+    one : (a : Bool) (w : Refusal) (told : Command) → (ensure a w >>= λ _. Ok told) ≡ Ok (command.Post checked) → told ≡ command.Post checked
+    one true w told h = cc
+    one false w told h = absurd (cc)
+
     two : (a b : Bool) (w x : Refusal) (told : Command) → (ensure a w >>= λ _. (ensure b x >>= λ _. Ok told)) ≡ Ok (command.Post checked) → told ≡ command.Post checked
     two true true w x told h = cc
     two true false w x told h = absurd (cc)
     two false b w x told h = absurd (cc)
 
-    posted : (platform : List ℕ) (m : Result Checked Refusal) (cdr : Cdr) → checked_of config platform cdr ≡ m → (m >>= λ c. Ok (command.Post c)) ≡ Ok (command.Post checked) → HasItsCost config checked
+    posted : (platform : List ℕ) (m : Result Checked Refusal) (cdr : Cdr) → checked_of config platform cdr ≡ m → (m >>= λ c. Ok (command.Post c)) ≡ Ok (command.Post checked) → IsChecked config checked
     posted platform (Ok c) cdr e h = let same : c ≡ checked = cc in checked_has config platform cdr checked (e ∙ ap (λ (x : Checked). Ok x) same)
     posted platform (Err why) cdr e h = absurd (cc)
 
-    by : (platform : List ℕ) (asked : Ask) → ask_admission config platform asked ≡ Ok (command.Post checked) → HasItsCost config checked
+    by : (platform : List ℕ) (asked : Ask) → ask_admission config platform asked ≡ Ok (command.Post checked) → IsChecked config checked
     by platform (ask.PutTariff tariff) h =
         let same = four (is_operator config tariff.operator) (may_act_for config platform tariff.operator) (has_currency config tariff.currency) (supported tariff)
         refusal.UnknownParty refusal.NotYours refusal.WrongCurrency refusal.UnsupportedRestriction (command.PutTariff tariff) h in
@@ -155,6 +176,14 @@ posts_are_checked config checked admitted = by admitted.0.platform admitted.0.as
         refusal.UnknownParty refusal.NotYours refusal.WrongCurrency (command.Exposure x) h in
         absurd (cc)
     by platform (ask.Post cdr) h = posted platform (checked_of config platform cdr) cdr refl h
+    by platform (ask.Close c) h = let same = one (is_hub config platform) refusal.NotYours (command.Close c) h in absurd (cc)
+    by platform (ask.Settle s) h =
+        let same = three (is_provider config s.provider) (is_hub config platform) (has_currency config s.currency)
+        refusal.UnknownParty refusal.NotYours refusal.WrongCurrency (command.Settle s) h in
+        absurd (cc)
+    by platform (ask.Statement s) h =
+        let same = two (is_party config s.party) (may_act_for config platform s.party) refusal.UnknownParty refusal.NotYours (command.Statement s) h in
+        absurd (cc)
     by platform (ask.Find f) h =
         let same = two (is_operator config f.operator) (may_act_for config platform f.operator) refusal.UnknownParty refusal.NotYours (command.Find f) h in
         absurd (cc)

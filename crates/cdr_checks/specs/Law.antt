@@ -1,14 +1,22 @@
 -- What follows from the definitions.
-use Rattle.std.specs.Prelude.{◌≡◌, Some}
+use Rattle.std.specs.Prelude.{◌≡◌, ◌≤◌, ◌^◌, true, Some, unwrap_or}
 use Rattle.ocpi_types.specs.declared.config.Config.{Config}
 use Rattle.ocpi_types.specs.declared.config.Operator.{Operator}
-use Rattle.ocpi_types.specs.Config.{operator_of}
+use Rattle.ocpi_types.specs.Config.{has_currency, is_provider, operator_of}
 use Rattle.cdr_checks.specs.Admission.{IsAdmitted}
 use Rattle.cdr_checks.specs.Checked.{Checked, IsCostOf}
 use Rattle.cdr_checks.specs.declared.request.Command.TheVariants as command
 
--- A CDR that some request posts: its operator is configured, its zone is that operator's, and its cost is its price there.
+-- a CDR of a configured operator and provider in a configured currency, with its operator's zone and what its session costs,
+-- which is at most 10^12 ten-thousandths
+pub record IsChecked (config : Config) (checked : Checked) : Type 0 where
+  pub operator : Operator
+  pub has_operator : operator_of config checked.cdr.operator ≡ Some operator
+  pub has_provider : is_provider config checked.cdr.cdr_token.provider ≡ true
+  pub has_currency : has_currency config checked.cdr.currency ≡ true
+  pub in_zone : checked.zone ≡ operator.zone
+  pub at_cost : IsCostOf checked.cost checked.cdr checked.zone
+  pub within : unwrap_or checked.cost 0 ≤ 10 ^ 12
+
 abbrev pub PostsAreChecked : Type 0
-PostsAreChecked = (config : Config) (checked : Checked) → IsAdmitted config (command.Post checked) →
-    (operator : Operator) × (operator_of config checked.cdr.operator ≡ Some operator) × (checked.zone ≡ operator.zone)
-    × IsCostOf checked.cost checked.cdr checked.zone
+PostsAreChecked = (config : Config) (checked : Checked) → IsAdmitted config (command.Post checked) → IsChecked config checked

@@ -1,10 +1,12 @@
 ghost use Rattle.std.specs.Prelude.{◌≡◌, MatchResult, Ok, Err, IfOk};
-ghost use Rattle.cdr_checks.specs.Admission.{admission, ask_admission, authorize_admission, exposure_admission, find_admission, post_admission, put_tariff_admission, put_token_admission, release_admission, IsAdmitted};
+ghost use Rattle.cdr_checks.specs.Admission.{admission, ask_admission, authorize_admission, close_admission, exposure_admission, find_admission, post_admission, put_tariff_admission, put_token_admission, release_admission, settle_admission, statement_admission, IsAdmitted};
 ghost use Rattle.cdr_checks.specs.Inner.HandedBack.{handed_back};
 
 use super::cdr_admission::check;
 use super::refusing::ensure;
-use super::request::{Ask, Authorize, Command, ExposureOf, Find, Release, Request};
+use super::request::{
+    Ask, Authorize, Close, Command, ExposureOf, Find, Release, Request, Settlement, StatementOf,
+};
 use ocpi_json::ci_text::CiText;
 use ocpi_types::{Cdr, Config, Refusal, Tariff, Token};
 use tariff_elements::supported;
@@ -130,6 +132,48 @@ fn find(config: &Config, platform: &CiText<36>, find: &Find) -> Result<Command, 
     Ok(Command::Find(*find))
 }
 
+fn close(config: &Config, platform: &CiText<36>, close: &Close) -> Result<Command, Refusal>
+    ensures { result ≡ close_admission config.now platform.now close.now }
+{
+    let is_hub = config.is_hub(platform);
+    ensure(is_hub, Refusal::NotYours)?;
+    Ok(Command::Close(*close))
+}
+
+fn settle(
+    config: &Config,
+    platform: &CiText<36>,
+    settlement: &Settlement,
+) -> Result<Command, Refusal>
+    ensures { result ≡ settle_admission config.now platform.now settlement.now }
+{
+    ensure(
+        config.is_provider(&settlement.provider),
+        Refusal::UnknownParty,
+    )?;
+    ensure(config.is_hub(platform), Refusal::NotYours)?;
+    ensure(
+        config.has_currency(&settlement.currency),
+        Refusal::WrongCurrency,
+    )?;
+    Ok(Command::Settle(*settlement))
+}
+
+fn statement(
+    config: &Config,
+    platform: &CiText<36>,
+    statement: &StatementOf,
+) -> Result<Command, Refusal>
+    ensures { result ≡ statement_admission config.now platform.now statement.now }
+{
+    ensure(config.is_party(&statement.party), Refusal::UnknownParty)?;
+    ensure(
+        config.may_act_for(platform, &statement.party),
+        Refusal::NotYours,
+    )?;
+    Ok(Command::Statement(*statement))
+}
+
 // What was asked stands beside the refusal.
 fn handed_back(ask: Ask, admitted: Result<Command, Refusal>) -> Result<Command, (Ask, Refusal)>
     ensures { result ≡ handed_back ask admitted }
@@ -157,14 +201,26 @@ fn admit_ask(config: &Config, platform: &CiText<36>, ask: Ask) -> Result<Command
             let admitted = release(config, platform, &asked);
             handed_back(Ask::Release(asked), admitted)
         }
+        Ask::Post(cdr) => post(config, platform, cdr),
+        Ask::Close(asked) => {
+            let admitted = close(config, platform, &asked);
+            handed_back(Ask::Close(asked), admitted)
+        }
+        Ask::Settle(asked) => {
+            let admitted = settle(config, platform, &asked);
+            handed_back(Ask::Settle(asked), admitted)
+        }
         Ask::Exposure(asked) => {
             let admitted = exposure(config, platform, &asked);
             handed_back(Ask::Exposure(asked), admitted)
         }
-        Ask::Post(cdr) => post(config, platform, cdr),
         Ask::Find(asked) => {
             let admitted = find(config, platform, &asked);
             handed_back(Ask::Find(asked), admitted)
+        }
+        Ask::Statement(asked) => {
+            let admitted = statement(config, platform, &asked);
+            handed_back(Ask::Statement(asked), admitted)
         }
     }
 }

@@ -2,7 +2,8 @@
 
 ghost use Rattle.cdr_checks.specs.Law.{PostsAreChecked};
 
-/// A CDR that is admitted has its operator's zone, and as cost its price there, or none where it is a Credit CDR.
+/// A CDR that is admitted is of a configured operator and provider in a configured currency, and has its operator's zone, and
+/// as cost its price there, or none where it is a Credit CDR.
 pub fn posts_are_checked()
     ensures { PostsAreChecked }
 {}

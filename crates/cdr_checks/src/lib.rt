@@ -14,4 +14,6 @@ pub use cdr_admission::check;
 pub use cdr_conditions::is_within_tolerance;
 pub use checked::Checked;
 pub use laws::posts_are_checked;
-pub use request::{Ask, Authorize, Command, ExposureOf, Find, Release, Request};
+pub use request::{
+    Ask, Authorize, Close, Command, ExposureOf, Find, Release, Request, Settlement, StatementOf,
+};

@@ -35,6 +35,27 @@ pub struct Find {
     pub id: CiText<39>,
 }
 
+/// A hub closes the current period.
+#[derive(Clone, Copy)]
+pub struct Close {
+    pub period: u64,
+}
+
+/// A provider has paid what it owed of a period in a currency, as a hub says.
+#[derive(Clone, Copy)]
+pub struct Settlement {
+    pub provider: Party,
+    pub currency: Currency,
+    pub period: u64,
+}
+
+/// A party asks what it and its counterparts owe each other of a closed period.
+#[derive(Clone, Copy)]
+pub struct StatementOf {
+    pub party: Party,
+    pub period: u64,
+}
+
 /// What a request asks for.
 #[derive(Drop)]
 pub enum Ask {
@@ -42,9 +63,12 @@ pub enum Ask {
     PutToken(Token),
     Authorize(Authorize),
     Release(Release),
-    Exposure(ExposureOf),
     Post(Cdr),
+    Close(Close),
+    Settle(Settlement),
+    Exposure(ExposureOf),
     Find(Find),
+    Statement(StatementOf),
 }
 
 /// What a line says: a platform asks for something.
@@ -61,9 +85,12 @@ pub enum Command {
     PutToken(Token),
     Authorize(Authorize),
     Release(Release),
-    Exposure(ExposureOf),
     Post(Checked),
+    Close(Close),
+    Settle(Settlement),
+    Exposure(ExposureOf),
     Find(Find),
+    Statement(StatementOf),
 }
 
 impl TryCopy for Ask {
@@ -75,7 +102,10 @@ impl TryCopy for Ask {
             Ask::Release(release) => Ok(Ask::Release(*release)),
             Ask::Exposure(exposure) => Ok(Ask::Exposure(*exposure)),
             Ask::Post(cdr) => Ok(Ask::Post(cdr.copy(alloc)?)),
+            Ask::Close(close) => Ok(Ask::Close(*close)),
+            Ask::Settle(settlement) => Ok(Ask::Settle(*settlement)),
             Ask::Find(find) => Ok(Ask::Find(*find)),
+            Ask::Statement(statement) => Ok(Ask::Statement(*statement)),
         }
     }
 }
@@ -99,7 +129,10 @@ impl TryCopy for Command {
             Command::Release(release) => Ok(Command::Release(*release)),
             Command::Exposure(exposure) => Ok(Command::Exposure(*exposure)),
             Command::Post(checked) => Ok(Command::Post(checked.copy(alloc)?)),
+            Command::Close(close) => Ok(Command::Close(*close)),
+            Command::Settle(settlement) => Ok(Command::Settle(*settlement)),
             Command::Find(find) => Ok(Command::Find(*find)),
+            Command::Statement(statement) => Ok(Command::Statement(*statement)),
         }
     }
 }

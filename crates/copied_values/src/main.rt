@@ -1,7 +1,7 @@
 //! Copies what it reads, to show that there are copies where there is memory. Standard input is CDRs, one a line, or a
 //! configuration in the first line and requests in the others. Of CDRs it writes what the copy of the first one holds, and
-//! of each other one whether its copy has the same content. Requests it answers, once they, their commands and events
-//! could be copied.
+//! of each other one whether its copy has the same content. Of requests it writes copies of the answers to copies of their
+//! commands, once they and their events could be copied too.
 #![tactic(auto)]
 
 mod cdrs;

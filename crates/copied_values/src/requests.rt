@@ -1,12 +1,12 @@
-//! Requests, commands and events copied.
+//! Requests, commands, events and answers copied.
 
 ghost use Rattle.std.specs.Prelude.{◌≡◌};
 
 use cdr_checks::{Request, admit};
 use ocpi_json::Room;
 use ocpi_types::{Config, Refusal, TryCopy};
-use plain_house::{Event, PlainHouse};
-use request_lines::{request_of, respond};
+use plain_house::{Event, PlainHouse, Refused, Replied, Sequential};
+use request_lines::{answer_line, request_of};
 use std::alloc::Global;
 use std::io::Write;
 use std::str::Lines;
@@ -45,6 +45,23 @@ fn is_line_copied(alloc: Global, room: &mut Room, config: &Config, line: &str) -
     }
 }
 
+fn copied_reply(
+    alloc: Global,
+    reply: &Result<Replied, Refused>,
+) -> Option<Result<Replied, Refused>> {
+    match reply {
+        Ok(replied) => {
+            let answer = replied.answer.copy(alloc).ok()?;
+            Some(Ok(Replied {
+                at: replied.at,
+                answer,
+            }))
+        }
+        Err(refused) if matches!(refused.refusal, Refusal::NoMemory) => None,
+        Err(refused) => Some(Err(*refused)),
+    }
+}
+
 impl Copying {
     fn read(alloc: Global, line: &str) -> Option<Copying> {
         let config = Config::read(alloc, line.as_bytes()).ok()?;
@@ -63,12 +80,32 @@ impl Copying {
         }
     }
 
+    // The reply to a copy of the command.
+    fn reply_to(&mut self, alloc: Global, request: Request) -> Option<Result<Replied, Refused>> {
+        match admit(&self.config, request) {
+            Ok(command) => {
+                let copy = command.copy(alloc).ok()?;
+                Some(self.house.do_command(copy))
+            }
+            Err((_request, refusal)) => Some(Err(Refused { at: None, refusal })),
+        }
+    }
+
+    fn reply(&mut self, alloc: Global, line: &str) -> Option<Result<Replied, Refused>> {
+        match request_of(alloc, &mut self.room, line.as_bytes()) {
+            Ok(request) => self.reply_to(alloc, request),
+            Err(refusal) => Some(Err(Refused { at: None, refusal })),
+        }
+    }
+
+    // A copy of the reply is written.
     fn answer(&mut self, alloc: Global, line: &str) -> Option<Vec<u8>> {
         if !is_line_copied(alloc, &mut self.room, &self.config, line) {
             return None;
         }
-        let line = line.as_bytes();
-        respond(alloc, &mut self.room, &self.config, &mut self.house, line).ok()
+        let reply = self.reply(alloc, line)?;
+        let copy = copied_reply(alloc, &reply)?;
+        answer_line(alloc, &self.config, &copy).ok()
     }
 
     fn is_answered(&mut self, rt: &HostRuntime, line: &str) -> bool {

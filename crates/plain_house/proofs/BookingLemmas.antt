@@ -1,9 +1,10 @@
 -- What holds of a CDR or Credit CDR that a command books.
-use Rattle.std.proofs.Common.{◌≡◌, ℕ, ℤ, pos, neg_ℤ, List, [], ◌∷◌, Bool, true, false, not, refl, sym, ap, subst, ◌∙◌, Option, Some, None, Result, Ok, Err, if◌then◌else◌}
+use Rattle.std.proofs.Common.{◌≡◌, ℕ, ℤ, pos, neg_ℤ, List, [], ◌∷◌, Bool, true, false, not, refl, sym, ap, ◌∙◌, Option, Some, None, Result, Ok, Err, if◌then◌else◌}
 use Rattle.ocpi_types.specs.declared.cdr.Cdr.{Cdr}
 use Rattle.ocpi_types.specs.declared.config.Config.{Config}
 use Rattle.ocpi_types.specs.declared.refusal.Refusal.{Refusal}
 use Rattle.ocpi_types.specs.declared.refusal.Refusal.TheVariants as refusal
+use Rattle.ocpi_types.specs.declared.refusal.Store.{Store}
 use Rattle.ocpi_types.specs.declared.refusal.Store.TheVariants as store
 use Rattle.ocpi_types.specs.Cdr.{is_credit}
 use Rattle.cdr_checks.specs.declared.request.Command.{Command}
@@ -20,12 +21,15 @@ use Rattle.plain_house.specs.declared.event.Hold.{Hold}
 use Rattle.plain_house.specs.Booked.{Booked, booked_as, is_credited}
 use Rattle.plain_house.specs.Entries.{account_entries, book_entries, charge_of, period_of}
 use Rattle.plain_house.specs.Exposure.{released_hold}
-use Rattle.plain_house.specs.House.{allows, cdr_judged, credit_judged, found_of, hold_for, lacks_credit, no_room_for, post_of, release_of, stored_already, unless_covered, unless_valid, verdict}
+use Rattle.plain_house.specs.House.{allows, cdr_judged, credit_judged, found_of, hold_for, lacks_credit, no_room_for, positions_in, post_of, release_of, stored_already, unless_covered, unless_current, unless_open, unless_settled, unless_valid, verdict}
 use Rattle.plain_house.specs.Posting.{as_judged, credited_amount, is_in_window, meets_original, original_of, over_limit, taken_back, unless_booked}
-use Rattle.plain_house.specs.Room.{are_cdrs_full, are_versions_full, first_full, is_account_full, is_order_full}
-use Rattle.plain_house.specs.Tariffs.{lacks_registered, stored_version}
+use Rattle.plain_house.specs.Room.{are_cdrs_full, are_periods_full, are_versions_full, first_full, is_account_full, is_order_full}
+use Rattle.plain_house.specs.Tariffs.{stored_version}
 use Rattle.plain_house.specs.Tokens.{validity}
-use Rattle.plain_house.specs.Verdict.{accepts, refused_at, refused_for}
+use Rattle.plain_house.specs.Obligations.{obligations}
+use Rattle.plain_house.specs.Settlements.{is_settled, settled_debt}
+use Rattle.netting_positions.specs.Statement.{statement_rows}
+use Rattle.plain_house.specs.Verdict.{accepts, refused_at, refused_for, replies}
 use Rattle.plain_house.proofs.VerdictLemmas.{unless_event}
 
 -- ---- only a post books
@@ -74,32 +78,52 @@ only_posts config before (command.Authorize ask) e h books =
     absurd (other (event.Authorised made) e refl (let same : event.Authorised made ≡ e = cc (found.1) in same) books)
 only_posts config before (command.Release release) e h books = absurd (released config before release (released_hold (account_entries before) release) e h books)
 only_posts config before (command.Post checked) e h books = (checked, refl, h)
+only_posts config before (command.Close close) e h books =
+    let found = unless_event
+    (unless_current close.period (period_of before)
+    ∷ refused_at (first_full ((store.Order, is_order_full config before) ∷ (store.Periods, are_periods_full config before) ∷ []))
+    ∷ []) (accepts (answer.Closed close.period (positions_in config before close.period)) (event.Closed close.period)) e h in
+    absurd (other (event.Closed close.period) e refl (let same : event.Closed close.period ≡ e = cc (found.1) in same) books)
+only_posts config before (command.Settle settlement) e h books =
+    let found = unless_event
+    (unless_open settlement.period (period_of before) ∷ unless_settled (is_settled settlement (account_entries before))
+    ∷ no_room_for config before settlement.provider ∷ [])
+    (accepts (answer.Settled (pos (settled_debt settlement (account_entries before)))) (event.Settled settlement)) e h in
+    absurd (other (event.Settled settlement) e refl (let same : event.Settled settlement ≡ e = cc (found.1) in same) books)
 only_posts config before (command.Exposure ask) e h books = absurd (cc)
 only_posts config before (command.Find find) e h books = absurd (sought before find (booked_as find.operator find.id (book_entries before)) e h)
+only_posts config before (command.Statement ask) e h books =
+    let found = unless_event (unless_open ask.period (period_of before) ∷ [])
+    (replies (Ok (answer.Statement (statement_rows ask.party (obligations ask.period (book_entries before)))))) e h in
+    absurd (cc (found.1))
+
+not_full : (what : Store) (full : Bool) (stores : List (Store × Bool)) → refused_at (first_full ((what, full) ∷ stores)) ≡ None → full ≡ false
+not_full what true stores h = absurd (cc)
+not_full what false stores h = refl
 
 -- ---- a CDR that is no Credit CDR
 
 pub cdr_added : (config : Config) (before : List Event) (cdr : Cdr) (cost : ℕ) (found : Option Booked) (lacks : Bool) (e : Event)
     → (cdr_judged config before cdr cost (unless_booked cdr found (if lacks then Err (Err refusal.TariffNotRegistered) else Ok (pos cost)))).event ≡ Some e
-    → (found ≡ None) × (lacks ≡ false) × (event.Cdr cdr cost ≡ e)
+    → (found ≡ None) × (lacks ≡ false) × (are_cdrs_full config cdr.operator (book_entries before) ≡ false) × (event.Cdr cdr cost ≡ e)
 cdr_added config before cdr cost (Some found) lacks e h = absurd (cc)
 cdr_added config before cdr cost None true e h = absurd (cc)
 cdr_added config before cdr cost None false e h =
     let added = unless_event (refused_at (first_full ((store.Cdrs, are_cdrs_full config cdr.operator (book_entries before)) ∷ (store.Account, is_account_full config cdr.cdr_token.provider (account_entries before)) ∷ (store.Order, is_order_full config before) ∷ []))
     ∷ refused_for (over_limit config (charge_of cdr cost (period_of before)) (account_entries before)) ∷ []) (accepts (answer.Accepted (pos cost) (period_of before)) (event.Cdr cdr cost)) e h in
-    (refl, refl, let same : event.Cdr cdr cost ≡ e = cc (added.1) in same)
+    (refl, refl, not_full store.Cdrs (are_cdrs_full config cdr.operator (book_entries before)) ((store.Account, is_account_full config cdr.cdr_token.provider (account_entries before)) ∷ (store.Order, is_order_full config before) ∷ []) added.0.0, let same : event.Cdr cdr cost ≡ e = cc (added.1) in same)
 
 -- ---- a Credit CDR
 
 pub credit_added : (config : Config) (before : List Event) (credit : Cdr) (found : Option Booked) (taken : Result ℤ Refusal) (e : Event)
     → (credit_judged config before credit (unless_booked credit found (as_judged taken))).event ≡ Some e
-    → (found ≡ None) × (amount : ℤ) × (taken ≡ Ok amount) × (event.Credit credit amount ≡ e)
+    → (found ≡ None) × (amount : ℤ) × (taken ≡ Ok amount) × (are_cdrs_full config credit.operator (book_entries before) ≡ false) × (event.Credit credit amount ≡ e)
 credit_added config before credit (Some found) taken e h = absurd (cc)
 credit_added config before credit None (Err why) e h = absurd (cc)
 credit_added config before credit None (Ok amount) e h =
     let added = unless_event (refused_at (first_full ((store.Cdrs, are_cdrs_full config credit.operator (book_entries before)) ∷ (store.Account, is_account_full config credit.cdr_token.provider (account_entries before)) ∷ (store.Order, is_order_full config before) ∷ []))
     ∷ refused_for None ∷ []) (accepts (answer.Accepted amount (period_of before)) (event.Credit credit amount)) e h in
-    (refl, amount, refl, let same : event.Credit credit amount ≡ e = cc (added.1) in same)
+    (refl, amount, refl, not_full store.Cdrs (are_cdrs_full config credit.operator (book_entries before)) ((store.Account, is_account_full config credit.cdr_token.provider (account_entries before)) ∷ (store.Order, is_order_full config before) ∷ []) added.0.0, let same : event.Credit credit amount ≡ e = cc (added.1) in same)
 
 -- what an original is that gives an amount
 pub record Gives (config : Config) (period : ℕ) (credit : Cdr) (entries : List BookEntry) (amount : ℤ) (original : Booked) : Type 0 where

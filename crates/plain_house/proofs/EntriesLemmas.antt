@@ -1,7 +1,6 @@
 -- What is found in the entries of events is found in the events themselves.
-use Rattle.std.proofs.Common.{◌≡◌, ℕ, ◌+◌, List, [], ◌∷◌, ◌++◌, Bool, true, false, ◌||◌, ◌&&◌, if◌then◌else◌, cond, refl, sym, ap, ap₂, ◌∙◌, arith, flat_map, count_by}
+use Rattle.std.proofs.Common.{◌≡◌, ℕ, ◌+◌, List, [], ◌∷◌, ◌++◌, Bool, true, false, ◌||◌, ◌&&◌, if◌then◌else◌, cond, refl, sym, ap, ap₂, ◌∙◌, flat_map, count_by}
 use Rattle.std.specs.List.{list_any}
-use Rattle.std.proofs.lemmas.List.{append-nil}
 use Rattle.std.proofs.lemmas.List.Concat.{flat_map-append}
 use Rattle.std.proofs.lemmas.List.Folds.{list_any-append}
 use Rattle.std.proofs.lemmas.List.Sums.{sum_by-append}
@@ -12,17 +11,17 @@ use Rattle.ocpi_types.specs.SameTariff.{same_tariff}
 use Rattle.plain_house.specs.declared.event.Event.{Event}
 use Rattle.plain_house.specs.declared.event.Event.TheVariants as event
 use Rattle.plain_house.specs.declared.event.Hold.{Hold}
-use Rattle.plain_house.specs.declared.entry.AccountEntry.{AccountEntry}
-use Rattle.plain_house.specs.declared.entry.BookEntry.{BookEntry}
 use Rattle.plain_house.specs.declared.entry.Charge.{Charge}
-use Rattle.plain_house.specs.Booked.{booked, booked_in, credits, is_credited}
-use Rattle.plain_house.specs.Entries.{Dated, dated_from, period_after, book_entry, account_entry, book_entries_from, book_entries, account_entries_from, account_entries}
+use Rattle.plain_house.specs.Booked.{booked_in, credits, is_credited}
+use Rattle.plain_house.specs.Entries.{Dated, dated_from, period_after, book_entry, account_entry, book_entries, account_entries_from, account_entries}
 use Rattle.plain_house.specs.Exposure.{ends_debt, ends_hold, open_holds}
 use Rattle.plain_house.specs.House.{is_hold_of}
+use Rattle.cdr_checks.specs.declared.request.Settlement.{Settlement}
+use Rattle.plain_house.specs.Settlements.{is_settled, settles_same}
 use Rattle.plain_house.specs.Room.{is_cdr_of, is_entry_of, is_version_of}
 use Rattle.plain_house.specs.Tariffs.{version_in, tariff_versions, is_registered}
 use Rattle.plain_house.specs.Tokens.{token_in, tokens}
-use Rattle.plain_house.specs.Inner.Scanned.{version_of_event, event_registers, event_is_version_of, event_is_cdr_of, event_credits, event_is_entry_of, event_is_hold_of, token_of_event, event_ends_hold, event_ends_debt, event_open_hold, event_open_holds}
+use Rattle.plain_house.specs.Inner.Scanned.{version_of_event, event_registers, event_is_version_of, event_is_cdr_of, event_credits, event_is_entry_of, event_is_hold_of, token_of_event, event_ends_hold, event_ends_debt, event_settles_same, event_open_holds}
 
 or-false : (b : Bool) → (b || false) ≡ b
 or-false true = refl
@@ -200,6 +199,19 @@ ends_debt_one charge (event.Closed period) n = refl
 
 pub paid_in_events : (charge : Charge) (es : List Event) → list_any (ends_debt charge) (account_entries es) ≡ list_any (event_ends_debt charge) es
 paid_in_events charge es = any_dated account_entry (ends_debt charge) (event_ends_debt charge) (ends_debt_one charge) 0 es
+
+settles_one : (settlement : Settlement) (e : Event) (n : ℕ) → list_any (settles_same settlement) (account_entry e n) ≡ event_settles_same settlement e
+settles_one settlement (event.Tariff tariff) n = refl
+settles_one settlement (event.Token token) n = refl
+settles_one settlement (event.Authorised hold) n = refl
+settles_one settlement (event.Released release) n = refl
+settles_one settlement (event.Cdr cdr cost) n = refl
+settles_one settlement (event.Credit cdr amount) n = refl
+settles_one settlement (event.Settled other) n = or-false _
+settles_one settlement (event.Closed period) n = refl
+
+pub settled_in_events : (settlement : Settlement) (es : List Event) → is_settled settlement (account_entries es) ≡ list_any (event_settles_same settlement) es
+settled_in_events settlement es = any_dated account_entry (settles_same settlement) (event_settles_same settlement) (settles_one settlement) 0 es
 
 pub open_in_events : (n : ℕ) (es : List Event) → open_holds (account_entries_from n es) ≡ event_open_holds es
 open_in_events n [] = refl

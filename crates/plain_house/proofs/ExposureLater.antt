@@ -1,17 +1,17 @@
 -- How one more entry changes an exposure.
-use Rattle.std.proofs.Common.{◌≡◌, ◌≤◌, ◌||◌, ◌&&◌, ℕ, ◌+◌, List, [], ◌∷◌, ◌++◌, Bool, true, false, not, refl, sym, ap, ◌∙◌, subst, arith, filter, if◌then◌else◌, cond, count_by, flat_map, sum_by}
+use Rattle.std.proofs.Common.{◌≡◌, ◌≤◌, ◌||◌, ◌&&◌, ℕ, ◌+◌, List, [], ◌∷◌, ◌++◌, Bool, true, false, not, refl, sym, ap, ◌∙◌, subst, arith, filter, if◌then◌else◌, cond, count_by}
 use Rattle.std.specs.List.{list_any}
 use Rattle.std.proofs.lemmas.List.{append-nil}
 use Rattle.std.proofs.lemmas.List.Concat.{flat_map-append}
 use Rattle.std.proofs.lemmas.List.Folds.{list_any-append}
-use Rattle.std.proofs.lemmas.List.Sums.{sum_by-append, sum_by-cons}
+use Rattle.std.proofs.lemmas.List.Sums.{sum_by-cons}
 use Rattle.plain_house.specs.declared.event.Event.{Event}
 use Rattle.plain_house.specs.declared.event.Hold.{Hold}
 use Rattle.plain_house.specs.declared.scope.Scope.{Scope}
 use Rattle.plain_house.specs.declared.entry.AccountEntry.{AccountEntry}
 use Rattle.plain_house.specs.declared.entry.AccountEntry.TheVariants as account
 use Rattle.plain_house.specs.declared.entry.Charge.{Charge}
-use Rattle.plain_house.specs.Entries.{is_close, period_after, period_of, account_entry, account_entries_from, account_entries, book_entry, book_entries_from, book_entries}
+use Rattle.plain_house.specs.Entries.{is_close, period_after, period_of, account_entry, account_entries_from, account_entries}
 use Rattle.plain_house.specs.Exposure.{charge_in, charges, charges_within, ends_debt, ends_hold, exposure_of, holds_within, is_owed, open_hold, open_holds, total_charged, total_held}
 use Rattle.plain_house.proofs.HoldsLemmas.{total_held-append}
 use Rattle.plain_house.proofs.PeriodsLemmas.{period_after-cons}
@@ -68,7 +68,7 @@ holds_later p (entry ∷ entries) x =
 
 -- ---- debts
 
-charged_one : (p : Charge → Bool) (charge : Charge) (charges : List Charge)
+pub charged_one : (p : Charge → Bool) (charge : Charge) (charges : List Charge)
     → total_charged (filter p (charge ∷ charges)) ≡ cond (p charge) charge.cost 0 + total_charged (filter p charges)
 charged_one p charge charges = by (p charge)
   where
@@ -82,7 +82,7 @@ at_most true false n h = absurd (let no : false ≡ true = h refl in cc)
 at_most false true n h = omega arith
 at_most false false n h = omega arith
 
-fewer : (p q : Charge → Bool) → ((charge : Charge) → p charge ≡ true → q charge ≡ true) → (charges : List Charge)
+pub fewer : (p q : Charge → Bool) → ((charge : Charge) → p charge ≡ true → q charge ≡ true) → (charges : List Charge)
     → total_charged (filter p charges) ≤ total_charged (filter q charges)
 fewer p q h [] = omega arith
 fewer p q h (charge ∷ charges) =

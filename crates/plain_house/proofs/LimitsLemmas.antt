@@ -1,5 +1,5 @@
 -- An admitted command keeps the limits.
-use Rattle.std.proofs.Common.{◌≡◌, ◌≤◌, ◌||◌, ◌&&◌, ℕ, ℤ, pos, ◌+◌, List, [], ◌∷◌, ◌++◌, Bool, true, false, cond, refl, sym, ap, ◌∙◌, subst, arith, ltb, if◌then◌else◌, Option, Some, None, Result, Ok, Err}
+use Rattle.std.proofs.Common.{◌≡◌, ◌≤◌, ◌||◌, ◌&&◌, ℕ, pos, ◌+◌, List, [], ◌∷◌, ◌++◌, Bool, true, false, cond, refl, sym, ap, ◌∙◌, subst, arith, ltb, if◌then◌else◌, Option, Some, None, Ok, Err}
 use Rattle.std.specs.Option.{option_or}
 use Rattle.std.proofs.lemmas.List.{append-nil}
 use Rattle.std.proofs.lemmas.Bool.{ltb-false}
@@ -24,18 +24,21 @@ use Rattle.plain_house.specs.declared.entry.Charge.{Charge}
 use Rattle.plain_house.specs.Entries.{account_entries, account_entry, book_entries, charge_of, period_of}
 use Rattle.plain_house.specs.Booked.{Booked, booked_as}
 use Rattle.plain_house.specs.Exposure.{exposure_of, of_pair, of_provider, released_hold}
-use Rattle.plain_house.specs.House.{verdict, allows, cdr_judged, credit_judged, post_of, hold_for, lacks_credit, no_room_for, passes, stored_already, unless_covered, unless_valid, release_of, found_of}
+use Rattle.plain_house.specs.House.{verdict, allows, cdr_judged, credit_judged, post_of, hold_for, lacks_credit, no_room_for, passes, positions_in, stored_already, unless_covered, unless_current, unless_open, unless_settled, unless_valid, release_of, found_of}
 use Rattle.plain_house.specs.Legal.{KeepsLimits}
 use Rattle.plain_house.specs.declared.answer.Answer.TheVariants as answer
-use Rattle.plain_house.specs.Room.{are_cdrs_full, are_versions_full, first_full, is_account_full, is_order_full}
+use Rattle.plain_house.specs.Room.{are_cdrs_full, are_periods_full, are_versions_full, first_full, is_account_full, is_order_full}
 use Rattle.plain_house.specs.Tariffs.{stored_version}
 use Rattle.plain_house.specs.Tokens.{validity}
-use Rattle.plain_house.specs.Verdict.{accepts, refused_at, refused_for}
+use Rattle.plain_house.specs.Obligations.{obligations}
+use Rattle.plain_house.specs.Settlements.{is_settled, settled_debt}
+use Rattle.netting_positions.specs.Statement.{statement_rows}
+use Rattle.plain_house.specs.Verdict.{accepts, refused_at, refused_for, replies}
 use Rattle.ocpi_types.specs.declared.refusal.Store.TheVariants as store
 use Rattle.cdr_checks.specs.declared.request.Find.{Find}
 use Rattle.plain_house.specs.Posting.{Judged, above, above_if_any, judged_cdr, judged_credit, over_limit}
 use Rattle.plain_house.proofs.ExposureLater.{entries_push, exposure_later, weight, weight_charge, weight_hold}
-use Rattle.plain_house.proofs.SameScope.{both_are, same_folded_party, same_folded_account, same_limit, same_exposure, same_pair_limit, same_pair_exposure}
+use Rattle.plain_house.proofs.SameScope.{same_folded_party, same_folded_account, same_limit, same_exposure, same_pair_limit, same_pair_exposure}
 use Rattle.plain_house.proofs.VerdictLemmas.{unless_event, no_refusal}
 
 -- the limits, over entries
@@ -264,9 +267,28 @@ keeps_given config events (command.Authorize ask) e h keeps =
     (keeps_entry config events (event.Authorised made) (account.Hold made) refl (keeps_hold config ask (account_entries events) (over config events keeps) covered))
 keeps_given config events (command.Release release) e h keeps = keeps_release config events release (released_hold (account_entries events) release) e h keeps
 keeps_given config events (command.Post checked) e h keeps = keeps_post config events checked.cdr checked.cost e h keeps
+keeps_given config events (command.Close close) e h keeps =
+    let found = unless_event
+    (unless_current close.period (period_of events)
+    ∷ refused_at (first_full ((store.Order, is_order_full config events) ∷ (store.Periods, are_periods_full config events) ∷ []))
+    ∷ []) (accepts (answer.Closed close.period (positions_in config events close.period)) (event.Closed close.period)) e h in
+    let same : event.Closed close.period ≡ e = cc (found.1) in
+    subst (λ (x : Event). KeepsLimits config (events ++ x ∷ [])) same (keeps_no_entry config events (event.Closed close.period) refl keeps)
+keeps_given config events (command.Settle settlement) e h keeps =
+    let found = unless_event
+    (unless_open settlement.period (period_of events) ∷ unless_settled (is_settled settlement (account_entries events))
+    ∷ no_room_for config events settlement.provider ∷ [])
+    (accepts (answer.Settled (pos (settled_debt settlement (account_entries events)))) (event.Settled settlement)) e h in
+    let same : event.Settled settlement ≡ e = cc (found.1) in
+    subst (λ (x : Event). KeepsLimits config (events ++ x ∷ [])) same
+    (keeps_light config events (event.Settled settlement) _ refl (λ provider currency. refl) (λ operator provider currency. refl) keeps)
 keeps_given config events (command.Exposure ask) e h keeps = absurd (cc)
 keeps_given config events (command.Find find) e h keeps =
     keeps_found config events (booked_as find.operator find.id (book_entries events)) find e h
+keeps_given config events (command.Statement ask) e h keeps =
+    let found = unless_event (unless_open ask.period (period_of events) ∷ [])
+    (replies (Ok (answer.Statement (statement_rows ask.party (obligations ask.period (book_entries events)))))) e h in
+    absurd (cc (found.1))
 
 pub keeps_empty : (config : Config) → KeepsLimits config []
 keeps_empty config = record { provider = λ provider currency. omega arith; pair = λ operator provider currency limit e. omega arith }

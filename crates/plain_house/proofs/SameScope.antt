@@ -7,9 +7,7 @@ use Rattle.ocpi_types.specs.declared.config.Config.{Config}
 use Rattle.ocpi_types.specs.Party.{same_party}
 use Rattle.ocpi_types.specs.Config.{row_in, limit_of, pair_limit_of}
 use Rattle.ocpi_types.specs.Currency.{same_currency}
-use Rattle.plain_house.specs.declared.event.Hold.{Hold}
 use Rattle.plain_house.specs.declared.entry.AccountEntry.{AccountEntry}
-use Rattle.plain_house.specs.declared.entry.Charge.{Charge}
 use Rattle.plain_house.specs.Exposure.{charges, exposure_of, is_owed, of_pair, of_provider, open_holds, total_charged, total_held}
 
 pub record FoldedParty : Type 0 where

@@ -1,5 +1,5 @@
 -- The last token that is sought, event by event.
-use Rattle.std.proofs.Common.{◌≡◌, List, [], ◌∷◌, ◌++◌, Bool, true, false, cond, Option, None, Some, find, reverse, option_map, flat_map, refl, sym, ap, ◌∙◌}
+use Rattle.std.proofs.Common.{◌≡◌, List, [], ◌∷◌, ◌++◌, Bool, Option, None, Some, find, reverse, option_map, flat_map, refl, ap, ◌∙◌}
 use Rattle.std.specs.Option.{option_or}
 use Rattle.std.proofs.lemmas.List.{reverse-append}
 use Rattle.std.proofs.lemmas.List.Concat.{flat_map-append}

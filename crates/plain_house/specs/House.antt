@@ -1,5 +1,5 @@
 -- The reply to a command on a list of events, and the event that it adds.
-use Rattle.std.specs.Prelude.{ℕ, ◌+◌, pos, Bool, true, false, ◌||◌, List, [], ◌∷◌, ◌++◌, nat_lt, count_by, length, if◌then◌else◌, Option, Some, None, unwrap_or, option_map, codes, decimal, Ok, Err}
+use Rattle.std.specs.Prelude.{ℕ, ◌+◌, ◌==◌, pos, Bool, true, false, ◌||◌, List, [], ◌∷◌, ◌++◌, nat_lt, count_by, length, if◌then◌else◌, Option, Some, None, unwrap_or, option_map, codes, decimal, Ok, Err}
 use Rattle.ocpi_types.specs.declared.cdr.Cdr.{Cdr}
 use Rattle.ocpi_types.specs.declared.config.Config.{Config}
 use Rattle.ocpi_types.specs.declared.party.Party.{Party}
@@ -11,12 +11,17 @@ use Rattle.ocpi_types.specs.Party.{same_party}
 use Rattle.ocpi_types.specs.Config.{provider_of, limit_of, hold_of, pair_limit_of}
 use Rattle.ocpi_types.specs.SameTariff.{same_tariff}
 use Rattle.cdr_checks.specs.declared.request.Authorize.{Authorize}
+use Rattle.cdr_checks.specs.declared.request.Close.{Close}
 use Rattle.cdr_checks.specs.declared.request.ExposureOf.{ExposureOf}
 use Rattle.cdr_checks.specs.declared.request.Find.{Find}
 use Rattle.cdr_checks.specs.declared.request.Release.{Release}
+use Rattle.cdr_checks.specs.declared.request.Settlement.{Settlement}
+use Rattle.cdr_checks.specs.declared.request.StatementOf.{StatementOf}
 use Rattle.cdr_checks.specs.declared.request.Command.{Command}
 use Rattle.cdr_checks.specs.declared.request.Command.TheVariants as command
-use Rattle.cdr_checks.specs.Checked.{Checked}
+use Rattle.netting_positions.specs.declared.positions.NetPosition.{NetPosition}
+use Rattle.netting_positions.specs.Netting.{net_positions, parties}
+use Rattle.netting_positions.specs.Statement.{statement_rows}
 use Rattle.plain_house.specs.declared.event.Hold.{Hold}
 use Rattle.plain_house.specs.declared.event.Event.{Event}
 use Rattle.plain_house.specs.declared.event.Event.TheVariants as event
@@ -28,9 +33,11 @@ use Rattle.plain_house.specs.declared.entry.BookEntry.{BookEntry}
 use Rattle.plain_house.specs.Booked.{Booked, booked_as, is_credited}
 use Rattle.plain_house.specs.Entries.{period_of, book_entries, account_entries, charge_of}
 use Rattle.plain_house.specs.Exposure.{of_provider, of_pair, released_hold, holds_of, debts_of, exposure_of}
+use Rattle.plain_house.specs.Obligations.{obligations}
 use Rattle.plain_house.specs.Posting.{Judged, OrderSays, judged_cdr, judged_credit, over_limit, posted}
 use Rattle.plain_house.specs.Replies.{Reply, Follows, stamped, with_event}
-use Rattle.plain_house.specs.Room.{are_cdrs_full, are_versions_full, is_account_full, is_order_full, first_full}
+use Rattle.plain_house.specs.Room.{are_cdrs_full, are_periods_full, are_versions_full, is_account_full, is_order_full, first_full}
+use Rattle.plain_house.specs.Settlements.{is_settled, settled_debt}
 use Rattle.plain_house.specs.Tariffs.{stored_version}
 use Rattle.plain_house.specs.Tokens.{validity}
 use Rattle.plain_house.specs.Verdict.{Verdict, Case, replies, accepts, refused_at, unless}
@@ -167,7 +174,42 @@ abbrev pub post_of : Config → List Event → Cdr → Option ℕ → Verdict
 post_of config events cdr None = credit_posted config events cdr
 post_of config events cdr (Some cost) = cdr_posted config events cdr cost
 
--- ---- exposure and find
+-- ---- close
+
+-- only the current period can be closed
+abbrev pub unless_current : ℕ → ℕ → Case
+unless_current period current = if period == current then None else Some (Err (refusal.NotCurrent current))
+
+-- the net positions of all parties in a period
+abbrev pub positions_in : Config → List Event → ℕ → List NetPosition
+positions_in config events period =
+    net_positions (parties config) config.currencies (obligations period (book_entries events))
+
+abbrev pub closed : Config → List Event → Close → Verdict
+closed config events close =
+    unless
+    (unless_current close.period (period_of events)
+    ∷ refused_at (first_full ((store.Order, is_order_full config events) ∷ (store.Periods, are_periods_full config events) ∷ []))
+    ∷ []) (accepts (answer.Closed close.period (positions_in config events close.period)) (event.Closed close.period))
+
+-- ---- settle
+
+-- the period has to be closed
+abbrev pub unless_open : ℕ → ℕ → Case
+unless_open period current = if nat_lt period current then None else Some (Err refusal.PeriodOpen)
+
+abbrev pub unless_settled : Bool → Case
+unless_settled true = Some (Err refusal.AlreadySettled)
+unless_settled false = None
+
+abbrev pub settled : Config → List Event → Settlement → Verdict
+settled config events settlement =
+    unless
+    (unless_open settlement.period (period_of events) ∷ unless_settled (is_settled settlement (account_entries events))
+    ∷ no_room_for config events settlement.provider ∷ [])
+    (accepts (answer.Settled (pos (settled_debt settlement (account_entries events)))) (event.Settled settlement))
+
+-- ---- exposure, find and statement
 
 abbrev pub exposed : Config → ExposureOf → List AccountEntry → Answer
 exposed config ask entries =
@@ -180,6 +222,11 @@ found_of find entries None = replies (Err refusal.UnknownCdr)
 found_of find entries (Some found) =
     replies (Ok (answer.Found found.amount found.period (is_credited find.operator find.id entries)))
 
+abbrev pub stated : List Event → StatementOf → Verdict
+stated events ask =
+    unless (unless_open ask.period (period_of events) ∷ [])
+    (replies (Ok (answer.Statement (statement_rows ask.party (obligations ask.period (book_entries events))))))
+
 -- ---- commands
 
 abbrev pub verdict : Config → List Event → Command → Verdict
@@ -189,9 +236,12 @@ verdict config events (command.Authorize ask) = authorized config events ask
 verdict config events (command.Release release) =
     release_of config events release (released_hold (account_entries events) release)
 verdict config events (command.Post checked) = post_of config events checked.cdr checked.cost
+verdict config events (command.Close close) = closed config events close
+verdict config events (command.Settle settlement) = settled config events settlement
 verdict config events (command.Exposure ask) = replies (Ok (exposed config ask (account_entries events)))
 verdict config events (command.Find find) =
     found_of find (book_entries events) (booked_as find.operator find.id (book_entries events))
+verdict config events (command.Statement ask) = stated events ask
 
 abbrev pub reply_of : Config → List Event → Command → Reply
 reply_of config events command = stamped (length events) (verdict config events command).reply

@@ -4,9 +4,11 @@ pub mod Exposure
 pub mod House
 pub mod Inner
 pub mod Legal
+pub mod Obligations
 pub mod Posting
 pub mod Replies
 pub mod Room
+pub mod Settlements
 pub mod State
 pub mod Tariffs
 pub mod Tokens

@@ -20,9 +20,7 @@ use Rattle.plain_house.specs.declared.entry.AccountEntry.{AccountEntry}
 use Rattle.plain_house.specs.declared.entry.AccountEntry.TheVariants as account
 use Rattle.plain_house.specs.declared.entry.BookEntry.{BookEntry}
 use Rattle.plain_house.specs.declared.entry.Charge.{Charge}
-use Rattle.plain_house.specs.declared.event.Event.TheVariants as event
 use Rattle.plain_house.specs.Booked.{Booked, booked_as, is_credited}
-use Rattle.plain_house.specs.Entries.{charge_of}
 use Rattle.plain_house.specs.Exposure.{of_provider, of_pair, exposure_of}
 use Rattle.plain_house.specs.Room.{first_full}
 use Rattle.plain_house.specs.Tariffs.{lacks_registered}

@@ -1,10 +1,11 @@
 -- How many entries an operator's book, a provider's account and the order have, and which of them is full.
-use Rattle.std.specs.Prelude.{ℕ, Bool, true, false, List, [], ◌∷◌, length, nat_le, count_by, Option, Some, None, if◌then◌else◌}
+use Rattle.std.specs.Prelude.{Bool, false, List, [], ◌∷◌, length, nat_le, count_by, filter, Option, Some, None, if◌then◌else◌}
 use Rattle.ocpi_types.specs.declared.config.Config.{Config}
 use Rattle.ocpi_types.specs.declared.party.Party.{Party}
 use Rattle.ocpi_types.specs.declared.refusal.Store.{Store}
 use Rattle.ocpi_types.specs.Party.{same_party}
 use Rattle.plain_house.specs.declared.event.Event.{Event}
+use Rattle.plain_house.specs.Entries.{period_of}
 use Rattle.plain_house.specs.declared.entry.AccountEntry.{AccountEntry}
 use Rattle.plain_house.specs.declared.entry.AccountEntry.TheVariants as account
 use Rattle.plain_house.specs.declared.entry.BookEntry.{BookEntry}
@@ -31,6 +32,10 @@ is_entry_of provider (account.Charge charge) = same_party charge.provider provid
 is_entry_of provider (account.Credit credit) = same_party credit.provider provider
 is_entry_of provider (account.Settlement settlement) = same_party settlement.provider provider
 
+-- the entries of the provider's account
+abbrev pub own_entries : Party → List AccountEntry → List AccountEntry
+own_entries provider entries = filter (is_entry_of provider) entries
+
 abbrev pub are_cdrs_full : Config → Party → List BookEntry → Bool
 are_cdrs_full config operator entries = nat_le config.limits.cdrs (count_by (is_cdr_of operator) entries)
 
@@ -43,6 +48,9 @@ is_account_full config provider entries = nat_le config.limits.entries (count_by
 -- each event is one entry of the order
 abbrev pub is_order_full : Config → List Event → Bool
 is_order_full config events = nat_le config.limits.order (length events)
+
+abbrev pub are_periods_full : Config → List Event → Bool
+are_periods_full config events = nat_le config.limits.periods (period_of events)
 
 -- the first of these stores that is full
 abbrev pub first_full : List (Store × Bool) → Option Store

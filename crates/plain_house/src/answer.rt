@@ -1,9 +1,12 @@
 use exact_money::Amount;
+use netting_positions::{NetPosition, StatementRow};
 use ocpi_json::ci_text::CiText;
-use ocpi_types::Refusal;
+use ocpi_json::sequence::Sequence;
+use ocpi_types::{Refusal, TryCopy, copied};
+use std::alloc::{AllocError, Global};
 
 /// What an accepted command is answered.
-#[derive(Clone, Copy)]
+#[derive(Drop)]
 pub enum Answer {
     Stored,
     /// The tariff version stands already, with the same content.
@@ -30,6 +33,15 @@ pub enum Answer {
         amount: Amount,
         period: u64,
     },
+    /// The period is closed; all parties have these net positions in it.
+    Closed {
+        period: u64,
+        positions: Sequence<NetPosition>,
+    },
+    /// The debt of this amount is paid.
+    Settled {
+        amount: Amount,
+    },
     Exposure {
         holds: Amount,
         debts: Amount,
@@ -41,10 +53,63 @@ pub enum Answer {
         period: u64,
         credited: bool,
     },
+    /// What the party and its counterparts owe each other.
+    Statement {
+        rows: Sequence<StatementRow>,
+    },
+}
+
+impl TryCopy for Answer {
+    fn copy(&self, alloc: Global) -> Result<Answer, AllocError> {
+        match self {
+            Answer::Stored => Ok(Answer::Stored),
+            Answer::Unchanged => Ok(Answer::Unchanged),
+            Answer::Allowed { reference } => Ok(Answer::Allowed {
+                reference: *reference,
+            }),
+            Answer::Blocked => Ok(Answer::Blocked),
+            Answer::NoCredit => Ok(Answer::NoCredit),
+            Answer::Released { amount } => Ok(Answer::Released { amount: *amount }),
+            Answer::Accepted { amount, period } => Ok(Answer::Accepted {
+                amount: *amount,
+                period: *period,
+            }),
+            Answer::Repeated { amount, period } => Ok(Answer::Repeated {
+                amount: *amount,
+                period: *period,
+            }),
+            Answer::Closed { period, positions } => Ok(Answer::Closed {
+                period: *period,
+                positions: copied(alloc, positions)?,
+            }),
+            Answer::Settled { amount } => Ok(Answer::Settled { amount: *amount }),
+            Answer::Exposure {
+                holds,
+                debts,
+                limit,
+            } => Ok(Answer::Exposure {
+                holds: *holds,
+                debts: *debts,
+                limit: *limit,
+            }),
+            Answer::Found {
+                amount,
+                period,
+                credited,
+            } => Ok(Answer::Found {
+                amount: *amount,
+                period: *period,
+                credited: *credited,
+            }),
+            Answer::Statement { rows } => Ok(Answer::Statement {
+                rows: copied(alloc, rows)?,
+            }),
+        }
+    }
 }
 
 /// An answer, and the number of events before it.
-#[derive(Clone, Copy)]
+#[derive(Drop)]
 pub struct Replied {
     pub at: u64,
     pub answer: Answer,

@@ -29,7 +29,8 @@ fn has_id(cdr: &Cdr, operator: &Party, id: &CiText<39>) -> bool
     cdr.operator.is(operator) && cdr.id == *id
 }
 
-fn booked_in(event: &Event, period: u64) -> Option<BookedCdr<'_>>
+/// The CDR or Credit CDR of an event that stands in the period.
+pub fn booked_in(event: &Event, period: u64) -> Option<BookedCdr<'_>>
     ensures { option_map shown_booked result ≡ booked_of_event event.now period }
 {
     match event {

@@ -1,6 +1,6 @@
 use super::booked_amount::BookedAmount;
-use super::event::{Hold, Settlement};
-use cdr_checks::Release;
+use super::event::Hold;
+use cdr_checks::{Release, Settlement};
 use ocpi_json::ci_text::CiText;
 use ocpi_types::{Cdr, Cost, Currency, Party, Tariff, Token};
 

@@ -1,5 +1,5 @@
 use super::booked_amount::BookedAmount;
-use cdr_checks::Release;
+use cdr_checks::{Release, Settlement};
 use ocpi_json::ci_text::CiText;
 use ocpi_types::config::HoldAmount;
 use ocpi_types::{Cdr, Cost, Currency, Party, Tariff, Token, TryCopy};
@@ -13,14 +13,6 @@ pub struct Hold {
     pub currency: Currency,
     pub amount: HoldAmount,
     pub reference: CiText<36>,
-}
-
-/// A provider has paid what it owed of a period in a currency.
-#[derive(Clone, Copy)]
-pub struct Settlement {
-    pub provider: Party,
-    pub currency: Currency,
-    pub period: u64,
 }
 
 /// What has happened in a house.

@@ -1,16 +1,17 @@
-ghost use Rattle.std.specs.Prelude.{◌≡◌, []};
+ghost use Rattle.std.specs.Prelude.{◌≡◌, ◌≤◌, [], length};
 ghost use Rattle.plain_house.specs.House.{Does};
-ghost use Rattle.plain_house.specs.Legal.{KeepsLimits};
+ghost use Rattle.plain_house.specs.Legal.{CanBeNetted, KeepsLimits};
 
 use super::answer::{Refused, Replied};
 use super::event::Event;
 use super::sequential::Sequential;
-use cdr_checks::Command;
+use cdr_checks::{Command, posts_are_checked};
 use ocpi_types::Config;
 use std::alloc::Global;
 use std::marker::Model;
 
 mod authorize;
+mod close;
 mod credit;
 mod exposure;
 mod find;
@@ -20,9 +21,12 @@ mod put_token;
 mod release;
 mod replies;
 mod room;
+mod settle;
+mod statement;
 
 fn reply(config: &Config, events: &mut Vec<Event>, command: Command) -> Result<Replied, Refused>
-    requires { KeepsLimits config.now events.old.items }
+    requires limits { KeepsLimits config.now events.old.items }
+    requires netting { CanBeNetted config.now events.old.items }
     ensures { Does config.now events.old.items command result events.new.items }
 {
     match command {
@@ -31,9 +35,24 @@ fn reply(config: &Config, events: &mut Vec<Event>, command: Command) -> Result<R
         Command::Authorize(ask) => authorize::authorize(config, events, ask),
         Command::Release(release) => release::release(config, events, release),
         Command::Post(checked) => post::post(config, events, checked),
-        Command::Find(find) => find::find(events.as_slice(), find),
+        Command::Close(close) => close::close(config, events, close),
+        Command::Settle(settlement) => settle::settle(config, events, settlement),
         Command::Exposure(ask) => Ok(exposure::exposure(config, events.as_slice(), ask)),
+        Command::Find(find) => find::find(events.as_slice(), find),
+        Command::Statement(ask) => {
+            let alloc = *events.allocator();
+            statement::statement(alloc, config, events.as_slice(), ask)
+        }
     }
+}
+
+// How many operators and CDRs a configuration may have.
+fn is_bounded(config: &Config)
+    ensures operators { length config.now.operators ≤ 64 }
+    ensures cdrs { config.now.limits.cdrs ≤ 100_000 }
+{
+    let _operators = config.operators.as_slice();
+    let _cdrs = config.limits.cdrs.get();
 }
 
 /// A house of one list of events.
@@ -80,6 +99,8 @@ impl Sequential for PlainHouse {
     ghost config = { λ house. house.config };
 
     fn do_command(&mut self, command: Command) -> Result<Replied, Refused> {
+        is_bounded(&self.config);
+        posts_are_checked();
         reply(&self.config, &mut self.events, command)
     }
 }

@@ -1,8 +1,9 @@
 //! What follows from the definitions.
 
-ghost use Rattle.plain_house.specs.Legal.{CommandsKeepListsLegal, LegalCdrsAreCharged, LegalCreditsAreTakenBack, LegalListsBeginLegally, LegalListsKeepLimits};
+ghost use Rattle.plain_house.specs.Legal.{ClosedPeriodsStay, CommandsKeepListsLegal, EmptyListsAreLegal, EntriesAreDated, ExposureIsOfOwnEntries, ExposureWithChargeIsOfOwnEntries, LegalCdrsAreCharged, LegalCreditsAreTakenBack, LegalListsBeginLegally, LegalListsCanBeNetted, LegalListsKeepLimits, LegalPositionsBalance, SettlementsEndTheirDebts};
 
 use cdr_checks::posts_are_checked;
+use netting_positions::{parties_are_different, positions_balance};
 
 /// An admitted command makes a legal list of a legal list.
 pub fn commands_keep_lists_legal()
@@ -19,6 +20,13 @@ pub fn legal_lists_keep_limits()
     ensures { LegalListsKeepLimits }
 {}
 
+/// What a legal list obliges to can be netted: configured parties and currencies, and amounts that fit in 63 bits.
+pub fn legal_lists_can_be_netted()
+    ensures { LegalListsCanBeNetted }
+{
+    posts_are_checked();
+}
+
 /// A CDR of a legal list costs its price in its operator's zone, its tariffs are registered, and its id is new.
 pub fn legal_cdrs_are_charged()
     ensures { LegalCdrsAreCharged }
@@ -30,3 +38,48 @@ pub fn legal_cdrs_are_charged()
 pub fn legal_credits_are_taken_back()
     ensures { LegalCreditsAreTakenBack }
 {}
+
+/// The exposure of a legal list is that of the entries of the provider's own account.
+pub fn exposure_is_of_own_entries()
+    ensures { ExposureIsOfOwnEntries }
+{
+    legal_cdrs_are_charged();
+    legal_credits_are_taken_back();
+}
+
+/// So it is with the charge added of a CDR whose id is not booked, as credit limits are tested.
+pub fn exposure_with_charge_is_of_own_entries()
+    ensures { ExposureWithChargeIsOfOwnEntries }
+{
+    legal_cdrs_are_charged();
+    legal_credits_are_taken_back();
+}
+
+/// A list without events is legal.
+pub fn empty_lists_are_legal()
+    ensures { EmptyListsAreLegal }
+{}
+
+/// The entries of an event have as period the number of closes before it.
+pub fn entries_are_dated()
+    ensures { EntriesAreDated }
+{}
+
+/// A settlement ends what is owed of its provider, currency and period and nothing else, and the debts go down by so much.
+pub fn settlements_end_their_debts()
+    ensures { SettlementsEndTheirDebts }
+{}
+
+/// What comes after a period is closed leaves its net positions as they were.
+pub fn closed_periods_stay()
+    ensures { ClosedPeriodsStay }
+{}
+
+/// In each period and currency of a legal list the net positions of all parties add up to 0.
+pub fn legal_positions_balance()
+    ensures { LegalPositionsBalance }
+{
+    parties_are_different();
+    positions_balance();
+    posts_are_checked();
+}

@@ -10,6 +10,7 @@ mod event;
 mod holds;
 mod house;
 mod laws;
+mod obligations;
 mod periods;
 mod scope;
 mod sequential;
@@ -19,11 +20,13 @@ mod tokens;
 pub use answer::{Answer, Refused, Replied};
 pub use booked_amount::BookedAmount;
 pub use entry::{AccountEntry, BookEntry, Charge, Credit};
-pub use event::{Event, Hold, Settlement};
+pub use event::{Event, Hold};
 pub use house::PlainHouse;
 pub use laws::{
-    commands_keep_lists_legal, legal_cdrs_are_charged, legal_credits_are_taken_back,
-    legal_lists_begin_legally, legal_lists_keep_limits,
+    closed_periods_stay, commands_keep_lists_legal, empty_lists_are_legal, entries_are_dated,
+    exposure_is_of_own_entries, exposure_with_charge_is_of_own_entries, legal_cdrs_are_charged,
+    legal_credits_are_taken_back, legal_lists_begin_legally, legal_lists_can_be_netted,
+    legal_lists_keep_limits, legal_positions_balance, settlements_end_their_debts,
 };
 pub use scope::Scope;
 pub use sequential::Sequential;

@@ -1,33 +1,20 @@
 -- The line that answers a request: one JSON object, with its members in this order and no space, and a newline.
-use Rattle.std.specs.Prelude.{ℕ, ℤ, Bool, true, false, List, [], ◌∷◌, ◌++◌, Option, Some, None, Ok, Err, codes, decimal}
-use Rattle.json.specs.Token.{Token, begin_object, end_object, key, string, number, boolean}
+use Rattle.std.specs.Prelude.{ℕ, ℤ, Bool, true, false, List, [], ◌∷◌, ◌++◌, Option, Some, None, Ok, Err, codes}
+use Rattle.json.specs.Token.{Token}
 use Rattle.json.specs.Print.{print}
-use Rattle.exact_money.specs.Amount.{amount_text}
 use Rattle.ocpi_json.specs.Name as name
+use Rattle.ocpi_types.specs.declared.config.Config.{Config}
 use Rattle.ocpi_types.specs.declared.refusal.Refusal.{Refusal}
 use Rattle.ocpi_types.specs.declared.refusal.Refusal.TheVariants as refusal
 use Rattle.ocpi_types.specs.Refusal.{refusal_name, store_name, refusal_number, refusal_status}
 use Rattle.plain_house.specs.declared.answer.Answer.{Answer}
-use Rattle.plain_house.specs.declared.answer.Answer.TheVariants.{Stored, Unchanged, Allowed, Blocked, NoCredit, Released, Accepted, Repeated, Exposure, Found}
+use Rattle.plain_house.specs.declared.answer.Answer.TheVariants.{Stored, Unchanged, Allowed, Blocked, NoCredit, Released, Accepted, Repeated, Closed, Settled, Exposure, Found, Statement}
 use Rattle.plain_house.specs.declared.answer.Replied.{Replied}
 use Rattle.plain_house.specs.declared.answer.Refused.{Refused}
 use Rattle.plain_house.specs.Replies.{Reply}
 use Rattle.request_lines.specs.Lines.{newline}
-
--- ---- members
-
-unfoldable pub text_member : List ℕ → List ℕ → List Token
-text_member called text = key called ∷ string text ∷ []
-
-unfoldable pub number_member : List ℕ → ℕ → List Token
-number_member called n = key called ∷ number (decimal n) ∷ []
-
--- an amount stands as a text with four decimals
-unfoldable pub amount_member : List ℕ → ℤ → List Token
-amount_member called amount = key called ∷ string (amount_text amount) ∷ []
-
-unfoldable pub flag_member : List ℕ → Bool → List Token
-flag_member called flag = key called ∷ boolean flag ∷ []
+use Rattle.request_lines.specs.Members.{amount_member, flag_member, number_member, text_member}
+use Rattle.request_lines.specs.TableText.{object, positions_member, rows_member}
 
 -- where a CDR is booked
 abbrev pub booked_members : ℤ → ℕ → List Token
@@ -44,21 +31,27 @@ answer_name NoCredit = codes "NO_CREDIT"
 answer_name (Released amount) = codes "Released"
 answer_name (Accepted amount period) = codes "Accepted"
 answer_name (Repeated amount period) = codes "Repeated"
+answer_name (Closed period positions) = codes "Closed"
+answer_name (Settled amount) = codes "Settled"
 answer_name (Exposure holds debts limit) = codes "Exposure"
 answer_name (Found amount period credited) = codes "Found"
+answer_name (Statement rows) = codes "Statement"
 
-abbrev pub answer_values : Answer → List Token
-answer_values Stored = []
-answer_values Unchanged = []
-answer_values (Allowed reference) = text_member (codes "authorization_reference") reference
-answer_values Blocked = []
-answer_values NoCredit = []
-answer_values (Released amount) = amount_member (codes "amount") amount
-answer_values (Accepted amount period) = booked_members amount period
-answer_values (Repeated amount period) = booked_members amount period
-answer_values (Exposure holds debts limit) =
+abbrev pub answer_values : Config → Answer → List Token
+answer_values config Stored = []
+answer_values config Unchanged = []
+answer_values config (Allowed reference) = text_member (codes "authorization_reference") reference
+answer_values config Blocked = []
+answer_values config NoCredit = []
+answer_values config (Released amount) = amount_member (codes "amount") amount
+answer_values config (Accepted amount period) = booked_members amount period
+answer_values config (Repeated amount period) = booked_members amount period
+answer_values config (Closed period positions) = number_member (codes "period") period ++ positions_member config positions
+answer_values config (Settled amount) = amount_member (codes "amount") amount
+answer_values config (Exposure holds debts limit) =
     amount_member (codes "holds") holds ++ (amount_member (codes "debts") debts ++ amount_member (codes "limit") limit)
-answer_values (Found amount period credited) = booked_members amount period ++ flag_member (codes "credited") credited
+answer_values config (Found amount period credited) = booked_members amount period ++ flag_member (codes "credited") credited
+answer_values config (Statement rows) = rows_member config rows
 
 -- ---- refusals
 
@@ -109,22 +102,23 @@ refusal_values (refusal.TooLate original current) =
 unfoldable pub opening : ℕ → List ℕ → List ℕ → List Token
 opening status called name = number_member (codes "status_code") status ++ text_member called name
 
-abbrev pub replied_values : Replied → List Token
-replied_values replied =
-    opening 1000 (codes "answer") (answer_name replied.answer) ++ (number_member (codes "at") replied.at ++ answer_values replied.answer)
+abbrev pub replied_values : Config → Replied → List Token
+replied_values config replied =
+    opening 1000 (codes "answer") (answer_name replied.answer)
+    ++ (number_member (codes "at") replied.at ++ answer_values config replied.answer)
 
 abbrev pub refused_values : Refused → List Token
 refused_values refused =
     opening (refusal_status refused.refusal) (codes "refusal") (refusal_name refused.refusal)
     ++ (number_member (codes "number") (refusal_number refused.refusal) ++ (at_member refused.at ++ refusal_values refused.refusal))
 
-abbrev pub reply_values : Reply → List Token
-reply_values (Ok replied) = replied_values replied
-reply_values (Err refused) = refused_values refused
+abbrev pub reply_values : Config → Reply → List Token
+reply_values config (Ok replied) = replied_values config replied
+reply_values config (Err refused) = refused_values refused
 
 -- the object of a reply, and its line
-abbrev pub reply_tokens : Reply → List Token
-reply_tokens reply = begin_object ∷ (reply_values reply ++ end_object ∷ [])
+abbrev pub reply_tokens : Config → Reply → List Token
+reply_tokens config reply = object (reply_values config reply)
 
-unfoldable pub answer_text : Reply → List ℕ
-answer_text reply = print (reply_tokens reply) ++ newline ∷ []
+unfoldable pub answer_text : Config → Reply → List ℕ
+answer_text config reply = print (reply_tokens config reply) ++ newline ∷ []

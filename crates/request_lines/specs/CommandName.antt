@@ -2,7 +2,7 @@
 use Rattle.std.specs.Prelude.{ℕ, List, Option, Some, None, codes, if◌then◌else◌}
 use Rattle.std.specs.Str.{bytes_eq}
 use Rattle.request_lines.specs.declared.requests.CommandName.{CommandName}
-use Rattle.request_lines.specs.declared.requests.CommandName.TheVariants.{PutTariff, PutToken, Authorize, Release, Post, Exposure, Find}
+use Rattle.request_lines.specs.declared.requests.CommandName.TheVariants.{PutTariff, PutToken, Authorize, Release, Post, Close, Settle, Exposure, Find, Statement}
 
 abbrev pub command_named : List ℕ → Option CommandName
 command_named text =
@@ -11,5 +11,8 @@ command_named text =
     else (if bytes_eq text (codes "authorize") then Some Authorize
     else (if bytes_eq text (codes "release") then Some Release
     else (if bytes_eq text (codes "post") then Some Post
+    else (if bytes_eq text (codes "close") then Some Close
+    else (if bytes_eq text (codes "settle") then Some Settle
     else (if bytes_eq text (codes "exposure") then Some Exposure
-    else (if bytes_eq text (codes "find") then Some Find else None))))))
+    else (if bytes_eq text (codes "find") then Some Find
+    else (if bytes_eq text (codes "statement") then Some Statement else None)))))))))

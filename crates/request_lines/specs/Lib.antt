@@ -4,5 +4,7 @@ pub mod CommandName
 pub mod Inner
 pub mod Law
 pub mod Lines
+pub mod Members
 pub mod RequestText
 pub mod Script
+pub mod TableText

@@ -1,7 +1,7 @@
 -- What a request line says: a platform, a command, and the command's members in order.
 use Rattle.std.specs.Prelude.{ℕ, List, Option, Some, None, Result, Ok, Err, unwrap_or}
 use Rattle.json.specs.Json.{Json as Data}
-use Rattle.ocpi_json.specs.Fields.{required, optional, as_ci_text, as_object_node, as_parsed}
+use Rattle.ocpi_json.specs.Fields.{required, optional, as_ci_text, as_object_node, as_parsed, as_whole}
 use Rattle.ocpi_json.specs.Members.{◌>>=◌}
 use Rattle.ocpi_json.specs.Reading.{data_of}
 use Rattle.ocpi_json.specs.declared.name.Name.{Name}
@@ -61,6 +61,19 @@ post_at node = do
   cdr ← cdr_at object
   Ok (ask.Post cdr)
 
+-- a period of at most 18 digits
+unfoldable pub close_at : Data → Result Ask Name
+close_at node = do
+  period ← required (as_whole 0 999_999_999_999_999_999) name.Period node
+  Ok (ask.Close (record { period = period }))
+
+unfoldable pub settle_at : Data → Result Ask Name
+settle_at node = do
+  provider ← required (as_parsed party_of) name.Provider node
+  currency ← required (as_parsed currency_of) name.Currency node
+  period ← required (as_whole 0 999_999_999_999_999_999) name.Period node
+  Ok (ask.Settle (record { provider = provider; currency = currency; period = period }))
+
 unfoldable pub exposure_at : Data → Result Ask Name
 exposure_at node = do
   provider ← required (as_parsed party_of) name.Provider node
@@ -73,14 +86,23 @@ find_at node = do
   id ← required (as_ci_text 39) name.Id node
   Ok (ask.Find (record { operator = operator; id = id }))
 
+unfoldable pub statement_at : Data → Result Ask Name
+statement_at node = do
+  party ← required (as_parsed party_of) name.Party node
+  period ← required (as_whole 0 999_999_999_999_999_999) name.Period node
+  Ok (ask.Statement (record { party = party; period = period }))
+
 abbrev pub ask_at : CommandName → Data → Result Ask Name
 ask_at command.PutTariff node = tariff_ask_at node
 ask_at command.PutToken node = token_ask_at node
 ask_at command.Authorize node = authorize_at node
 ask_at command.Release node = release_at node
 ask_at command.Post node = post_at node
+ask_at command.Close node = close_at node
+ask_at command.Settle node = settle_at node
 ask_at command.Exposure node = exposure_at node
 ask_at command.Find node = find_at node
+ask_at command.Statement node = statement_at node
 
 unfoldable pub request_at : Data → Result Request Name
 request_at node = do

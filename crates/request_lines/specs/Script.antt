@@ -36,7 +36,7 @@ reply_in config events line = reply_to config events (command_in config line)
 
 -- the answer to a line, and the events after it
 unfoldable pub answer_of : Config → List Event → List ℕ → List ℕ
-answer_of config events line = answer_text (reply_in config events line)
+answer_of config events line = answer_text config (reply_in config events line)
 
 unfoldable pub after : Config → List Event → List ℕ → List Event
 after config events line = list_with config events (command_in config line)

@@ -1,45 +1,20 @@
 //! The lines that answer requests.
 
-ghost use Rattle.std.specs.Prelude.{◌≡◌, IfOk, [], option_map};
+ghost use Rattle.std.specs.Prelude.{◌≡◌, ◌++◌, IfOk, [], codes, option_map};
 ghost use Rattle.request_lines.specs.Inner.Adding.{Adds};
-ghost use Rattle.request_lines.specs.AnswerText.{text_member, number_member, amount_member, flag_member, booked_members, answer_name, answer_values, at_member, scope_member, refusal_values, opening, replied_values, refused_values, reply_values, answer_text};
+ghost use Rattle.request_lines.specs.Members.{amount_member, flag_member, number_member};
+ghost use Rattle.request_lines.specs.TableText.{positions_member};
+ghost use Rattle.request_lines.specs.AnswerText.{booked_members, answer_name, answer_values, at_member, scope_member, refusal_values, opening, replied_values, refused_values, reply_values, answer_text};
 
 use super::lines::NEWLINE;
+use super::members::{put_amount, put_flag, put_number, put_text};
+use super::tables::{put_positions, put_rows};
 use exact_money::Amount;
 use json::Writer;
-use ocpi_types::Refusal;
+use netting_positions::NetPosition;
+use ocpi_types::{Config, Refusal};
 use plain_house::{Answer, Refused, Replied};
 use std::alloc::{AllocError, Global};
-
-#[tactic(auto, unfolding(crate::specs::AnswerText::text_member))]
-fn put_text(out: &mut Writer, called: &str, text: &str) -> Result<(), AllocError>
-    ensures { Adds result out.old out.new (text_member called.now text.now) }
-{
-    out.key(called)?;
-    out.string(text)
-}
-
-#[tactic(auto, unfolding(crate::specs::AnswerText::number_member))]
-fn put_number(out: &mut Writer, called: &str, number: u64) -> Result<(), AllocError>
-    ensures { Adds result out.old out.new (number_member called.now number) }
-{
-    out.key(called)?;
-    out.u64(number)
-}
-
-#[tactic(auto, unfolding(crate::specs::AnswerText::amount_member))]
-fn put_amount(
-    alloc: Global,
-    out: &mut Writer,
-    called: &str,
-    amount: Amount,
-) -> Result<(), AllocError>
-    ensures { Adds result out.old out.new (amount_member called.now amount) }
-{
-    let text = amount.to_string(alloc)?;
-    out.key(called)?;
-    out.string(text.as_str())
-}
 
 fn answer_name(answer: &Answer) -> &'static str
     ensures { result.now ≡ answer_name answer.now }
@@ -53,8 +28,11 @@ fn answer_name(answer: &Answer) -> &'static str
         Answer::Released { .. } => "Released",
         Answer::Accepted { .. } => "Accepted",
         Answer::Repeated { .. } => "Repeated",
+        Answer::Closed { .. } => "Closed",
+        Answer::Settled { .. } => "Settled",
         Answer::Exposure { .. } => "Exposure",
         Answer::Found { .. } => "Found",
+        Answer::Statement { .. } => "Statement",
     }
 }
 
@@ -65,19 +43,11 @@ fn put_exposure(
     debts: Amount,
     limit: Amount,
 ) -> Result<(), AllocError>
-    ensures { Adds result out.old out.new (answer_values (Answer.Exposure holds debts limit)) }
+    ensures { Adds result out.old out.new (amount_member (codes "holds") holds ++ (amount_member (codes "debts") debts ++ amount_member (codes "limit") limit)) }
 {
     put_amount(alloc, out, "holds", holds)?;
     put_amount(alloc, out, "debts", debts)?;
     put_amount(alloc, out, "limit", limit)
-}
-
-#[tactic(auto, unfolding(crate::specs::AnswerText::flag_member))]
-fn put_flag(out: &mut Writer, called: &str, flag: bool) -> Result<(), AllocError>
-    ensures { Adds result out.old out.new (flag_member called.now flag) }
-{
-    out.key(called)?;
-    out.boolean(flag)
 }
 
 fn put_booked(
@@ -99,14 +69,32 @@ fn put_found(
     period: u64,
     credited: bool,
 ) -> Result<(), AllocError>
-    ensures { Adds result out.old out.new (answer_values (Answer.Found amount period credited)) }
+    ensures { Adds result out.old out.new (booked_members amount period ++ flag_member (codes "credited") credited) }
 {
     put_booked(alloc, out, amount, period)?;
     put_flag(out, "credited", credited)
 }
 
-fn put_answer_values(alloc: Global, out: &mut Writer, answer: &Answer) -> Result<(), AllocError>
-    ensures { Adds result out.old out.new (answer_values answer.now) }
+fn put_closed(
+    alloc: Global,
+    out: &mut Writer,
+    config: &Config,
+    period: u64,
+    positions: &[NetPosition],
+) -> Result<(), AllocError>
+    ensures { Adds result out.old out.new (number_member (codes "period") period ++ positions_member config.now positions.now) }
+{
+    put_number(out, "period", period)?;
+    put_positions(alloc, out, config, positions)
+}
+
+fn put_answer_values(
+    alloc: Global,
+    out: &mut Writer,
+    config: &Config,
+    answer: &Answer,
+) -> Result<(), AllocError>
+    ensures { Adds result out.old out.new (answer_values config.now answer.now) }
 {
     match answer {
         Answer::Stored | Answer::Unchanged | Answer::Blocked | Answer::NoCredit => Ok(()),
@@ -114,8 +102,13 @@ fn put_answer_values(alloc: Global, out: &mut Writer, answer: &Answer) -> Result
             put_text(out, "authorization_reference", reference.as_str())
         }
         Answer::Released { amount } => put_amount(alloc, out, "amount", *amount),
+        Answer::Settled { amount } => put_amount(alloc, out, "amount", *amount),
         Answer::Accepted { amount, period } => put_booked(alloc, out, *amount, *period),
         Answer::Repeated { amount, period } => put_booked(alloc, out, *amount, *period),
+        Answer::Closed { period, positions } => {
+            put_closed(alloc, out, config, *period, positions.as_slice())
+        }
+        Answer::Statement { rows } => put_rows(alloc, out, config, rows.as_slice()),
         Answer::Found {
             amount,
             period,
@@ -136,12 +129,17 @@ fn put_opening(out: &mut Writer, status: u64, called: &str, name: &str) -> Resul
     put_text(out, called, name)
 }
 
-fn put_replied(alloc: Global, out: &mut Writer, replied: &Replied) -> Result<(), AllocError>
-    ensures { Adds result out.old out.new (replied_values replied.now) }
+fn put_replied(
+    alloc: Global,
+    out: &mut Writer,
+    config: &Config,
+    replied: &Replied,
+) -> Result<(), AllocError>
+    ensures { Adds result out.old out.new (replied_values config.now replied.now) }
 {
     put_opening(out, 1000, "answer", answer_name(&replied.answer))?;
     put_number(out, "at", replied.at)?;
-    put_answer_values(alloc, out, &replied.answer)
+    put_answer_values(alloc, out, config, &replied.answer)
 }
 
 fn put_at(out: &mut Writer, at: Option<u64>) -> Result<(), AllocError>
@@ -214,24 +212,29 @@ fn put_refused(alloc: Global, out: &mut Writer, refused: &Refused) -> Result<(),
 fn put_reply(
     alloc: Global,
     out: &mut Writer,
+    config: &Config,
     reply: &Result<Replied, Refused>,
 ) -> Result<(), AllocError>
-    ensures { Adds result out.old out.new (reply_values reply.now) }
+    ensures { Adds result out.old out.new (reply_values config.now reply.now) }
 {
     match reply {
-        Ok(replied) => put_replied(alloc, out, replied),
+        Ok(replied) => put_replied(alloc, out, config, replied),
         Err(refused) => put_refused(alloc, out, refused),
     }
 }
 
-/// The line that answers a reply, with its newline.
+/// The line that answers a reply, with its newline. Parties are written as they are configured.
 #[tactic(auto, unfolding(crate::specs::AnswerText::answer_text))]
-pub fn answer_line(alloc: Global, reply: &Result<Replied, Refused>) -> Result<Vec<u8>, AllocError>
-    ensures { IfOk result (λ text. text.items ≡ answer_text reply.now) }
+pub fn answer_line(
+    alloc: Global,
+    config: &Config,
+    reply: &Result<Replied, Refused>,
+) -> Result<Vec<u8>, AllocError>
+    ensures { IfOk result (λ text. text.items ≡ answer_text config.now reply.now) }
 {
     let mut out = Writer::new(Vec::new(alloc));
     out.begin_object()?;
-    put_reply(alloc, &mut out, reply)?;
+    put_reply(alloc, &mut out, config, reply)?;
     out.end_object()?;
     let mut text = out.into_inner();
     text.push(NEWLINE)?;

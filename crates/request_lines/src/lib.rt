@@ -7,11 +7,13 @@ mod device;
 mod faults;
 mod laws;
 mod lines;
+mod members;
 mod one_line;
 mod progress;
 mod requests;
 mod script;
 mod streams;
+mod tables;
 
 pub use answering::{Answerer, MOST_READ_CALLS, run_lines};
 pub use answers::answer_line;

@@ -91,5 +91,5 @@ pub fn respond<S: Sequential>(
     if is_out_of_memory(&reply) {
         return Err(AllocError);
     }
-    answer_line(alloc, &reply)
+    answer_line(alloc, config, &reply)
 }

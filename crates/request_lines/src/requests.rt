@@ -3,10 +3,14 @@
 ghost use Rattle.std.specs.Prelude.{◌≡◌, IfOk, IfErr, Ok, Err, false};
 ghost use Rattle.json.specs.Value.{value_view as view};
 ghost use Rattle.ocpi_json.specs.Faults.{Finds};
+ghost use Rattle.ocpi_json.specs.Fields.{required, as_whole};
+ghost use Rattle.ocpi_json.specs.declared.name.Name.TheVariants as name;
 ghost use Rattle.plain_house.specs.Replies.{is_refusal_no_memory};
-ghost use Rattle.request_lines.specs.RequestText.{authorize_at, exposure_at, find_at, post_at, release_at, tariff_ask_at, token_ask_at, ask_at, request_at, kind_or_rfid, request_of};
+ghost use Rattle.request_lines.specs.RequestText.{authorize_at, close_at, exposure_at, find_at, post_at, release_at, settle_at, statement_at, tariff_ask_at, token_ask_at, ask_at, request_at, kind_or_rfid, request_of};
 
-use cdr_checks::{Ask, Authorize, ExposureOf, Find, Release, Request};
+use cdr_checks::{
+    Ask, Authorize, Close, ExposureOf, Find, Release, Request, Settlement, StatementOf,
+};
 use ocpi_json::fields::{self, FieldFault};
 use ocpi_json::name::Name;
 use ocpi_json::objects::{FromNode, FromNodeIn, FromText};
@@ -22,8 +26,11 @@ pub enum CommandName {
     Authorize,
     Release,
     Post,
+    Close,
+    Settle,
     Exposure,
     Find,
+    Statement,
 }
 
 impl FromText for CommandName {
@@ -38,8 +45,11 @@ impl FromText for CommandName {
             "authorize" => Some(CommandName::Authorize),
             "release" => Some(CommandName::Release),
             "post" => Some(CommandName::Post),
+            "close" => Some(CommandName::Close),
+            "settle" => Some(CommandName::Settle),
             "exposure" => Some(CommandName::Exposure),
             "find" => Some(CommandName::Find),
+            "statement" => Some(CommandName::Statement),
             _ => None,
         }
     }
@@ -107,6 +117,37 @@ fn read_post(alloc: Global, node: &Node) -> Result<Ask, FieldFault>
     Ok(Ask::Post(cdr))
 }
 
+// 18 digits.
+const MOST_PERIOD: u64 = 999_999_999_999_999_999;
+
+fn period(node: &Node) -> Result<u64, Name>
+    ensures { result ≡ required (as_whole 0 999_999_999_999_999_999) name.Period (view node.now) }
+{
+    fields::whole(node, Name::Period, 0, MOST_PERIOD)
+}
+
+#[tactic(auto, unfolding(crate::specs::RequestText::close_at))]
+fn read_close(node: &Node) -> Result<Ask, Name>
+    ensures { result ≡ close_at (view node.now) }
+{
+    let period = period(node)?;
+    Ok(Ask::Close(Close { period }))
+}
+
+#[tactic(auto, unfolding(crate::specs::RequestText::settle_at))]
+fn read_settle(node: &Node) -> Result<Ask, Name>
+    ensures { result ≡ settle_at (view node.now) }
+{
+    let provider = members::party(node, Name::Provider)?;
+    let currency = members::currency(node, Name::Currency)?;
+    let period = period(node)?;
+    Ok(Ask::Settle(Settlement {
+        provider,
+        currency,
+        period,
+    }))
+}
+
 #[tactic(auto, unfolding(crate::specs::RequestText::exposure_at))]
 fn read_exposure(node: &Node) -> Result<Ask, Name>
     ensures { result ≡ exposure_at (view node.now) }
@@ -125,6 +166,15 @@ fn read_find(node: &Node) -> Result<Ask, Name>
     Ok(Ask::Find(Find { operator, id }))
 }
 
+#[tactic(auto, unfolding(crate::specs::RequestText::statement_at))]
+fn read_statement(node: &Node) -> Result<Ask, Name>
+    ensures { result ≡ statement_at (view node.now) }
+{
+    let party = members::party(node, Name::Party)?;
+    let period = period(node)?;
+    Ok(Ask::Statement(StatementOf { party, period }))
+}
+
 fn read_ask(alloc: Global, command: CommandName, node: &Node) -> Result<Ask, FieldFault>
     ensures { Finds result (ask_at command (view node.now)) }
 {
@@ -134,8 +184,11 @@ fn read_ask(alloc: Global, command: CommandName, node: &Node) -> Result<Ask, Fie
         CommandName::Authorize => Ok(read_authorize(node)?),
         CommandName::Release => Ok(read_release(node)?),
         CommandName::Post => read_post(alloc, node),
+        CommandName::Close => Ok(read_close(node)?),
+        CommandName::Settle => Ok(read_settle(node)?),
         CommandName::Exposure => Ok(read_exposure(node)?),
         CommandName::Find => Ok(read_find(node)?),
+        CommandName::Statement => Ok(read_statement(node)?),
     }
 }
 

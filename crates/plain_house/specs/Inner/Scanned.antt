@@ -9,6 +9,7 @@ use Rattle.ocpi_types.specs.Party.{same_party}
 use Rattle.ocpi_types.specs.Currency.{same_currency}
 use Rattle.ocpi_types.specs.SameTariff.{same_tariff}
 use Rattle.ocpi_types.specs.declared.refusal.Refusal.{Refusal}
+use Rattle.cdr_checks.specs.declared.request.Settlement.{Settlement}
 use Rattle.plain_house.specs.declared.answer.Answer.{Answer}
 use Rattle.plain_house.specs.Replies.{is_no_memory, stamped}
 use Rattle.plain_house.specs.declared.scope.Scope.{Scope}
@@ -18,7 +19,9 @@ use Rattle.plain_house.specs.declared.event.Event.TheVariants as event
 use Rattle.plain_house.specs.declared.entry.AccountEntry.{AccountEntry}
 use Rattle.plain_house.specs.declared.entry.AccountEntry.TheVariants as account
 use Rattle.plain_house.specs.declared.entry.Charge.{Charge}
-use Rattle.plain_house.specs.Exposure.{names, charges, charges_within, ends_hold, holds_within}
+use Rattle.plain_house.specs.declared.debts.Sought.{Sought}
+use Rattle.plain_house.specs.declared.debts.Sought.TheVariants as sought
+use Rattle.plain_house.specs.Exposure.{names, charges, charges_within, ends_debt, ends_hold, holds_within}
 use Rattle.plain_house.specs.Booked.{Booked}
 use Rattle.plain_house.specs.declared.booked.BookedCdr.{BookedCdr}
 
@@ -133,6 +136,18 @@ event_ends_debt charge (event.Settled settlement) =
     && (settlement.period == charge.period)
 event_ends_debt charge (event.Closed period) = false
 
+abbrev pub event_settles_same : Settlement → Event → Bool
+event_settles_same settlement (event.Tariff tariff) = false
+event_settles_same settlement (event.Token token) = false
+event_settles_same settlement (event.Authorised hold) = false
+event_settles_same settlement (event.Released release) = false
+event_settles_same settlement (event.Cdr cdr cost) = false
+event_settles_same settlement (event.Credit cdr amount) = false
+event_settles_same settlement (event.Settled other) =
+    same_party other.provider settlement.provider && same_currency other.currency settlement.currency
+    && (other.period == settlement.period)
+event_settles_same settlement (event.Closed period) = false
+
 -- ---- open holds
 
 abbrev pub event_open_hold : Event → List Event → List Hold
@@ -165,13 +180,18 @@ still_holds scope charge hold = holds_within scope hold && not (uses charge hold
 
 -- ---- debts
 
--- the charge is within the scope, and none of the events ends its debt
-abbrev pub is_owed_in : Scope → List Event → Charge → Bool
-is_owed_in scope events charge = charges_within scope charge && not (list_any (event_ends_debt charge) events)
+-- the charge is one of those that are sought
+abbrev pub is_sought : Sought → Charge → Bool
+is_sought (sought.Within scope) charge = charges_within scope charge
+is_sought (sought.EndedBy settlement) charge = ends_debt charge (account.Settlement settlement)
+
+-- the charge is sought, and none of the events ends its debt
+abbrev pub is_owed_in : Sought → List Event → Charge → Bool
+is_owed_in wanted events charge = is_sought wanted charge && not (list_any (event_ends_debt charge) events)
 
 -- those of these entries
-abbrev pub owed_charges : Scope → List Event → List AccountEntry → List Charge
-owed_charges scope events entries = filter (is_owed_in scope events) (charges entries)
+abbrev pub owed_charges : Sought → List Event → List AccountEntry → List Charge
+owed_charges wanted events entries = filter (is_owed_in wanted events) (charges entries)
 
 -- ---- CDRs as a scan finds them
 

@@ -3,10 +3,11 @@
 ghost use Rattle.std.specs.Prelude.{◌≡◌, [], ◌∷◌, count_by};
 ghost use Rattle.ocpi_types.specs.declared.refusal.Store.TheVariants as store;
 ghost use Rattle.plain_house.specs.Entries.{account_entries, book_entries};
-ghost use Rattle.plain_house.specs.Room.{are_cdrs_full, are_versions_full, first_full, is_account_full, is_cdr_of, is_entry_of, is_order_full, is_version_of};
+ghost use Rattle.plain_house.specs.Room.{are_cdrs_full, are_periods_full, are_versions_full, first_full, is_account_full, is_cdr_of, is_entry_of, is_order_full, is_version_of};
 ghost use Rattle.plain_house.specs.Inner.Scanned.{event_is_cdr_of, event_is_entry_of, event_is_version_of};
 
 use crate::event::Event;
+use crate::periods::period_of;
 use ocpi_types::{Cdr, Config, Party, Store};
 
 fn is_entry_of(event: &Event, provider: &Party) -> bool
@@ -104,6 +105,26 @@ fn full_order(config: &Config, events: &[Event]) -> Option<Store>
 {
     if config.limits.order.get() <= events.len() as u64 {
         return Some(Store::Order);
+    }
+    None
+}
+
+fn are_periods_full(config: &Config, events: &[Event]) -> bool
+    ensures { result ≡ are_periods_full config.now events.now }
+{
+    config.limits.periods.get() <= period_of(events)
+}
+
+/// The store that is full, the order first, where a period cannot be closed.
+pub fn full_for_close(config: &Config, events: &[Event]) -> Option<Store>
+    ensures { result ≡ first_full ((store.Order, is_order_full config.now events.now)
+        ∷ (store.Periods, are_periods_full config.now events.now) ∷ []) }
+{
+    if full_order(config, events).is_some() {
+        return Some(Store::Order);
+    }
+    if are_periods_full(config, events) {
+        return Some(Store::Periods);
     }
     None
 }

@@ -9,5 +9,5 @@ use Rattle.plain_house.proofs.debts.owed_by.Goals as goal
 pub returns-in-Cdr : goal.returns-in-Cdr
 returns-in-Cdr c =
     c.owed_on.ensures.value
-    ∙ ap (λ (charge : Charge). total_charged (filter (is_owed_in c.args.scope.now c.args.events.now) (charge ∷ []))) c.charge_of.ensures
-    ∙ ap (λ (e : Event). total_charged (owed_charges c.args.scope.now c.args.events.now (account_entry e c.args.period))) (sym c.in-Cdr.is)
+    ∙ ap (λ (charge : Charge). total_charged (filter (is_owed_in c.args.sought.now c.args.events.now) (charge ∷ []))) c.charge_of.ensures
+    ∙ ap (λ (e : Event). total_charged (owed_charges c.args.sought.now c.args.events.now (account_entry e c.args.period))) (sym c.in-Cdr.is)

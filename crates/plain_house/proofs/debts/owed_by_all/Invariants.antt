@@ -6,8 +6,8 @@ use Rattle.plain_house.proofs.debts.owed_by_all.Given as goal
 
 abbrev pub invariant-loop-event : goal.invariant-loop-event
 invariant-loop-event l = record {
-  total : l.total + total_charged (owed_charges l.scope l.events (account_entries_from l.period l.rest))
-      ≡ total_charged (owed_charges l.scope l.events (account_entries l.events));
+  total : l.total + total_charged (owed_charges l.sought l.events (account_entries_from l.period l.rest))
+      ≡ total_charged (owed_charges l.sought l.events (account_entries l.events));
   periods : l.period + length l.rest ≤ length l.events;
 }
 

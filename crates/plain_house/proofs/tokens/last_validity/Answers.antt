@@ -1,4 +1,4 @@
-use Rattle.std.proofs.Common.{◌≡◌, ◌++◌, ◌∷◌, [], ◌<◌, ap, sym, ◌∙◌, arith, take, length, reverse, flat_map, Bool, List, Option}
+use Rattle.std.proofs.Common.{◌++◌, ◌∷◌, [], ◌<◌, ap, sym, ◌∙◌, arith, take, length, reverse, flat_map, Bool, List, Option}
 use Rattle.std.specs.Option.{option_or}
 use Rattle.std.proofs.lemmas.List.{take_more}
 use Rattle.ocpi_types.specs.declared.token.Token.{Token}

@@ -1,6 +1,3 @@
-use Rattle.std.proofs.Common.{subst, sym, List}
-use Rattle.plain_house.specs.declared.event.Event.{Event}
-use Rattle.plain_house.specs.Legal.{IsLegal}
 use Rattle.plain_house.proofs.LegalLemmas.{legal_empty}
 use Rattle.plain_house.proofs.house.PlainHouse.new.Goals as goal
 

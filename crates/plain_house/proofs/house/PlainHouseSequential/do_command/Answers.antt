@@ -3,10 +3,14 @@ use Rattle.cdr_checks.specs.Admission.{IsAdmitted}
 use Rattle.plain_house.specs.Replies.{is_no_memory}
 use Rattle.plain_house.specs.State.{State}
 use Rattle.plain_house.proofs.LegalLemmas.{legal_given, legal_keeps}
+use Rattle.plain_house.proofs.NettingLemmas.{can_be_netted}
 use Rattle.plain_house.proofs.house.PlainHouseSequential.do_command.Goals as goal
 
 pub reply-requires : goal.reply-requires
-reply-requires c = legal_keeps _ _ c.self.invariant
+reply-requires c = record {
+  limits = legal_keeps _ _ c.self.invariant;
+  netting = can_be_netted c.posts_are_checked.ensures _ _ c.is_bounded.ensures.operators c.is_bounded.ensures.cdrs c.self.invariant;
+}
 
 pub invariant_of-self : goal.invariant_of-self
 invariant_of-self c =

@@ -1,7 +1,6 @@
-use Rattle.std.proofs.Common.{◌≤◌, ◌+◌, ◌^◌, ◌∷◌, [], ◌++◌, arith}
+use Rattle.std.proofs.Common.{arith}
 use Rattle.plain_house.specs.declared.entry.AccountEntry.TheVariants as account
 use Rattle.plain_house.specs.Entries.{account_entries}
-use Rattle.plain_house.specs.Exposure.{exposure_of}
 use Rattle.plain_house.proofs.ExposureLater.{exposure_later, weight_charge-le}
 use Rattle.plain_house.proofs.house.post.above_with.Goals as goal
 

@@ -1,0 +1,21 @@
+-- What booked CDRs and Credit CDRs oblige providers to pay to operators, period by period.
+use Rattle.std.specs.Prelude.{ℕ, ◌==◌, List, Bool, filter, map}
+use Rattle.netting_positions.specs.declared.obligation.Obligation.{Obligation}
+use Rattle.plain_house.specs.declared.entry.BookEntry.{BookEntry}
+use Rattle.plain_house.specs.Booked.{Booked, booked}
+
+-- a CDR obliges its provider to pay its operator the amount at which it is booked
+abbrev pub obligation_of : Booked → Obligation
+obligation_of found = record {
+  operator = found.cdr.operator;
+  provider = found.cdr.cdr_token.provider;
+  currency = found.cdr.currency;
+  amount = found.amount;
+}
+
+abbrev pub is_of_period : ℕ → Booked → Bool
+is_of_period period found = found.period == period
+
+-- those of one period
+abbrev pub obligations : ℕ → List BookEntry → List Obligation
+obligations period entries = map obligation_of (filter (is_of_period period) (booked entries))

@@ -1,0 +1,34 @@
+//! The statement of a party.
+
+ghost use Rattle.std.specs.Prelude.{◌≡◌};
+ghost use Rattle.plain_house.specs.House.{stated};
+ghost use Rattle.plain_house.specs.Legal.{CanBeNetted};
+ghost use Rattle.plain_house.specs.Replies.{Follows};
+
+use super::replies::{out_of_memory, refused, replied};
+use crate::answer::{Answer, Refused, Replied};
+use crate::event::Event;
+use crate::obligations::statement_rows;
+use crate::periods::period_of;
+use cdr_checks::StatementOf;
+use ocpi_types::{Config, Refusal};
+use std::alloc::Global;
+
+pub fn statement(
+    alloc: Global,
+    config: &Config,
+    events: &[Event],
+    ask: StatementOf,
+) -> Result<Replied, Refused>
+    requires { CanBeNetted config.now events.now }
+    ensures { Follows (stated events.now ask) events.now result events.now }
+{
+    let at = events.len();
+    if period_of(events) <= ask.period {
+        return Err(refused(at, Refusal::PeriodOpen));
+    }
+    let Ok(rows) = statement_rows(alloc, events, ask.period, &ask.party) else {
+        return Err(out_of_memory());
+    };
+    Ok(replied(at, Answer::Statement { rows }))
+}
