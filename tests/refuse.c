@@ -1,5 +1,5 @@
-/* Preloaded before a program: refuses its request for memory number REFUSE, counted from 1, and then makes the file
-   REFUSED. Every other request is passed on. */
+/* Preloaded before a program: refuses its request for memory number REFUSE, counted from 1 over all its threads, and then
+   makes the file REFUSED. Every other request is passed on. */
 #define _GNU_SOURCE
 #include <dlfcn.h>
 #include <errno.h>
@@ -15,7 +15,7 @@ static int refuses(void)
     const char *mark = getenv("REFUSED");
     int file;
 
-    if (number == NULL || mark == NULL || ++asked != atol(number))
+    if (number == NULL || mark == NULL || __atomic_add_fetch(&asked, 1, __ATOMIC_SEQ_CST) != atol(number))
         return 0;
     file = open(mark, O_CREAT | O_WRONLY, 0600);
     if (file >= 0)

@@ -37,15 +37,16 @@ pub(crate) fn cdr_text(alloc: Global, periods: usize) -> Result<String, AllocErr
     Ok(text)
 }
 
-fn cdr(alloc: Global, periods: usize) -> Option<Cdr> {
+/// That CDR.
+pub(crate) fn cdr(alloc: Global, periods: usize) -> Option<Cdr> {
     let text = cdr_text(alloc, periods).ok()?;
     let mut room = Room::new(alloc);
     let node = room.read(text.as_bytes()).ok()?;
     Cdr::from_node_in(alloc, &node).ok()
 }
 
-// What the CDR costs in ten-thousandths; 0 where it has no amount.
-fn rated_once(cdr: &Cdr, zone: &Zone) -> i64 {
+/// What the CDR costs in ten-thousandths; 0 where it has no amount.
+pub(crate) fn rated_once(cdr: &Cdr, zone: &Zone) -> i64 {
     if cdr.is_credit() {
         return 0;
     }

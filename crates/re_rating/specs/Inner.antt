@@ -1,0 +1,2 @@
+-- Words that private contracts and proofs use and no reader has to believe.
+pub mod OneDifference

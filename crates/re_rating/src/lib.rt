@@ -1,0 +1,9 @@
+//! CDRs that were booked are rated again, over all processors, and held against what was booked.
+#![tactic(auto)]
+
+mod rating;
+mod records;
+
+pub use cdr_rating::Zone;
+pub use rating::re_rate;
+pub use records::{Difference, Record};

@@ -1,0 +1,3 @@
+. ../records.sh
+
+record 4.9999 20
