@@ -1,6 +1,6 @@
 ghost use Rattle.std.specs.Prelude.{◌≡◌, ◌≤◌, [], length};
 ghost use Rattle.plain_house.specs.House.{Does};
-ghost use Rattle.plain_house.specs.Legal.{CanBeNetted, KeepsLimits};
+ghost use Rattle.plain_house.specs.Legal.{CanBeNetted, IsLegal, KeepsLimits};
 
 use super::answer::{Refused, Replied};
 use super::event::Event;
@@ -90,6 +90,13 @@ impl PlainHouse {
         ensures { result.now ≡ self.now.events }
     {
         self.events.as_slice()
+    }
+
+    /// States that what has happened is legal under the configuration.
+    pub fn has_legal_list(&self)
+        ensures { IsLegal self.now.config self.now.events }
+    {
+        let _ = &self.events;
     }
 }
 

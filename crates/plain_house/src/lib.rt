@@ -28,5 +28,7 @@ pub use laws::{
     legal_credits_are_taken_back, legal_lists_begin_legally, legal_lists_can_be_netted,
     legal_lists_keep_limits, legal_positions_balance, settlements_end_their_debts,
 };
+pub use obligations::statement_rows;
+pub use periods::period_after;
 pub use scope::Scope;
 pub use sequential::Sequential;

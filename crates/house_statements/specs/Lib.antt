@@ -1,0 +1,4 @@
+pub mod Inner
+pub mod Order
+pub mod Statement
+pub mod Table
