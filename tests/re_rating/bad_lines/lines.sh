@@ -9,6 +9,6 @@ echo '5.0000 {"country_code":'
 record 4.9997 -1
 echo '5.0000 []'
 echo " $(record 5.0000 20)"
-echo "5.0000	$(cdr 20 T1)"
-cdr 20 T1
+echo "5.0000	$(cdr 20 G1)"
+cdr 20 G1
 record 4.9996 20
