@@ -1,5 +1,5 @@
 -- What holds of a CDR or Credit CDR that a command books.
-use Rattle.std.proofs.Common.{◌≡◌, ℕ, ℤ, pos, neg_ℤ, List, [], ◌∷◌, Bool, true, false, not, refl, sym, ap, ◌∙◌, Option, Some, None, Result, Ok, Err, if◌then◌else◌}
+use Rattle.std.proofs.Common.{length, ◌≡◌, ℕ, ℤ, pos, neg_ℤ, List, [], ◌∷◌, Bool, true, false, not, refl, sym, ap, ◌∙◌, Option, Some, None, Result, Ok, Err, if◌then◌else◌}
 use Rattle.ocpi_types.specs.declared.cdr.Cdr.{Cdr}
 use Rattle.ocpi_types.specs.declared.config.Config.{Config}
 use Rattle.ocpi_types.specs.declared.refusal.Refusal.{Refusal}
@@ -19,6 +19,7 @@ use Rattle.plain_house.specs.declared.event.Event.{Event}
 use Rattle.plain_house.specs.declared.event.Event.TheVariants as event
 use Rattle.plain_house.specs.declared.event.Hold.{Hold}
 use Rattle.plain_house.specs.Booked.{Booked, booked_as, is_credited}
+use Rattle.plain_house.specs.Known.{known}
 use Rattle.plain_house.specs.Entries.{account_entries, book_entries, charge_of, period_of}
 use Rattle.plain_house.specs.Exposure.{released_hold}
 use Rattle.plain_house.specs.House.{allows, cdr_judged, credit_judged, found_of, hold_for, lacks_credit, no_room_for, positions_in, post_of, release_of, stored_already, unless_covered, unless_current, unless_open, unless_settled, unless_valid, verdict}
@@ -48,32 +49,32 @@ other : (made e : Event) → is_booking made ≡ false → made ≡ e → is_boo
 other made e h same books = let no : false ≡ true = sym h ∙ ap is_booking same ∙ books in cc
 
 abbrev pub IsPosted : Config → List Event → Command → Event → Type 0
-IsPosted config before told e = (checked : Checked) × (told ≡ command.Post checked) × ((post_of config before checked.cdr checked.cost).event ≡ Some e)
+IsPosted config before told e = (checked : Checked) × (told ≡ command.Post checked) × ((post_of config (known before) checked.cdr checked.cost).event ≡ Some e)
 
-released : (config : Config) (before : List Event) (release : Release) (hold : Option Hold) (e : Event) → (release_of config before release hold).event ≡ Some e → is_booking e ≡ true → ⊥
+released : (config : Config) (before : List Event) (release : Release) (hold : Option Hold) (e : Event) → (release_of config (known before) release hold).event ≡ Some e → is_booking e ≡ true → ⊥
 released config before release None e h books = cc
 released config before release (Some held) e h books =
-    let found = unless_event (no_room_for config before release.provider ∷ []) (accepts (answer.Released (pos held.amount)) (event.Released release)) e h in
+    let found = unless_event (no_room_for config (known before) release.provider ∷ []) (accepts (answer.Released (pos held.amount)) (event.Released release)) e h in
     other (event.Released release) e refl (let same : event.Released release ≡ e = cc (found.1) in same) books
 
 sought : (before : List Event) (find : Find) (found : Option Booked) (e : Event) → (found_of find (book_entries before) found).event ≡ Some e → ⊥
 sought before find None e h = cc
 sought before find (Some found) e h = cc
 
-pub only_posts : (config : Config) (before : List Event) (told : Command) (e : Event) → (verdict config before told).event ≡ Some e → is_booking e ≡ true → IsPosted config before told e
+pub only_posts : (config : Config) (before : List Event) (told : Command) (e : Event) → (verdict config (known before) told).event ≡ Some e → is_booking e ≡ true → IsPosted config before told e
 only_posts config before (command.PutTariff tariff) e h books =
     let found = unless_event
     (stored_already tariff (stored_version tariff (book_entries before))
-    ∷ refused_at (first_full ((store.Tariffs, are_versions_full config tariff.operator (book_entries before)) ∷ (store.Order, is_order_full config before) ∷ []))
+    ∷ refused_at (first_full ((store.Tariffs, are_versions_full config tariff.operator (book_entries before)) ∷ (store.Order, is_order_full config (length before)) ∷ []))
     ∷ []) (accepts answer.Stored (event.Tariff tariff)) e h in
     absurd (other (event.Tariff tariff) e refl (let same : event.Tariff tariff ≡ e = cc (found.1) in same) books)
 only_posts config before (command.PutToken token) e h books =
-    let found = unless_event (no_room_for config before token.provider ∷ []) (accepts answer.Stored (event.Token token)) e h in
+    let found = unless_event (no_room_for config (known before) token.provider ∷ []) (accepts answer.Stored (event.Token token)) e h in
     absurd (other (event.Token token) e refl (let same : event.Token token ≡ e = cc (found.1) in same) books)
 only_posts config before (command.Authorize ask) e h books =
     let made = hold_for config ask (account_entries before) in
     let found = unless_event
-    (unless_valid (validity ask.provider ask.uid ask.kind (account_entries before)) ∷ no_room_for config before ask.provider
+    (unless_valid (validity ask.provider ask.uid ask.kind (account_entries before)) ∷ no_room_for config (known before) ask.provider
     ∷ unless_covered (lacks_credit config ask (account_entries before)) ∷ []) (allows made) e h in
     absurd (other (event.Authorised made) e refl (let same : event.Authorised made ≡ e = cc (found.1) in same) books)
 only_posts config before (command.Release release) e h books = absurd (released config before release (released_hold (account_entries before) release) e h books)
@@ -81,13 +82,13 @@ only_posts config before (command.Post checked) e h books = (checked, refl, h)
 only_posts config before (command.Close close) e h books =
     let found = unless_event
     (unless_current close.period (period_of before)
-    ∷ refused_at (first_full ((store.Order, is_order_full config before) ∷ (store.Periods, are_periods_full config before) ∷ []))
-    ∷ []) (accepts (answer.Closed close.period (positions_in config before close.period)) (event.Closed close.period)) e h in
+    ∷ refused_at (first_full ((store.Order, is_order_full config (length before)) ∷ (store.Periods, are_periods_full config (period_of before)) ∷ []))
+    ∷ []) (accepts (answer.Closed close.period (positions_in config (book_entries before) close.period)) (event.Closed close.period)) e h in
     absurd (other (event.Closed close.period) e refl (let same : event.Closed close.period ≡ e = cc (found.1) in same) books)
 only_posts config before (command.Settle settlement) e h books =
     let found = unless_event
     (unless_open settlement.period (period_of before) ∷ unless_settled (is_settled settlement (account_entries before))
-    ∷ no_room_for config before settlement.provider ∷ [])
+    ∷ no_room_for config (known before) settlement.provider ∷ [])
     (accepts (answer.Settled (pos (settled_debt settlement (account_entries before)))) (event.Settled settlement)) e h in
     absurd (other (event.Settled settlement) e refl (let same : event.Settled settlement ≡ e = cc (found.1) in same) books)
 only_posts config before (command.Exposure ask) e h books = absurd (cc)
@@ -104,26 +105,26 @@ not_full what false stores h = refl
 -- ---- a CDR that is no Credit CDR
 
 pub cdr_added : (config : Config) (before : List Event) (cdr : Cdr) (cost : ℕ) (found : Option Booked) (lacks : Bool) (e : Event)
-    → (cdr_judged config before cdr cost (unless_booked cdr found (if lacks then Err (Err refusal.TariffNotRegistered) else Ok (pos cost)))).event ≡ Some e
+    → (cdr_judged config (known before) cdr cost (unless_booked cdr found (if lacks then Err (Err refusal.TariffNotRegistered) else Ok (pos cost)))).event ≡ Some e
     → (found ≡ None) × (lacks ≡ false) × (are_cdrs_full config cdr.operator (book_entries before) ≡ false) × (event.Cdr cdr cost ≡ e)
 cdr_added config before cdr cost (Some found) lacks e h = absurd (cc)
 cdr_added config before cdr cost None true e h = absurd (cc)
 cdr_added config before cdr cost None false e h =
-    let added = unless_event (refused_at (first_full ((store.Cdrs, are_cdrs_full config cdr.operator (book_entries before)) ∷ (store.Account, is_account_full config cdr.cdr_token.provider (account_entries before)) ∷ (store.Order, is_order_full config before) ∷ []))
+    let added = unless_event (refused_at (first_full ((store.Cdrs, are_cdrs_full config cdr.operator (book_entries before)) ∷ (store.Account, is_account_full config cdr.cdr_token.provider (account_entries before)) ∷ (store.Order, is_order_full config (length before)) ∷ []))
     ∷ refused_for (over_limit config (charge_of cdr cost (period_of before)) (account_entries before)) ∷ []) (accepts (answer.Accepted (pos cost) (period_of before)) (event.Cdr cdr cost)) e h in
-    (refl, refl, not_full store.Cdrs (are_cdrs_full config cdr.operator (book_entries before)) ((store.Account, is_account_full config cdr.cdr_token.provider (account_entries before)) ∷ (store.Order, is_order_full config before) ∷ []) added.0.0, let same : event.Cdr cdr cost ≡ e = cc (added.1) in same)
+    (refl, refl, not_full store.Cdrs (are_cdrs_full config cdr.operator (book_entries before)) ((store.Account, is_account_full config cdr.cdr_token.provider (account_entries before)) ∷ (store.Order, is_order_full config (length before)) ∷ []) added.0.0, let same : event.Cdr cdr cost ≡ e = cc (added.1) in same)
 
 -- ---- a Credit CDR
 
 pub credit_added : (config : Config) (before : List Event) (credit : Cdr) (found : Option Booked) (taken : Result ℤ Refusal) (e : Event)
-    → (credit_judged config before credit (unless_booked credit found (as_judged taken))).event ≡ Some e
+    → (credit_judged config (known before) credit (unless_booked credit found (as_judged taken))).event ≡ Some e
     → (found ≡ None) × (amount : ℤ) × (taken ≡ Ok amount) × (are_cdrs_full config credit.operator (book_entries before) ≡ false) × (event.Credit credit amount ≡ e)
 credit_added config before credit (Some found) taken e h = absurd (cc)
 credit_added config before credit None (Err why) e h = absurd (cc)
 credit_added config before credit None (Ok amount) e h =
-    let added = unless_event (refused_at (first_full ((store.Cdrs, are_cdrs_full config credit.operator (book_entries before)) ∷ (store.Account, is_account_full config credit.cdr_token.provider (account_entries before)) ∷ (store.Order, is_order_full config before) ∷ []))
+    let added = unless_event (refused_at (first_full ((store.Cdrs, are_cdrs_full config credit.operator (book_entries before)) ∷ (store.Account, is_account_full config credit.cdr_token.provider (account_entries before)) ∷ (store.Order, is_order_full config (length before)) ∷ []))
     ∷ refused_for None ∷ []) (accepts (answer.Accepted amount (period_of before)) (event.Credit credit amount)) e h in
-    (refl, amount, refl, not_full store.Cdrs (are_cdrs_full config credit.operator (book_entries before)) ((store.Account, is_account_full config credit.cdr_token.provider (account_entries before)) ∷ (store.Order, is_order_full config before) ∷ []) added.0.0, let same : event.Credit credit amount ≡ e = cc (added.1) in same)
+    (refl, amount, refl, not_full store.Cdrs (are_cdrs_full config credit.operator (book_entries before)) ((store.Account, is_account_full config credit.cdr_token.provider (account_entries before)) ∷ (store.Order, is_order_full config (length before)) ∷ []) added.0.0, let same : event.Credit credit amount ≡ e = cc (added.1) in same)
 
 -- what an original is that gives an amount
 pub record Gives (config : Config) (period : ℕ) (credit : Cdr) (entries : List BookEntry) (amount : ℤ) (original : Booked) : Type 0 where
@@ -138,7 +139,7 @@ not_true true h = absurd (cc)
 not_true false h = refl
 
 gives : (config : Config) (period : ℕ) (credit : Cdr) (entries : List BookEntry) (original : Booked) (amount : ℤ)
-    → taken_back config period credit entries original ≡ Ok amount → Gives config period credit entries amount original
+    → taken_back config period credit (is_credited original.cdr.operator original.cdr.id entries) original ≡ Ok amount → Gives config period credit entries amount original
 gives config period credit entries original amount h =
     by (not (is_credit original.cdr)) (not (is_credited original.cdr.operator original.cdr.id entries)) (is_in_window config.credit_window original.period period) (meets_original config credit original) refl refl refl refl h
   where
@@ -163,7 +164,7 @@ pub taken_from : (config : Config) (period : ℕ) (credit : Cdr) (entries : List
     → (original : Booked) × (original_of credit entries ≡ Some original) × Gives config period credit entries amount original
 taken_from config period credit entries amount h = by (original_of credit entries) refl h
   where
-    by : (o : Option Booked) → original_of credit entries ≡ o → (or_refusal refusal.UnknownOriginal o >>= λ original. taken_back config period credit entries original) ≡ Ok amount
+    by : (o : Option Booked) → original_of credit entries ≡ o → (or_refusal refusal.UnknownOriginal o >>= λ original. taken_back config period credit (is_credited original.cdr.operator original.cdr.id entries) original) ≡ Ok amount
         → (original : Booked) × (original_of credit entries ≡ Some original) × Gives config period credit entries amount original
     by None e g = absurd (cc)
     by (Some original) e g = (original, e, gives config period credit entries original amount g)

@@ -9,6 +9,7 @@ use Rattle.cdr_checks.specs.Law.{PostsAreChecked}
 use Rattle.plain_house.specs.declared.event.Event.{Event}
 use Rattle.plain_house.specs.declared.event.Event.TheVariants as event
 use Rattle.plain_house.specs.Booked.{booked_as}
+use Rattle.plain_house.specs.Known.{known}
 use Rattle.plain_house.specs.Entries.{book_entries, period_of}
 use Rattle.plain_house.specs.House.{post_of}
 use Rattle.plain_house.specs.Legal.{IsLegal, IsCharged, IsTakenBack, LegalCdrsAreCharged, LegalCreditsAreTakenBack}
@@ -19,10 +20,10 @@ use Rattle.plain_house.proofs.BookingLemmas.{cdr_added, credit_added, only_posts
 -- ---- CDRs
 
 charged : PostsAreChecked → (config : Config) (before : List Event) (cdr : Cdr) (cost : ℕ) (checked : Checked) → IsAdmitted config (command.Post checked)
-    → (post_of config before checked.cdr checked.cost).event ≡ Some (event.Cdr cdr cost) → IsCharged config before cdr cost
+    → (post_of config (known before) checked.cdr checked.cost).event ≡ Some (event.Cdr cdr cost) → IsCharged config before cdr cost
 charged law config before cdr cost checked admitted h = by checked.cost refl h
   where
-    by : (o : Option ℕ) → checked.cost ≡ o → (post_of config before checked.cdr o).event ≡ Some (event.Cdr cdr cost) → IsCharged config before cdr cost
+    by : (o : Option ℕ) → checked.cost ≡ o → (post_of config (known before) checked.cdr o).event ≡ Some (event.Cdr cdr cost) → IsCharged config before cdr cost
     by None e g =
         let added = credit_added config before checked.cdr (booked_as checked.cdr.operator checked.cdr.id (book_entries before)) (credited_amount config (period_of before) checked.cdr (book_entries before)) (event.Cdr cdr cost) g in
         let no : event.Credit checked.cdr added.1 ≡ event.Cdr cdr cost = added.4 in
@@ -48,7 +49,7 @@ cdrs_are_charged law config before later cdr cost legal =
 -- ---- Credit CDRs
 
 taken : (config : Config) (before : List Event) (credit : Cdr) (amount : ℤ) (cdr : Cdr) (o : Option ℕ)
-    → (post_of config before cdr o).event ≡ Some (event.Credit credit amount) → IsTakenBack config before credit amount
+    → (post_of config (known before) cdr o).event ≡ Some (event.Credit credit amount) → IsTakenBack config before credit amount
 taken config before credit amount cdr (Some n) h =
     let added = cdr_added config before cdr n (booked_as cdr.operator cdr.id (book_entries before)) (lacks_registered cdr (book_entries before)) (event.Credit credit amount) h in
     let no : event.Cdr cdr n ≡ event.Credit credit amount = added.3 in

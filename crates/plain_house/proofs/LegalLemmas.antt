@@ -4,6 +4,7 @@ use Rattle.ocpi_types.specs.declared.config.Config.{Config}
 use Rattle.cdr_checks.specs.Admission.{IsAdmitted}
 use Rattle.cdr_checks.specs.declared.request.Command.{Command}
 use Rattle.plain_house.specs.declared.event.Event.{Event}
+use Rattle.plain_house.specs.Known.{known}
 use Rattle.plain_house.specs.House.{verdict, events_after, Does}
 use Rattle.plain_house.specs.Legal.{IsGiven, IsLegal, KeepsLimits}
 use Rattle.plain_house.specs.Replies.{Reply, is_no_memory, with_event}
@@ -67,9 +68,9 @@ legal_push config events e legal given = λ before x later same. by before x (la
     by before x (inr p) = legal before x p.0 p.1
 
 pub legal_after : (config : Config) (events : List Event) (told : Command) → IsLegal config events → IsAdmitted config told → IsLegal config (events_after config events told)
-legal_after config events told legal admitted = by (verdict config events told).event refl
+legal_after config events told legal admitted = by (verdict config (known events) told).event refl
   where
-    by : (added : Option Event) → (verdict config events told).event ≡ added → IsLegal config (with_event events added)
+    by : (added : Option Event) → (verdict config (known events) told).event ≡ added → IsLegal config (with_event events added)
     by None e = legal
     by (Some event) e = legal_push config events event legal (told, admitted, e)
 

@@ -1,5 +1,5 @@
 -- An admitted command keeps the limits.
-use Rattle.std.proofs.Common.{◌≡◌, ◌≤◌, ◌||◌, ◌&&◌, ℕ, pos, ◌+◌, List, [], ◌∷◌, ◌++◌, Bool, true, false, cond, refl, sym, ap, ◌∙◌, subst, arith, ltb, if◌then◌else◌, Option, Some, None, Ok, Err}
+use Rattle.std.proofs.Common.{length, ◌≡◌, ◌≤◌, ◌||◌, ◌&&◌, ℕ, pos, ◌+◌, List, [], ◌∷◌, ◌++◌, Bool, true, false, cond, refl, sym, ap, ◌∙◌, subst, arith, ltb, if◌then◌else◌, Option, Some, None, Ok, Err}
 use Rattle.std.specs.Option.{option_or}
 use Rattle.std.proofs.lemmas.List.{append-nil}
 use Rattle.std.proofs.lemmas.Bool.{ltb-false}
@@ -21,6 +21,7 @@ use Rattle.plain_house.specs.declared.event.Hold.{Hold}
 use Rattle.plain_house.specs.declared.entry.AccountEntry.{AccountEntry}
 use Rattle.plain_house.specs.declared.entry.AccountEntry.TheVariants as account
 use Rattle.plain_house.specs.declared.entry.Charge.{Charge}
+use Rattle.plain_house.specs.Known.{known}
 use Rattle.plain_house.specs.Entries.{account_entries, account_entry, book_entries, charge_of, period_of}
 use Rattle.plain_house.specs.Booked.{Booked, booked_as}
 use Rattle.plain_house.specs.Exposure.{exposure_of, of_pair, of_provider, released_hold}
@@ -202,10 +203,10 @@ uncovered false h = refl
 
 -- the event that a posted CDR adds is no entry above a limit
 keeps_cdr : (config : Config) (events : List Event) (cdr : Cdr) (cost : ℕ) (judged : Judged) (e : Event)
-    → (cdr_judged config events cdr cost judged).event ≡ Some e → KeepsLimits config events → KeepsLimits config (events ++ e ∷ [])
+    → (cdr_judged config (known events) cdr cost judged).event ≡ Some e → KeepsLimits config events → KeepsLimits config (events ++ e ∷ [])
 keeps_cdr config events cdr cost (Err reply) e h keeps = absurd (cc)
 keeps_cdr config events cdr cost (Ok amount) e h keeps =
-    let found = unless_event (refused_at (first_full ((store.Cdrs, are_cdrs_full config cdr.operator (book_entries events)) ∷ (store.Account, is_account_full config cdr.cdr_token.provider (account_entries events)) ∷ (store.Order, is_order_full config events) ∷ []))
+    let found = unless_event (refused_at (first_full ((store.Cdrs, are_cdrs_full config cdr.operator (book_entries events)) ∷ (store.Account, is_account_full config cdr.cdr_token.provider (account_entries events)) ∷ (store.Order, is_order_full config (length events)) ∷ []))
     ∷ refused_for (over_limit config (charge_of cdr cost (period_of events)) (account_entries events)) ∷ []) (accepts (answer.Accepted amount (period_of events)) (event.Cdr cdr cost)) e h in
     let charge = charge_of cdr cost (period_of events) in
     let none : over_limit config charge (account_entries events) ≡ None = no_refusal (over_limit config charge (account_entries events)) found.0.1.0 in
@@ -214,25 +215,25 @@ keeps_cdr config events cdr cost (Ok amount) e h keeps =
     (keeps_entry config events (event.Cdr cdr cost) (account.Charge charge) refl (keeps_charge config charge (account_entries events) (over config events keeps) none))
 
 keeps_credit : (config : Config) (events : List Event) (cdr : Cdr) (judged : Judged) (e : Event)
-    → (credit_judged config events cdr judged).event ≡ Some e → KeepsLimits config events → KeepsLimits config (events ++ e ∷ [])
+    → (credit_judged config (known events) cdr judged).event ≡ Some e → KeepsLimits config events → KeepsLimits config (events ++ e ∷ [])
 keeps_credit config events cdr (Err reply) e h keeps = absurd (cc)
 keeps_credit config events cdr (Ok amount) e h keeps =
-    let found = unless_event (refused_at (first_full ((store.Cdrs, are_cdrs_full config cdr.operator (book_entries events)) ∷ (store.Account, is_account_full config cdr.cdr_token.provider (account_entries events)) ∷ (store.Order, is_order_full config events) ∷ []))
+    let found = unless_event (refused_at (first_full ((store.Cdrs, are_cdrs_full config cdr.operator (book_entries events)) ∷ (store.Account, is_account_full config cdr.cdr_token.provider (account_entries events)) ∷ (store.Order, is_order_full config (length events)) ∷ []))
     ∷ refused_for None ∷ []) (accepts (answer.Accepted amount (period_of events)) (event.Credit cdr amount)) e h in
     let same : event.Credit cdr amount ≡ e = cc (found.1) in
     subst (λ (x : Event). KeepsLimits config (events ++ x ∷ [])) same
     (keeps_light config events (event.Credit cdr amount) _ refl (λ provider currency. refl) (λ operator provider currency. refl) keeps)
 
 keeps_post : (config : Config) (events : List Event) (cdr : Cdr) (cost : Option ℕ) (e : Event)
-    → (post_of config events cdr cost).event ≡ Some e → KeepsLimits config events → KeepsLimits config (events ++ e ∷ [])
+    → (post_of config (known events) cdr cost).event ≡ Some e → KeepsLimits config events → KeepsLimits config (events ++ e ∷ [])
 keeps_post config events cdr None e h keeps = keeps_credit config events cdr (judged_credit config (period_of events) cdr (book_entries events)) e h keeps
 keeps_post config events cdr (Some cost) e h keeps = keeps_cdr config events cdr cost (judged_cdr cdr cost (book_entries events)) e h keeps
 
 keeps_release : (config : Config) (events : List Event) (release : Release) (hold : Option Hold) (e : Event)
-    → (release_of config events release hold).event ≡ Some e → KeepsLimits config events → KeepsLimits config (events ++ e ∷ [])
+    → (release_of config (known events) release hold).event ≡ Some e → KeepsLimits config events → KeepsLimits config (events ++ e ∷ [])
 keeps_release config events release None e h keeps = absurd (cc)
 keeps_release config events release (Some held) e h keeps =
-    let found = unless_event (no_room_for config events release.provider ∷ []) (accepts (answer.Released (pos held.amount)) (event.Released release)) e h in
+    let found = unless_event (no_room_for config (known events) release.provider ∷ []) (accepts (answer.Released (pos held.amount)) (event.Released release)) e h in
     let same : event.Released release ≡ e = cc (found.1) in
     subst (λ (x : Event). KeepsLimits config (events ++ x ∷ [])) same
     (keeps_light config events (event.Released release) _ refl (λ provider currency. refl) (λ operator provider currency. refl) keeps)
@@ -243,23 +244,23 @@ keeps_found config events None told e h = absurd (cc)
 keeps_found config events (Some found) told e h = absurd (cc)
 
 pub keeps_given : (config : Config) (events : List Event) (told : Command) (e : Event)
-    → (verdict config events told).event ≡ Some e → KeepsLimits config events → KeepsLimits config (events ++ e ∷ [])
+    → (verdict config (known events) told).event ≡ Some e → KeepsLimits config events → KeepsLimits config (events ++ e ∷ [])
 keeps_given config events (command.PutTariff tariff) e h keeps =
     let found = unless_event
     (stored_already tariff (stored_version tariff (book_entries events))
-    ∷ refused_at (first_full ((store.Tariffs, are_versions_full config tariff.operator (book_entries events)) ∷ (store.Order, is_order_full config events) ∷ []))
+    ∷ refused_at (first_full ((store.Tariffs, are_versions_full config tariff.operator (book_entries events)) ∷ (store.Order, is_order_full config (length events)) ∷ []))
     ∷ []) (accepts answer.Stored (event.Tariff tariff)) e h in
     let same : event.Tariff tariff ≡ e = cc (found.1) in
     subst (λ (x : Event). KeepsLimits config (events ++ x ∷ [])) same (keeps_no_entry config events (event.Tariff tariff) refl keeps)
 keeps_given config events (command.PutToken token) e h keeps =
-    let found = unless_event (no_room_for config events token.provider ∷ []) (accepts answer.Stored (event.Token token)) e h in
+    let found = unless_event (no_room_for config (known events) token.provider ∷ []) (accepts answer.Stored (event.Token token)) e h in
     let same : event.Token token ≡ e = cc (found.1) in
     subst (λ (x : Event). KeepsLimits config (events ++ x ∷ [])) same
     (keeps_light config events (event.Token token) _ refl (λ provider currency. refl) (λ operator provider currency. refl) keeps)
 keeps_given config events (command.Authorize ask) e h keeps =
     let made = hold_for config ask (account_entries events) in
     let found = unless_event
-    (unless_valid (validity ask.provider ask.uid ask.kind (account_entries events)) ∷ no_room_for config events ask.provider
+    (unless_valid (validity ask.provider ask.uid ask.kind (account_entries events)) ∷ no_room_for config (known events) ask.provider
     ∷ unless_covered (lacks_credit config ask (account_entries events)) ∷ []) (allows made) e h in
     let covered : lacks_credit config ask (account_entries events) ≡ false = uncovered (lacks_credit config ask (account_entries events)) found.0.1.1.0 in
     let same : event.Authorised made ≡ e = cc (found.1) in
@@ -270,14 +271,14 @@ keeps_given config events (command.Post checked) e h keeps = keeps_post config e
 keeps_given config events (command.Close close) e h keeps =
     let found = unless_event
     (unless_current close.period (period_of events)
-    ∷ refused_at (first_full ((store.Order, is_order_full config events) ∷ (store.Periods, are_periods_full config events) ∷ []))
-    ∷ []) (accepts (answer.Closed close.period (positions_in config events close.period)) (event.Closed close.period)) e h in
+    ∷ refused_at (first_full ((store.Order, is_order_full config (length events)) ∷ (store.Periods, are_periods_full config (period_of events)) ∷ []))
+    ∷ []) (accepts (answer.Closed close.period (positions_in config (book_entries events) close.period)) (event.Closed close.period)) e h in
     let same : event.Closed close.period ≡ e = cc (found.1) in
     subst (λ (x : Event). KeepsLimits config (events ++ x ∷ [])) same (keeps_no_entry config events (event.Closed close.period) refl keeps)
 keeps_given config events (command.Settle settlement) e h keeps =
     let found = unless_event
     (unless_open settlement.period (period_of events) ∷ unless_settled (is_settled settlement (account_entries events))
-    ∷ no_room_for config events settlement.provider ∷ [])
+    ∷ no_room_for config (known events) settlement.provider ∷ [])
     (accepts (answer.Settled (pos (settled_debt settlement (account_entries events)))) (event.Settled settlement)) e h in
     let same : event.Settled settlement ≡ e = cc (found.1) in
     subst (λ (x : Event). KeepsLimits config (events ++ x ∷ [])) same

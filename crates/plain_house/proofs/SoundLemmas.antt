@@ -18,6 +18,7 @@ use Rattle.plain_house.specs.declared.event.Event.TheVariants as event
 use Rattle.plain_house.specs.declared.entry.BookEntry.{BookEntry}
 use Rattle.plain_house.specs.declared.entry.BookEntry.TheVariants as book
 use Rattle.plain_house.specs.Booked.{Booked, booked, booked_as, booked_in, has_id}
+use Rattle.plain_house.specs.Known.{known}
 use Rattle.plain_house.specs.Entries.{book_entries, book_entry, period_of}
 use Rattle.plain_house.specs.House.{post_of}
 use Rattle.plain_house.specs.Legal.{IsGiven, IsLegal}
@@ -70,10 +71,10 @@ abbrev made : Cdr → ℤ → ℕ → Booked
 made cdr amount period = record { cdr = cdr; amount = amount; period = period }
 
 cdr_fits : PostsAreChecked → (config : Config) (before : List Event) (cdr : Cdr) (cost : ℕ) (checked : Checked) → IsAdmitted config (command.Post checked)
-    → (post_of config before checked.cdr checked.cost).event ≡ Some (event.Cdr cdr cost) → Fits config (book_entries before) (made cdr (pos cost) (period_of before))
+    → (post_of config (known before) checked.cdr checked.cost).event ≡ Some (event.Cdr cdr cost) → Fits config (book_entries before) (made cdr (pos cost) (period_of before))
 cdr_fits law config before cdr cost checked admitted h = by checked.cost refl h
   where
-    by : (o : Option ℕ) → checked.cost ≡ o → (post_of config before checked.cdr o).event ≡ Some (event.Cdr cdr cost) → Fits config (book_entries before) (made cdr (pos cost) (period_of before))
+    by : (o : Option ℕ) → checked.cost ≡ o → (post_of config (known before) checked.cdr o).event ≡ Some (event.Cdr cdr cost) → Fits config (book_entries before) (made cdr (pos cost) (period_of before))
     by None e g =
         let added = credit_added config before checked.cdr (booked_as checked.cdr.operator checked.cdr.id (book_entries before)) (credited_amount config (period_of before) checked.cdr (book_entries before)) (event.Cdr cdr cost) g in
         let no : event.Credit checked.cdr added.1 ≡ event.Cdr cdr cost = added.4 in
@@ -90,10 +91,10 @@ cdr_fits law config before cdr cost checked admitted h = by checked.cost refl h
 
 credit_fits : PostsAreChecked → (config : Config) (before : List Event) (credit : Cdr) (amount : ℤ) (checked : Checked) → IsAdmitted config (command.Post checked)
     → AllByRecursion (IsSound config) (booked (book_entries before))
-    → (post_of config before checked.cdr checked.cost).event ≡ Some (event.Credit credit amount) → Fits config (book_entries before) (made credit amount (period_of before))
+    → (post_of config (known before) checked.cdr checked.cost).event ≡ Some (event.Credit credit amount) → Fits config (book_entries before) (made credit amount (period_of before))
 credit_fits law config before credit amount checked admitted all h = by checked.cost h
   where
-    by : (o : Option ℕ) → (post_of config before checked.cdr o).event ≡ Some (event.Credit credit amount) → Fits config (book_entries before) (made credit amount (period_of before))
+    by : (o : Option ℕ) → (post_of config (known before) checked.cdr o).event ≡ Some (event.Credit credit amount) → Fits config (book_entries before) (made credit amount (period_of before))
     by (Some n) g =
         let added = cdr_added config before checked.cdr n (booked_as checked.cdr.operator checked.cdr.id (book_entries before)) (lacks_registered checked.cdr (book_entries before)) (event.Credit credit amount) g in
         let no : event.Cdr checked.cdr n ≡ event.Credit credit amount = added.3 in

@@ -7,6 +7,7 @@ use Rattle.ocpi_types.specs.declared.party.Party.{Party}
 use Rattle.ocpi_types.specs.Party.{same_party}
 use Rattle.plain_house.specs.declared.entry.BookEntry.{BookEntry}
 use Rattle.plain_house.specs.declared.entry.BookEntry.TheVariants as book
+use Rattle.plain_house.specs.declared.booked.BookedCdr.{BookedCdr}
 use Rattle.plain_house.specs.Exposure.{names}
 
 -- a CDR or Credit CDR, the amount at which it is booked, and the period
@@ -14,6 +15,10 @@ pub record Booked : Type 0 where
   pub cdr : Cdr
   pub amount : ℤ
   pub period : ℕ
+
+-- as code has it, with the CDR by reference
+abbrev pub shown_booked : BookedCdr → Booked
+shown_booked found = record { cdr = found.cdr.now; amount = found.amount; period = found.period }
 
 abbrev pub booked_in : BookEntry → List Booked
 booked_in (book.Tariff tariff) = []

@@ -1,4 +1,4 @@
--- The reply to a command on a list of events, and the event that it adds.
+-- The reply to a command by what is known, and the event that it adds.
 use Rattle.std.specs.Prelude.{ℕ, ◌+◌, ◌==◌, pos, Bool, true, false, ◌||◌, List, [], ◌∷◌, ◌++◌, nat_lt, count_by, length, if◌then◌else◌, Option, Some, None, unwrap_or, option_map, codes, decimal, Ok, Err}
 use Rattle.ocpi_types.specs.declared.cdr.Cdr.{Cdr}
 use Rattle.ocpi_types.specs.declared.config.Config.{Config}
@@ -31,8 +31,9 @@ use Rattle.plain_house.specs.declared.entry.AccountEntry.{AccountEntry}
 use Rattle.plain_house.specs.declared.entry.AccountEntry.TheVariants as account
 use Rattle.plain_house.specs.declared.entry.BookEntry.{BookEntry}
 use Rattle.plain_house.specs.Booked.{Booked, booked_as, is_credited}
-use Rattle.plain_house.specs.Entries.{period_of, book_entries, account_entries, charge_of}
+use Rattle.plain_house.specs.Entries.{charge_of}
 use Rattle.plain_house.specs.Exposure.{of_provider, of_pair, released_hold, holds_of, debts_of, exposure_of}
+use Rattle.plain_house.specs.Known.{Known, known}
 use Rattle.plain_house.specs.Obligations.{obligations}
 use Rattle.plain_house.specs.Posting.{Judged, OrderSays, judged_cdr, judged_credit, over_limit, posted}
 use Rattle.plain_house.specs.Replies.{Reply, Follows, stamped, with_event}
@@ -49,23 +50,23 @@ stored_already tariff None = None
 stored_already tariff (Some stored) =
     Some (if same_tariff stored tariff then Ok answer.Unchanged else Err refusal.Conflict)
 
-abbrev pub tariff_put : Config → List Event → Tariff → Verdict
-tariff_put config events tariff =
+abbrev pub tariff_put : Config → Known → Tariff → Verdict
+tariff_put config known tariff =
     unless
-    (stored_already tariff (stored_version tariff (book_entries events))
-    ∷ refused_at (first_full ((store.Tariffs, are_versions_full config tariff.operator (book_entries events)) ∷ (store.Order, is_order_full config events) ∷ []))
+    (stored_already tariff (stored_version tariff known.book)
+    ∷ refused_at (first_full ((store.Tariffs, are_versions_full config tariff.operator known.book) ∷ (store.Order, is_order_full config known.point) ∷ []))
     ∷ []) (accepts answer.Stored (event.Tariff tariff))
 
 -- ---- put_token
 
 -- refused where an entry of the provider's account finds no room
-abbrev pub no_room_for : Config → List Event → Party → Case
-no_room_for config events provider =
-    refused_at (first_full ((store.Account, is_account_full config provider (account_entries events)) ∷ (store.Order, is_order_full config events) ∷ []))
+abbrev pub no_room_for : Config → Known → Party → Case
+no_room_for config known provider =
+    refused_at (first_full ((store.Account, is_account_full config provider known.account) ∷ (store.Order, is_order_full config known.point) ∷ []))
 
-abbrev pub token_put : Config → List Event → Token → Verdict
-token_put config events token =
-    unless (no_room_for config events token.provider ∷ []) (accepts answer.Stored (event.Token token))
+abbrev pub token_put : Config → Known → Token → Verdict
+token_put config known token =
+    unless (no_room_for config known token.provider ∷ []) (accepts answer.Stored (event.Token token))
 
 -- ---- authorize
 
@@ -123,56 +124,56 @@ unless_covered false = None
 abbrev pub allows : Hold → Verdict
 allows hold = accepts (answer.Allowed hold.reference) (event.Authorised hold)
 
-abbrev pub authorized : Config → List Event → Authorize → Verdict
-authorized config events ask =
+abbrev pub authorized : Config → Known → Authorize → Verdict
+authorized config known ask =
     unless
-    (unless_valid (validity ask.provider ask.uid ask.kind (account_entries events)) ∷ no_room_for config events ask.provider
-    ∷ unless_covered (lacks_credit config ask (account_entries events)) ∷ [])
-    (allows (hold_for config ask (account_entries events)))
+    (unless_valid (validity ask.provider ask.uid ask.kind known.account) ∷ no_room_for config known ask.provider
+    ∷ unless_covered (lacks_credit config ask known.account) ∷ [])
+    (allows (hold_for config ask known.account))
 
 -- ---- release
 
 -- by the open hold that the release ends
-abbrev pub release_of : Config → List Event → Release → Option Hold → Verdict
-release_of config events release None = replies (Err refusal.UnknownHold)
-release_of config events release (Some hold) =
-    unless (no_room_for config events release.provider ∷ [])
+abbrev pub release_of : Config → Known → Release → Option Hold → Verdict
+release_of config known release None = replies (Err refusal.UnknownHold)
+release_of config known release (Some hold) =
+    unless (no_room_for config known release.provider ∷ [])
     (accepts (answer.Released (pos hold.amount)) (event.Released release))
 
 -- ---- post
 
-abbrev pub order_says : Config → List Event → OrderSays
-order_says config events = record { is_full = is_order_full config events; period = period_of events }
+abbrev pub order_says : Config → Known → OrderSays
+order_says config known = record { is_full = is_order_full config known.point; period = known.period }
 
 -- by what the operator's book says
-abbrev pub cdr_judged : Config → List Event → Cdr → ℕ → Judged → Verdict
-cdr_judged config events cdr cost judged =
+abbrev pub cdr_judged : Config → Known → Cdr → ℕ → Judged → Verdict
+cdr_judged config known cdr cost judged =
     posted
-    (record { judged = judged; is_full = are_cdrs_full config cdr.operator (book_entries events) })
-    (record { is_full = is_account_full config cdr.cdr_token.provider (account_entries events); over_limit = over_limit config (charge_of cdr cost (period_of events)) (account_entries events) })
-    (order_says config events)
-    (λ amount. accepts (answer.Accepted amount (period_of events)) (event.Cdr cdr cost))
+    (record { judged = judged; is_full = are_cdrs_full config cdr.operator known.book })
+    (record { is_full = is_account_full config cdr.cdr_token.provider known.account; over_limit = over_limit config (charge_of cdr cost known.period) known.account })
+    (order_says config known)
+    (λ amount. accepts (answer.Accepted amount known.period) (event.Cdr cdr cost))
 
-abbrev pub cdr_posted : Config → List Event → Cdr → ℕ → Verdict
-cdr_posted config events cdr cost = cdr_judged config events cdr cost (judged_cdr cdr cost (book_entries events))
+abbrev pub cdr_posted : Config → Known → Cdr → ℕ → Verdict
+cdr_posted config known cdr cost = cdr_judged config known cdr cost (judged_cdr cdr cost known.book)
 
 -- a Credit CDR passes no limit
-abbrev pub credit_judged : Config → List Event → Cdr → Judged → Verdict
-credit_judged config events credit judged =
+abbrev pub credit_judged : Config → Known → Cdr → Judged → Verdict
+credit_judged config known credit judged =
     posted
-    (record { judged = judged; is_full = are_cdrs_full config credit.operator (book_entries events) })
-    (record { is_full = is_account_full config credit.cdr_token.provider (account_entries events); over_limit = None })
-    (order_says config events)
-    (λ amount. accepts (answer.Accepted amount (period_of events)) (event.Credit credit amount))
+    (record { judged = judged; is_full = are_cdrs_full config credit.operator known.book })
+    (record { is_full = is_account_full config credit.cdr_token.provider known.account; over_limit = None })
+    (order_says config known)
+    (λ amount. accepts (answer.Accepted amount known.period) (event.Credit credit amount))
 
-abbrev pub credit_posted : Config → List Event → Cdr → Verdict
-credit_posted config events credit =
-    credit_judged config events credit (judged_credit config (period_of events) credit (book_entries events))
+abbrev pub credit_posted : Config → Known → Cdr → Verdict
+credit_posted config known credit =
+    credit_judged config known credit (judged_credit config known.period credit known.book)
 
 -- by what its session costs, which a Credit CDR has not
-abbrev pub post_of : Config → List Event → Cdr → Option ℕ → Verdict
-post_of config events cdr None = credit_posted config events cdr
-post_of config events cdr (Some cost) = cdr_posted config events cdr cost
+abbrev pub post_of : Config → Known → Cdr → Option ℕ → Verdict
+post_of config known cdr None = credit_posted config known cdr
+post_of config known cdr (Some cost) = cdr_posted config known cdr cost
 
 -- ---- close
 
@@ -181,16 +182,16 @@ abbrev pub unless_current : ℕ → ℕ → Case
 unless_current period current = if period == current then None else Some (Err (refusal.NotCurrent current))
 
 -- the net positions of all parties in a period
-abbrev pub positions_in : Config → List Event → ℕ → List NetPosition
-positions_in config events period =
-    net_positions (parties config) config.currencies (obligations period (book_entries events))
+abbrev pub positions_in : Config → List BookEntry → ℕ → List NetPosition
+positions_in config entries period =
+    net_positions (parties config) config.currencies (obligations period entries)
 
-abbrev pub closed : Config → List Event → Close → Verdict
-closed config events close =
+abbrev pub closed : Config → Known → Close → Verdict
+closed config known close =
     unless
-    (unless_current close.period (period_of events)
-    ∷ refused_at (first_full ((store.Order, is_order_full config events) ∷ (store.Periods, are_periods_full config events) ∷ []))
-    ∷ []) (accepts (answer.Closed close.period (positions_in config events close.period)) (event.Closed close.period))
+    (unless_current close.period known.period
+    ∷ refused_at (first_full ((store.Order, is_order_full config known.point) ∷ (store.Periods, are_periods_full config known.period) ∷ []))
+    ∷ []) (accepts (answer.Closed close.period (positions_in config known.book close.period)) (event.Closed close.period))
 
 -- ---- settle
 
@@ -202,12 +203,12 @@ abbrev pub unless_settled : Bool → Case
 unless_settled true = Some (Err refusal.AlreadySettled)
 unless_settled false = None
 
-abbrev pub settled : Config → List Event → Settlement → Verdict
-settled config events settlement =
+abbrev pub settled : Config → Known → Settlement → Verdict
+settled config known settlement =
     unless
-    (unless_open settlement.period (period_of events) ∷ unless_settled (is_settled settlement (account_entries events))
-    ∷ no_room_for config events settlement.provider ∷ [])
-    (accepts (answer.Settled (pos (settled_debt settlement (account_entries events)))) (event.Settled settlement))
+    (unless_open settlement.period known.period ∷ unless_settled (is_settled settlement known.account)
+    ∷ no_room_for config known settlement.provider ∷ [])
+    (accepts (answer.Settled (pos (settled_debt settlement known.account))) (event.Settled settlement))
 
 -- ---- exposure, find and statement
 
@@ -222,34 +223,34 @@ found_of find entries None = replies (Err refusal.UnknownCdr)
 found_of find entries (Some found) =
     replies (Ok (answer.Found found.amount found.period (is_credited find.operator find.id entries)))
 
-abbrev pub stated : List Event → StatementOf → Verdict
-stated events ask =
-    unless (unless_open ask.period (period_of events) ∷ [])
-    (replies (Ok (answer.Statement (statement_rows ask.party (obligations ask.period (book_entries events))))))
+abbrev pub stated : Known → StatementOf → Verdict
+stated known ask =
+    unless (unless_open ask.period known.period ∷ [])
+    (replies (Ok (answer.Statement (statement_rows ask.party (obligations ask.period known.book)))))
 
 -- ---- commands
 
-abbrev pub verdict : Config → List Event → Command → Verdict
-verdict config events (command.PutTariff tariff) = tariff_put config events tariff
-verdict config events (command.PutToken token) = token_put config events token
-verdict config events (command.Authorize ask) = authorized config events ask
-verdict config events (command.Release release) =
-    release_of config events release (released_hold (account_entries events) release)
-verdict config events (command.Post checked) = post_of config events checked.cdr checked.cost
-verdict config events (command.Close close) = closed config events close
-verdict config events (command.Settle settlement) = settled config events settlement
-verdict config events (command.Exposure ask) = replies (Ok (exposed config ask (account_entries events)))
-verdict config events (command.Find find) =
-    found_of find (book_entries events) (booked_as find.operator find.id (book_entries events))
-verdict config events (command.Statement ask) = stated events ask
+abbrev pub verdict : Config → Known → Command → Verdict
+verdict config known (command.PutTariff tariff) = tariff_put config known tariff
+verdict config known (command.PutToken token) = token_put config known token
+verdict config known (command.Authorize ask) = authorized config known ask
+verdict config known (command.Release release) =
+    release_of config known release (released_hold known.account release)
+verdict config known (command.Post checked) = post_of config known checked.cdr checked.cost
+verdict config known (command.Close close) = closed config known close
+verdict config known (command.Settle settlement) = settled config known settlement
+verdict config known (command.Exposure ask) = replies (Ok (exposed config ask known.account))
+verdict config known (command.Find find) =
+    found_of find known.book (booked_as find.operator find.id known.book)
+verdict config known (command.Statement ask) = stated known ask
 
 abbrev pub reply_of : Config → List Event → Command → Reply
-reply_of config events command = stamped (length events) (verdict config events command).reply
+reply_of config events command = stamped (length events) (verdict config (known events) command).reply
 
 -- the list after the command
 abbrev pub events_after : Config → List Event → Command → List Event
-events_after config events command = with_event events (verdict config events command).event
+events_after config events command = with_event events (verdict config (known events) command).event
 
 -- the reply and the list after a command
 abbrev pub Does : Config → List Event → Command → Reply → List Event → Type 0
-Does config events command reply now = Follows (verdict config events command) events reply now
+Does config events command reply now = Follows (verdict config (known events) command) events reply now

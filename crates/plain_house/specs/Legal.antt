@@ -20,6 +20,7 @@ use Rattle.plain_house.specs.declared.entry.AccountEntry.TheVariants as account
 use Rattle.plain_house.specs.declared.entry.Charge.{Charge}
 use Rattle.plain_house.specs.declared.scope.Scope.{Scope}
 use Rattle.plain_house.specs.Booked.{Booked, booked_as, is_credited}
+use Rattle.plain_house.specs.Known.{known}
 use Rattle.plain_house.specs.Entries.{account_entries, account_entries_from, account_entry, book_entries, book_entries_from, book_entry, charge_of, period_of}
 use Rattle.plain_house.specs.Exposure.{debts_of, ends_debt, exposure_of, holds_of, is_owed, of_pair, of_provider}
 use Rattle.plain_house.specs.House.{verdict, events_after}
@@ -32,7 +33,7 @@ use Rattle.plain_house.specs.Tariffs.{lacks_registered}
 -- the event is the one that some admitted command adds to these
 abbrev pub IsGiven : Config → List Event → Event → Type 0
 IsGiven config before event =
-    (command : Command) × IsAdmitted config command × ((verdict config before command).event ≡ Some event)
+    (command : Command) × IsAdmitted config command × ((verdict config (known before) command).event ≡ Some event)
 
 -- each event is given on those before it
 unfoldable pub IsLegal : Config → List Event → Type 0

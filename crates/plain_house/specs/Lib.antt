@@ -3,6 +3,7 @@ pub mod Entries
 pub mod Exposure
 pub mod House
 pub mod Inner
+pub mod Known
 pub mod Legal
 pub mod Obligations
 pub mod Posting

@@ -62,11 +62,11 @@ meets_original config credit original =
     && same_currency credit.currency original.cdr.currency && int_le credit.total_cost (pos 0)
     && is_within_tolerance config.tolerance credit.total_cost (neg_ℤ original.amount)
 
--- the negated amount of an original, or why it cannot be credited
-abbrev pub taken_back : Config → ℕ → Cdr → List BookEntry → Booked → Result ℤ Refusal
-taken_back config period credit entries original = do
+-- the negated amount of an original, or why it cannot be credited; with whether it is credited already
+abbrev pub taken_back : Config → ℕ → Cdr → Bool → Booked → Result ℤ Refusal
+taken_back config period credit credited original = do
   _ ← ensure (not (is_credit original.cdr)) refusal.CreditOfCredit
-  _ ← ensure (not (is_credited original.cdr.operator original.cdr.id entries)) refusal.AlreadyCredited
+  _ ← ensure (not credited) refusal.AlreadyCredited
   _ ← ensure (is_in_window config.credit_window original.period period) (refusal.TooLate original.period period)
   _ ← ensure (meets_original config credit original) refusal.CreditDiffers
   Ok (neg_ℤ original.amount)
@@ -75,7 +75,7 @@ taken_back config period credit entries original = do
 abbrev pub credited_amount : Config → ℕ → Cdr → List BookEntry → Result ℤ Refusal
 credited_amount config period credit entries = do
   original ← or_refusal refusal.UnknownOriginal (original_of credit entries)
-  taken_back config period credit entries original
+  taken_back config period credit (is_credited original.cdr.operator original.cdr.id entries) original
 
 abbrev pub as_judged : Result ℤ Refusal → Judged
 as_judged (Ok amount) = Ok amount

@@ -1,11 +1,9 @@
 -- How many entries an operator's book, a provider's account and the order have, and which of them is full.
-use Rattle.std.specs.Prelude.{Bool, false, List, [], ◌∷◌, length, nat_le, count_by, filter, Option, Some, None, if◌then◌else◌}
+use Rattle.std.specs.Prelude.{ℕ, Bool, false, List, [], ◌∷◌, nat_le, count_by, filter, Option, Some, None, if◌then◌else◌}
 use Rattle.ocpi_types.specs.declared.config.Config.{Config}
 use Rattle.ocpi_types.specs.declared.party.Party.{Party}
 use Rattle.ocpi_types.specs.declared.refusal.Store.{Store}
 use Rattle.ocpi_types.specs.Party.{same_party}
-use Rattle.plain_house.specs.declared.event.Event.{Event}
-use Rattle.plain_house.specs.Entries.{period_of}
 use Rattle.plain_house.specs.declared.entry.AccountEntry.{AccountEntry}
 use Rattle.plain_house.specs.declared.entry.AccountEntry.TheVariants as account
 use Rattle.plain_house.specs.declared.entry.BookEntry.{BookEntry}
@@ -46,11 +44,12 @@ abbrev pub is_account_full : Config → Party → List AccountEntry → Bool
 is_account_full config provider entries = nat_le config.limits.entries (count_by (is_entry_of provider) entries)
 
 -- each event is one entry of the order
-abbrev pub is_order_full : Config → List Event → Bool
-is_order_full config events = nat_le config.limits.order (length events)
+abbrev pub is_order_full : Config → ℕ → Bool
+is_order_full config point = nat_le config.limits.order point
 
-abbrev pub are_periods_full : Config → List Event → Bool
-are_periods_full config events = nat_le config.limits.periods (period_of events)
+-- as many periods are closed as may be
+abbrev pub are_periods_full : Config → ℕ → Bool
+are_periods_full config period = nat_le config.limits.periods period
 
 -- the first of these stores that is full
 abbrev pub first_full : List (Store × Bool) → Option Store

@@ -4,9 +4,9 @@ ghost use Rattle.std.specs.Prelude.{◌≡◌, ◌&&◌, find, option_map};
 ghost use Rattle.std.specs.List.{list_any};
 ghost use Rattle.ocpi_json.specs.Folded.{same_folded};
 ghost use Rattle.ocpi_types.specs.Party.{same_party};
-ghost use Rattle.plain_house.specs.Booked.{booked, booked_as, has_id, is_credited};
+ghost use Rattle.plain_house.specs.Booked.{booked, booked_as, has_id, is_credited, shown_booked};
 ghost use Rattle.plain_house.specs.Entries.{book_entries, book_entry};
-ghost use Rattle.plain_house.specs.Inner.Scanned.{booked_of_event, event_credits, shown_booked};
+ghost use Rattle.plain_house.specs.Inner.Scanned.{booked_of_event, event_credits};
 
 use super::booked_amount::BookedAmount;
 use super::event::Event;

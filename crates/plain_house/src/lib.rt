@@ -7,20 +7,25 @@ mod booked_amount;
 mod debts;
 mod entry;
 mod event;
+mod hold_reference;
 mod holds;
 mod house;
 mod laws;
 mod obligations;
 mod periods;
+mod posting;
 mod scope;
 mod sequential;
 mod tariffs;
 mod tokens;
 
 pub use answer::{Answer, Refused, Replied};
+pub use booked::BookedCdr;
 pub use booked_amount::BookedAmount;
 pub use entry::{AccountEntry, BookEntry, Charge, Credit};
 pub use event::{Event, Hold};
+pub use hold_reference::reference;
+pub use holds::names;
 pub use house::PlainHouse;
 pub use laws::{
     closed_periods_stay, commands_keep_lists_legal, empty_lists_are_legal, entries_are_dated,
@@ -30,5 +35,6 @@ pub use laws::{
 };
 pub use obligations::statement_rows;
 pub use periods::period_after;
+pub use posting::{above, reply_to_booked, taken_back};
 pub use scope::Scope;
 pub use sequential::Sequential;

@@ -7,7 +7,7 @@ ghost use Rattle.netting_positions.specs.Netting.{is_configured, parties, total_
 ghost use Rattle.netting_positions.specs.Statement.{statement_rows};
 ghost use Rattle.plain_house.specs.Entries.{book_entries, book_entry};
 ghost use Rattle.plain_house.specs.House.{positions_in};
-ghost use Rattle.plain_house.specs.Inner.Scanned.{shown_booked};
+ghost use Rattle.plain_house.specs.Booked.{shown_booked};
 ghost use Rattle.plain_house.specs.Obligations.{obligation_of, obligations};
 
 use super::booked::{BookedCdr, booked_in};
@@ -67,7 +67,7 @@ pub fn positions_in(
 ) -> Result<Sequence<NetPosition>, AllocError>
     requires configured { list_all (is_configured (parties config.now) config.now.currencies) (obligations period (book_entries events.now)) ≡ true }
     requires fits { total_size (obligations period (book_entries events.now)) < 2 ^ 63 }
-    ensures { IfOk result (λ positions. positions ≡ positions_in config.now events.now period) }
+    ensures { IfOk result (λ positions. positions ≡ positions_in config.now (book_entries events.now) period) }
 {
     let mut positions = Positions::new(alloc, config)?;
     net_all(&mut positions, events, period);

@@ -23,7 +23,6 @@ use Rattle.plain_house.specs.declared.debts.Sought.{Sought}
 use Rattle.plain_house.specs.declared.debts.Sought.TheVariants as sought
 use Rattle.plain_house.specs.Exposure.{names, charges, charges_within, ends_debt, ends_hold, holds_within}
 use Rattle.plain_house.specs.Booked.{Booked}
-use Rattle.plain_house.specs.declared.booked.BookedCdr.{BookedCdr}
 
 -- ---- books
 
@@ -194,9 +193,6 @@ abbrev pub owed_charges : Sought → List Event → List AccountEntry → List C
 owed_charges wanted events entries = filter (is_owed_in wanted events) (charges entries)
 
 -- ---- CDRs as a scan finds them
-
-abbrev pub shown_booked : BookedCdr → Booked
-shown_booked found = record { cdr = found.cdr.now; amount = found.amount; period = found.period }
 
 abbrev pub booked_of_event : Event → ℕ → Option Booked
 booked_of_event (event.Tariff tariff) period = None

@@ -5,7 +5,8 @@ ghost use Rattle.ocpi_types.specs.Config.{pair_limit_of};
 ghost use Rattle.cdr_checks.specs.declared.request.Command.TheVariants.{Authorize as AuthorizeCommand};
 ghost use Rattle.plain_house.specs.Entries.{account_entries};
 ghost use Rattle.plain_house.specs.Exposure.{exposure_of, of_pair};
-ghost use Rattle.plain_house.specs.House.{Does, allows, hold_for, is_hold_of, lacks_credit, next_reference, no_room_for, passes, reference_text, unless_covered};
+ghost use Rattle.plain_house.specs.Known.{known};
+ghost use Rattle.plain_house.specs.House.{Does, allows, hold_for, is_hold_of, lacks_credit, next_reference, no_room_for, passes, unless_covered};
 ghost use Rattle.plain_house.specs.Inner.Scanned.{event_is_hold_of};
 ghost use Rattle.plain_house.specs.Legal.{KeepsLimits};
 ghost use Rattle.plain_house.specs.Replies.{Follows};
@@ -16,11 +17,10 @@ use super::room::full_for_provider;
 use crate::answer::{Answer, Refused, Replied};
 use crate::debts::exposure_of;
 use crate::event::{Event, Hold};
+use crate::hold_reference::reference;
 use crate::scope::Scope;
 use crate::tokens::validity;
-use arrayvec::ArrayString;
 use cdr_checks::Authorize;
-use itoa::Buffer;
 use ocpi_json::ci_text::CiText;
 use ocpi_types::{Config, Party, Refusal};
 
@@ -57,19 +57,6 @@ fn next_reference(config: &Config, events: &[Event], provider: &Party) -> CiText
         Some(configured) => reference(&configured.party, number),
         None => reference(provider, number),
     }
-}
-
-// At most 26 bytes: codes of two and of three bytes, a hyphen and 20 digits.
-fn reference(party: &Party, number: u64) -> CiText<36>
-    ensures { result ≡ reference_text party.now number }
-{
-    let mut digits = Buffer::new();
-    let mut text: ArrayString<36> = ArrayString::new();
-    text.push_str(party.country_code.as_str());
-    text.push_str(party.party_id.as_str());
-    text.push_str("-");
-    text.push_str(digits.format(number));
-    CiText::new(text.as_str()).unwrap()
 }
 
 // The hold would pass the provider's credit limit, or its limit with the operator.
@@ -116,7 +103,7 @@ fn hold_for(config: &Config, events: &[Event], ask: &Authorize) -> Hold
 // Authorises a valid token.
 fn grant(config: &Config, events: &mut Vec<Event>, ask: &Authorize) -> Result<Replied, Refused>
     requires { KeepsLimits config.now events.old.items }
-    ensures { Follows (unless (no_room_for config.now events.old.items ask.now.provider
+    ensures { Follows (unless (no_room_for config.now (known events.old.items) ask.now.provider
         ∷ unless_covered (lacks_credit config.now ask.now (account_entries events.old.items)) ∷ [])
         (allows (hold_for config.now ask.now (account_entries events.old.items)))) events.old.items result events.new.items }
 {

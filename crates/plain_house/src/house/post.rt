@@ -5,10 +5,11 @@ ghost use Rattle.ocpi_types.specs.Config.{pair_limit_of};
 ghost use Rattle.cdr_checks.specs.declared.request.Command.TheVariants.{Post};
 ghost use Rattle.plain_house.specs.Entries.{account_entries, book_entries, period_of};
 ghost use Rattle.plain_house.specs.Exposure.{exposure_of, of_pair};
+ghost use Rattle.plain_house.specs.Known.{known};
 ghost use Rattle.plain_house.specs.House.{Does, cdr_judged, cdr_posted, credit_judged, credit_posted};
-ghost use Rattle.plain_house.specs.Inner.Scanned.{IsTold, shown_booked};
+ghost use Rattle.plain_house.specs.Inner.Scanned.{IsTold};
 ghost use Rattle.plain_house.specs.Legal.{KeepsLimits};
-ghost use Rattle.plain_house.specs.Posting.{above, above_if_any, judged_cdr, judged_credit, over_limit, reply_to_booked};
+ghost use Rattle.plain_house.specs.Posting.{above, above_if_any, judged_cdr, judged_credit, over_limit};
 ghost use Rattle.plain_house.specs.Replies.{Follows};
 ghost use Rattle.plain_house.specs.declared.entry.AccountEntry.TheVariants as account;
 
@@ -16,32 +17,17 @@ use super::credit::credited_amount;
 use super::replies::{add, refused, stamped};
 use super::room::full_for_cdr;
 use crate::answer::{Answer, Refused, Replied};
-use crate::booked::{BookedCdr, booked_as};
+use crate::booked::booked_as;
 use crate::booked_amount::BookedAmount;
 use crate::debts::{charge_of, exposure_of};
 use crate::entry::Charge;
 use crate::event::Event;
 use crate::periods::period_of;
+use crate::posting::{above, reply_to_booked};
 use crate::scope::Scope;
 use crate::tariffs::lacks_registered;
 use cdr_checks::Checked;
-use exact_money::Amount;
-use ocpi_types::{Cdr, Config, Cost, Refusal, same_cdr};
-
-// The reply to a CDR whose id is booked already.
-fn known_reply(found: &BookedCdr<'_>, cdr: &Cdr) -> Result<Answer, Refusal>
-    ensures value { result ≡ reply_to_booked (shown_booked found.now) cdr.now }
-    ensures told { IsTold result }
-{
-    if same_cdr(found.cdr, cdr) {
-        Ok(Answer::Repeated {
-            amount: found.amount.amount(),
-            period: found.period,
-        })
-    } else {
-        Err(Refusal::Conflict)
-    }
-}
+use ocpi_types::{Cdr, Config, Cost, Refusal};
 
 // The amount at which the book takes a CDR, or its reply.
 fn judged_cdr(
@@ -53,7 +39,7 @@ fn judged_cdr(
     ensures told { IfErr result (λ reply. IsTold reply) }
 {
     if let Some(found) = booked_as(events, &cdr.operator, &cdr.id) {
-        return Err(known_reply(&found, cdr));
+        return Err(reply_to_booked(&found, cdr));
     }
     if lacks_registered(events, cdr) {
         return Err(Err(Refusal::TariffNotRegistered));
@@ -71,27 +57,11 @@ fn judged_credit(
     ensures told { IfErr result (λ reply. IsTold reply) }
 {
     if let Some(found) = booked_as(events, &credit.operator, &credit.id) {
-        return Err(known_reply(&found, credit));
+        return Err(reply_to_booked(&found, credit));
     }
     match credited_amount(config, events, period_of(events), credit) {
         Ok(amount) => Ok(amount),
         Err(refusal) => Err(Err(refusal)),
-    }
-}
-
-fn above(limit: u64, exposure: u64, pair: bool) -> Option<Refusal>
-    requires limit { limit < 2 ^ 63 }
-    requires exposure { exposure < 2 ^ 63 }
-    ensures { result ≡ above limit exposure pair }
-{
-    if limit < exposure {
-        Some(Refusal::OverLimit {
-            exposure: Amount::from_ten_thousandths(exposure as i64),
-            limit: Amount::from_ten_thousandths(limit as i64),
-            pair,
-        })
-    } else {
-        None
     }
 }
 
@@ -151,7 +121,7 @@ fn book_cdr(
     cost: Cost,
 ) -> Result<Replied, Refused>
     requires { KeepsLimits config.now events.old.items }
-    ensures { Follows (cdr_judged config.now events.old.items cdr cost (Ok (pos cost))) events.old.items result events.new.items }
+    ensures { Follows (cdr_judged config.now (known events.old.items) cdr cost (Ok (pos cost))) events.old.items result events.new.items }
 {
     let at = events.len();
     if let Some(what) = full_for_cdr(config, events.as_slice(), &cdr) {
@@ -177,7 +147,7 @@ fn post_cdr(
     cost: Cost,
 ) -> Result<Replied, Refused>
     requires { KeepsLimits config.now events.old.items }
-    ensures { Follows (cdr_posted config.now events.old.items cdr cost) events.old.items result events.new.items }
+    ensures { Follows (cdr_posted config.now (known events.old.items) cdr cost) events.old.items result events.new.items }
 {
     match judged_cdr(events.as_slice(), &cdr, cost) {
         Ok(_) => book_cdr(config, events, cdr, cost),
@@ -192,7 +162,7 @@ fn book_credit(
     credit: Cdr,
     booked: BookedAmount,
 ) -> Result<Replied, Refused>
-    ensures { Follows (credit_judged config.now events.old.items credit (Ok booked)) events.old.items result events.new.items }
+    ensures { Follows (credit_judged config.now (known events.old.items) credit (Ok booked)) events.old.items result events.new.items }
 {
     let at = events.len();
     if let Some(what) = full_for_cdr(config, events.as_slice(), &credit) {
@@ -211,7 +181,7 @@ fn book_credit(
 }
 
 fn post_credit(config: &Config, events: &mut Vec<Event>, credit: Cdr) -> Result<Replied, Refused>
-    ensures { Follows (credit_posted config.now events.old.items credit) events.old.items result events.new.items }
+    ensures { Follows (credit_posted config.now (known events.old.items) credit) events.old.items result events.new.items }
 {
     match judged_credit(config, events.as_slice(), &credit) {
         Ok(amount) => book_credit(config, events, credit, amount),

@@ -1,8 +1,8 @@
 //! How many entries there are, and what is full.
 
-ghost use Rattle.std.specs.Prelude.{◌≡◌, [], ◌∷◌, count_by};
+ghost use Rattle.std.specs.Prelude.{◌≡◌, [], ◌∷◌, count_by, length};
 ghost use Rattle.ocpi_types.specs.declared.refusal.Store.TheVariants as store;
-ghost use Rattle.plain_house.specs.Entries.{account_entries, book_entries};
+ghost use Rattle.plain_house.specs.Entries.{account_entries, book_entries, period_of};
 ghost use Rattle.plain_house.specs.Room.{are_cdrs_full, are_periods_full, are_versions_full, first_full, is_account_full, is_cdr_of, is_entry_of, is_order_full, is_version_of};
 ghost use Rattle.plain_house.specs.Inner.Scanned.{event_is_cdr_of, event_is_entry_of, event_is_version_of};
 
@@ -101,7 +101,7 @@ fn are_cdrs_full(config: &Config, events: &[Event], operator: &Party) -> bool
 }
 
 fn full_order(config: &Config, events: &[Event]) -> Option<Store>
-    ensures { result ≡ first_full ((store.Order, is_order_full config.now events.now) ∷ []) }
+    ensures { result ≡ first_full ((store.Order, is_order_full config.now (length events.now)) ∷ []) }
 {
     if config.limits.order.get() <= events.len() as u64 {
         return Some(Store::Order);
@@ -110,15 +110,15 @@ fn full_order(config: &Config, events: &[Event]) -> Option<Store>
 }
 
 fn are_periods_full(config: &Config, events: &[Event]) -> bool
-    ensures { result ≡ are_periods_full config.now events.now }
+    ensures { result ≡ are_periods_full config.now (period_of events.now) }
 {
     config.limits.periods.get() <= period_of(events)
 }
 
 /// The store that is full, the order first, where a period cannot be closed.
 pub fn full_for_close(config: &Config, events: &[Event]) -> Option<Store>
-    ensures { result ≡ first_full ((store.Order, is_order_full config.now events.now)
-        ∷ (store.Periods, are_periods_full config.now events.now) ∷ []) }
+    ensures { result ≡ first_full ((store.Order, is_order_full config.now (length events.now))
+        ∷ (store.Periods, are_periods_full config.now (period_of events.now)) ∷ []) }
 {
     if full_order(config, events).is_some() {
         return Some(Store::Order);
@@ -132,7 +132,7 @@ pub fn full_for_close(config: &Config, events: &[Event]) -> Option<Store>
 /// The store that is full, the account first, where an event of the provider cannot be added.
 pub fn full_for_provider(config: &Config, events: &[Event], provider: &Party) -> Option<Store>
     ensures { result ≡ first_full ((store.Account, is_account_full config.now provider.now (account_entries events.now))
-        ∷ (store.Order, is_order_full config.now events.now) ∷ []) }
+        ∷ (store.Order, is_order_full config.now (length events.now)) ∷ []) }
 {
     if is_account_full(config, events, provider) {
         return Some(Store::Account);
@@ -143,7 +143,7 @@ pub fn full_for_provider(config: &Config, events: &[Event], provider: &Party) ->
 /// The store that is full, the tariffs first, where a tariff version of the operator cannot be added.
 pub fn full_for_tariff(config: &Config, events: &[Event], operator: &Party) -> Option<Store>
     ensures { result ≡ first_full ((store.Tariffs, are_versions_full config.now operator.now (book_entries events.now))
-        ∷ (store.Order, is_order_full config.now events.now) ∷ []) }
+        ∷ (store.Order, is_order_full config.now (length events.now)) ∷ []) }
 {
     if are_versions_full(config, events, operator) {
         return Some(Store::Tariffs);
@@ -155,7 +155,7 @@ pub fn full_for_tariff(config: &Config, events: &[Event], operator: &Party) -> O
 pub fn full_for_cdr(config: &Config, events: &[Event], cdr: &Cdr) -> Option<Store>
     ensures { result ≡ first_full ((store.Cdrs, are_cdrs_full config.now cdr.now.operator (book_entries events.now))
         ∷ (store.Account, is_account_full config.now cdr.now.cdr_token.provider (account_entries events.now))
-        ∷ (store.Order, is_order_full config.now events.now) ∷ []) }
+        ∷ (store.Order, is_order_full config.now (length events.now)) ∷ []) }
 {
     if are_cdrs_full(config, events, &cdr.operator) {
         return Some(Store::Cdrs);

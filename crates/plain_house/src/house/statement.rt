@@ -2,6 +2,7 @@
 
 ghost use Rattle.std.specs.Prelude.{◌≡◌};
 ghost use Rattle.plain_house.specs.House.{stated};
+ghost use Rattle.plain_house.specs.Known.{known};
 ghost use Rattle.plain_house.specs.Legal.{CanBeNetted};
 ghost use Rattle.plain_house.specs.Replies.{Follows};
 
@@ -21,7 +22,7 @@ pub fn statement(
     ask: StatementOf,
 ) -> Result<Replied, Refused>
     requires { CanBeNetted config.now events.now }
-    ensures { Follows (stated events.now ask) events.now result events.now }
+    ensures { Follows (stated (known events.now) ask) events.now result events.now }
 {
     let at = events.len();
     if period_of(events) <= ask.period {

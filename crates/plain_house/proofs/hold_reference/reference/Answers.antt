@@ -1,6 +1,6 @@
 use Rattle.std.proofs.Common.{◌<◌, ◌^◌, refl, arith, codes}
 use Rattle.plain_house.proofs.PrintableLemmas.{printable_number, printable_pushed, printable_same, fits_printable}
-use Rattle.plain_house.proofs.house.authorize.reference.Goals as goal
+use Rattle.plain_house.proofs.hold_reference.reference.Goals as goal
 
 pub unwrap-requires : goal.unwrap-requires
 unwrap-requires c =

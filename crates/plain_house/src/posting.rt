@@ -1,0 +1,104 @@
+//! What is said of a CDR or a Credit CDR by what is booked and owed.
+
+ghost use Rattle.std.specs.Prelude.{◌≡◌, ◌<◌, ◌^◌, false, IfErr};
+ghost use Rattle.plain_house.specs.Booked.{shown_booked};
+ghost use Rattle.plain_house.specs.Inner.Scanned.{IsTold};
+ghost use Rattle.plain_house.specs.Posting.{above, is_in_window, meets_original, reply_to_booked, taken_back};
+ghost use Rattle.plain_house.specs.Replies.{is_refusal_no_memory};
+
+use super::answer::Answer;
+use super::booked::BookedCdr;
+use super::booked_amount::BookedAmount;
+use cdr_checks::is_within_tolerance;
+use exact_money::Amount;
+use ocpi_types::{AtMost, Cdr, Config, Refusal, same_cdr};
+
+/// The reply to a CDR whose id is booked already.
+pub fn reply_to_booked(found: &BookedCdr<'_>, cdr: &Cdr) -> Result<Answer, Refusal>
+    ensures value { result ≡ reply_to_booked (shown_booked found.now) cdr.now }
+    ensures told { IsTold result }
+{
+    if same_cdr(found.cdr, cdr) {
+        Ok(Answer::Repeated {
+            amount: found.amount.amount(),
+            period: found.period,
+        })
+    } else {
+        Err(Refusal::Conflict)
+    }
+}
+
+fn is_in_window(window: Option<AtMost<10_000>>, original: u64, current: u64) -> bool
+    ensures { result ≡ is_in_window window original current }
+{
+    match window {
+        Some(window) => current <= original.saturating_add(window.get()),
+        None => true,
+    }
+}
+
+fn meets_original(config: &Config, credit: &Cdr, original: &BookedCdr<'_>) -> bool
+    ensures { result ≡ meets_original config.now credit.now (shown_booked original.now) }
+{
+    credit
+        .cdr_token
+        .provider
+        .is(&original.cdr.cdr_token.provider)
+        && credit.currency.is(&original.cdr.currency)
+        && credit.total_cost.get() <= 0
+        && is_within_tolerance(
+            config.tolerance,
+            credit.total_cost,
+            original.amount.negated().amount(),
+        )
+}
+
+/// The negated amount of an original, or why a Credit CDR of the period cannot take it back.
+///
+/// # Errors
+///
+/// `CreditOfCredit`, `AlreadyCredited`, `TooLate` or `CreditDiffers`, the first that holds.
+pub fn taken_back(
+    config: &Config,
+    period: u64,
+    credit: &Cdr,
+    is_credited: bool,
+    original: &BookedCdr<'_>,
+) -> Result<BookedAmount, Refusal>
+    ensures told { IfErr result (λ refusal. is_refusal_no_memory refusal ≡ false) }
+    ensures value { result ≡ taken_back config.now period credit.now is_credited (shown_booked original.now) }
+{
+    if original.cdr.is_credit() {
+        return Err(Refusal::CreditOfCredit);
+    }
+    if is_credited {
+        return Err(Refusal::AlreadyCredited);
+    }
+    if !is_in_window(config.credit_window, original.period, period) {
+        return Err(Refusal::TooLate {
+            original: original.period,
+            current: period,
+        });
+    }
+    if !meets_original(config, credit, original) {
+        return Err(Refusal::CreditDiffers);
+    }
+    Ok(original.amount.negated())
+}
+
+/// The refusal where an exposure is above its limit, both in ten-thousandths.
+pub fn above(limit: u64, exposure: u64, pair: bool) -> Option<Refusal>
+    requires limit { limit < 2 ^ 63 }
+    requires exposure { exposure < 2 ^ 63 }
+    ensures { result ≡ above limit exposure pair }
+{
+    if limit < exposure {
+        Some(Refusal::OverLimit {
+            exposure: Amount::from_ten_thousandths(exposure as i64),
+            limit: Amount::from_ten_thousandths(limit as i64),
+            pair,
+        })
+    } else {
+        None
+    }
+}
