@@ -1,2 +1,3 @@
+pub mod PartyLemmas
 pub mod PostLemmas
 pub mod PriceLemmas

@@ -5,3 +5,4 @@ pub mod Checked
 pub mod FirstRefusal
 pub mod Inner
 pub mod Law
+pub mod Parties

@@ -6,6 +6,7 @@ mod cdr_admission;
 mod cdr_conditions;
 mod checked;
 mod laws;
+mod parties;
 mod refusing;
 mod request;
 
@@ -13,7 +14,7 @@ pub use admission::admit;
 pub use cdr_admission::check;
 pub use cdr_conditions::is_within_tolerance;
 pub use checked::Checked;
-pub use laws::posts_are_checked;
+pub use laws::{commands_have_parties, posts_are_checked};
 pub use request::{
     Ask, Authorize, Close, Command, ExposureOf, Find, Release, Request, Settlement, StatementOf,
 };

@@ -20,5 +20,6 @@ pub mod SameScope
 pub mod SettlementLemmas
 pub mod SoundLemmas
 pub mod TariffsLemmas
+pub mod ToldLemmas
 pub mod TokensLemmas
 pub mod VerdictLemmas

@@ -4,6 +4,7 @@ pub mod Exposure
 pub mod House
 pub mod Inner
 pub mod Known
+pub mod Laws
 pub mod Legal
 pub mod Obligations
 pub mod Posting

@@ -34,6 +34,10 @@ abbrev pub is_no_memory : Reply → Bool
 is_no_memory (Ok replied) = false
 is_no_memory (Err refused) = is_refusal_no_memory refused.refusal
 
+-- the reply is not want of memory
+abbrev pub IsTold : Result Answer Refusal → Type 0
+IsTold reply = (at : ℕ) → is_no_memory (stamped at reply) ≡ false
+
 -- the reply is the verdict's and the list has its event, or memory was refused and the list is as before
 pub record Follows (verdict : Verdict) (events : List Event) (reply : Reply) (now : List Event) : Type 0 where
   pub reply_is : is_no_memory reply ≡ false → reply ≡ stamped (length events) verdict.reply

@@ -1,6 +1,7 @@
 //! What follows from the definitions.
 
 ghost use Rattle.plain_house.specs.Legal.{ClosedPeriodsStay, CommandsKeepListsLegal, EmptyListsAreLegal, EntriesAreDated, ExposureIsOfOwnEntries, ExposureWithChargeIsOfOwnEntries, LegalCdrsAreCharged, LegalCreditsAreTakenBack, LegalListsBeginLegally, LegalListsCanBeNetted, LegalListsKeepLimits, LegalPositionsBalance, SettlementsEndTheirDebts};
+ghost use Rattle.plain_house.specs.Laws.{VerdictsAreTold};
 
 use cdr_checks::posts_are_checked;
 use netting_positions::{parties_are_different, positions_balance};
@@ -83,3 +84,8 @@ pub fn legal_positions_balance()
     positions_balance();
     posts_are_checked();
 }
+
+/// No verdict is want of memory.
+pub fn verdicts_are_told()
+    ensures { VerdictsAreTold }
+{}

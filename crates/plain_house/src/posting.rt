@@ -2,9 +2,8 @@
 
 ghost use Rattle.std.specs.Prelude.{◌≡◌, ◌<◌, ◌^◌, false, IfErr};
 ghost use Rattle.plain_house.specs.Booked.{shown_booked};
-ghost use Rattle.plain_house.specs.Inner.Scanned.{IsTold};
 ghost use Rattle.plain_house.specs.Posting.{above, is_in_window, meets_original, reply_to_booked, taken_back};
-ghost use Rattle.plain_house.specs.Replies.{is_refusal_no_memory};
+ghost use Rattle.plain_house.specs.Replies.{IsTold, is_refusal_no_memory};
 
 use super::answer::Answer;
 use super::booked::BookedCdr;

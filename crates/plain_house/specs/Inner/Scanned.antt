@@ -1,5 +1,5 @@
 -- What is sought in entries, said of the events themselves: a scan of events finds the same.
-use Rattle.std.specs.Prelude.{◌≡◌, ℕ, pos, Result, List, [], ◌∷◌, ◌++◌, Bool, false, not, ◌&&◌, ◌==◌, if◌then◌else◌, Option, Some, None, filter}
+use Rattle.std.specs.Prelude.{ℕ, pos, List, [], ◌∷◌, ◌++◌, Bool, false, not, ◌&&◌, ◌==◌, if◌then◌else◌, Option, Some, None, filter}
 use Rattle.std.specs.List.{list_any}
 use Rattle.ocpi_json.specs.Folded.{same_folded}
 use Rattle.ocpi_types.specs.declared.party.Party.{Party}
@@ -8,10 +8,7 @@ use Rattle.ocpi_types.specs.declared.token.Token.{Token}
 use Rattle.ocpi_types.specs.Party.{same_party}
 use Rattle.ocpi_types.specs.Currency.{same_currency}
 use Rattle.ocpi_types.specs.SameTariff.{same_tariff}
-use Rattle.ocpi_types.specs.declared.refusal.Refusal.{Refusal}
 use Rattle.cdr_checks.specs.declared.request.Settlement.{Settlement}
-use Rattle.plain_house.specs.declared.answer.Answer.{Answer}
-use Rattle.plain_house.specs.Replies.{is_no_memory, stamped}
 use Rattle.plain_house.specs.declared.scope.Scope.{Scope}
 use Rattle.plain_house.specs.declared.event.Hold.{Hold}
 use Rattle.plain_house.specs.declared.event.Event.{Event}
@@ -203,9 +200,3 @@ booked_of_event (event.Cdr cdr cost) period = Some (record { cdr = cdr; amount =
 booked_of_event (event.Credit cdr amount) period = Some (record { cdr = cdr; amount = amount; period = period })
 booked_of_event (event.Settled settlement) period = None
 booked_of_event (event.Closed closed) period = None
-
--- ---- replies
-
--- the reply is not want of memory
-abbrev pub IsTold : Result Answer Refusal → Type 0
-IsTold reply = (at : ℕ) → is_no_memory (stamped at reply) ≡ false
