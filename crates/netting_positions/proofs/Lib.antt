@@ -5,7 +5,9 @@ pub mod DifferentLemmas
 pub mod KeyOrder
 pub mod NetFound
 pub mod NetLemmas
+pub mod OweLemmas
 pub mod RowSearch
+pub mod SameStatements
 pub mod SameParties
 pub mod ShortLemmas
 pub mod StatedLemmas

@@ -49,7 +49,7 @@ nets : (os : List Obligation) (ps : List Party) (cs : List (List ℕ)) → All (
 nets os ps [] = All-nil (IsNet os)
 nets os ps (c ∷ cs) = All-append (IsNet os) (map (position os c) ps) (net_positions ps cs os) (nets_in os c ps) (nets os ps cs)
 
-sum_agree : (p q : Obligation → Bool) → ((o : Obligation) → p o ≡ q o) → (os : List Obligation) → sum_of p os ≡ sum_of q os
+pub sum_agree : (p q : Obligation → Bool) → ((o : Obligation) → p o ≡ q o) → (os : List Obligation) → sum_of p os ≡ sum_of q os
 sum_agree p q same os = ap (λ (l : List Obligation). total (amounts l)) (filter_agree p q same os)
 
 alike_position : (p party : Party) (c : List ℕ) (os : List Obligation) → same_party p party ≡ true → net_position p c os ≡ net_position party c os
@@ -87,7 +87,7 @@ nor false true true = refl
 nor false true false = refl
 nor false false c = refl
 
-none_of : (a : Bool) → (a && false) ≡ false
+pub none_of : (a : Bool) → (a && false) ≡ false
 none_of true = refl
 none_of false = refl
 

@@ -98,12 +98,12 @@ others_payable s false true p x y h = absurd (Prim.cc)
 others_payable true false false p x y h = refl
 others_payable false false false p x y h = refl
 
-not_receivable : (party : Party) (o : Obligation) (k : Key) → key_of party o ≡ None → is_receivable_of party k o ≡ false
+pub not_receivable : (party : Party) (o : Obligation) (k : Key) → key_of party o ≡ None → is_receivable_of party k o ≡ false
 unfolding key_of
 not_receivable party o k h =
     others_receivable (same_currency o.currency k.currency) (same_party o.operator party) (same_party o.provider party) (same_party o.provider k.counterpart) (provider_key o) (operator_key o) h
 
-not_payable : (party : Party) (o : Obligation) (k : Key) → key_of party o ≡ None → is_payable_of party k o ≡ false
+pub not_payable : (party : Party) (o : Obligation) (k : Key) → key_of party o ≡ None → is_payable_of party k o ≡ false
 unfolding key_of
 not_payable party o k h =
     others_payable (same_currency o.currency k.currency) (same_party o.operator party) (same_party o.provider party) (same_party o.operator k.counterpart) (provider_key o) (operator_key o) h
@@ -113,7 +113,7 @@ not_payable party o k h =
 abbrev row_at : Key → ℤ → ℤ → StatementRow
 row_at k r p = record { currency = k.currency; counterpart = k.counterpart; receivable = r; payable = p; net = r -ℤ p }
 
-same_row : (k : Key) (r r' p p' : ℤ) → r ≡ r' → p ≡ p' → row_at k r p ≡ row_at k r' p'
+pub same_row : (k : Key) (r r' p p' : ℤ) → r ≡ r' → p ≡ p' → row_at k r p ≡ row_at k r' p'
 same_row k r r' p p' e f = ap (λ z. row_at k z p) e ∙ ap (λ z. row_at k r' z) f
 
 receivable-push : (party : Party) (k : Key) (os : List Obligation) (o : Obligation)

@@ -1,5 +1,6 @@
 pub mod Inner
 pub mod Laws
 pub mod Netting
+pub mod SameSums
 pub mod State
 pub mod Statement

@@ -1,6 +1,7 @@
 //! What follows from the definitions.
 
 ghost use Rattle.netting_positions.specs.Laws.{PartiesAreConfigured, PartiesAreDifferent, PositionsBalance, StatementsAreInOrder, StatementsAreShort};
+ghost use Rattle.netting_positions.specs.SameSums.{JoinedListsOweAlike, SumsDecideNetPositions, SumsDecideStatements};
 
 /// In each currency the net positions of all parties add up to 0.
 pub fn positions_balance()
@@ -25,4 +26,19 @@ pub fn statements_are_in_order()
 /// A statement has at most as many rows as there are currencies times parties.
 pub fn statements_are_short()
     ensures { StatementsAreShort }
+{}
+
+/// Obligations that owe alike have the same net positions.
+pub fn sums_decide_net_positions()
+    ensures { SumsDecideNetPositions }
+{}
+
+/// Obligations that owe alike have the same statements.
+pub fn sums_decide_statements()
+    ensures { SumsDecideStatements }
+{}
+
+/// Lists that owe alike do so behind lists that owe alike.
+pub fn joined_lists_owe_alike()
+    ensures { JoinedListsOweAlike }
 {}

@@ -9,8 +9,9 @@ mod row;
 mod statement;
 
 pub use laws::{
-    parties_are_configured, parties_are_different, positions_balance, statements_are_in_order,
-    statements_are_short,
+    joined_lists_owe_alike, parties_are_configured, parties_are_different, positions_balance,
+    statements_are_in_order, statements_are_short, sums_decide_net_positions,
+    sums_decide_statements,
 };
 pub use obligation::Obligation;
 pub use positions::{NetPosition, Positions};

@@ -31,13 +31,13 @@ use Rattle.plain_house.proofs.SameScope.{FoldedParty, both_are, is_party_of, sam
 
 -- ---- booked under an id
 
-first_of_three : (a b c : Bool) → (a && b && c) ≡ true → a ≡ true
+pub first_of_three : (a b c : Bool) → (a && b && c) ≡ true → a ≡ true
 first_of_three a b c h = (both_are a b (both_are (a && b) c h).0).0
 
 same_id : (a b : List ℕ) → same_folded a b ≡ true → folded a ≡ folded b
 same_id a b h = same_text (folded a) (folded b) (sym h)
 
-party_itself : (a : Party) → same_party a a ≡ true
+pub party_itself : (a : Party) → same_party a a ≡ true
 party_itself a = ap₂ ◌&&◌ (nat_list_eq_equiv.refl (folded a.country_code)) (nat_list_eq_equiv.refl (folded a.party_id))
 
 -- what is booked depends on the folded texts alone

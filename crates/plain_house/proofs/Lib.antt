@@ -8,10 +8,13 @@ pub mod DebtsLemmas
 pub mod EntriesLemmas
 pub mod ExposureLater
 pub mod HoldsLemmas
+pub mod KeptLemmas
 pub mod LegalLemmas
 pub mod LimitsLemmas
 pub mod NettingLemmas
 pub mod ObligationLemmas
+pub mod OwnAccount
+pub mod OwnBook
 pub mod OwnEntries
 pub mod OwnExposure
 pub mod PeriodsLemmas

@@ -14,6 +14,7 @@ use Rattle.plain_house.specs.declared.entry.AccountEntry.TheVariants as account
 use Rattle.plain_house.specs.declared.entry.Charge.{Charge}
 use Rattle.plain_house.specs.Exposure.{charge_in, charges, charges_within, debts_of, ends_debt, ends_hold, holds_of, holds_within, is_by, is_owed, names, open_hold, open_holds, total_charged, total_held}
 use Rattle.plain_house.specs.Room.{is_entry_of, own_entries}
+use Rattle.plain_house.proofs.KeptLemmas.{IsWithin, filter_kept, flat_kept, none_of}
 use Rattle.plain_house.proofs.SameScope.{both_are, is_party_of, same_folded_party, FoldedParty}
 
 -- ---- the same party
@@ -22,7 +23,7 @@ pub party_along : (p a b : Party) → same_party a b ≡ true → same_party p a
 party_along p a b h = ap (λ (f : FoldedParty). is_party_of f p) (same_folded_party a b h)
 
 -- an entry of a party's account is one of the same party's
-entry_along : (a b : Party) (entry : AccountEntry) → same_party a b ≡ true → is_entry_of a entry ≡ is_entry_of b entry
+pub entry_along : (a b : Party) (entry : AccountEntry) → same_party a b ≡ true → is_entry_of a entry ≡ is_entry_of b entry
 entry_along a b (account.Token token) h = party_along token.provider a b h
 entry_along a b (account.Hold hold) h = party_along hold.provider a b h
 entry_along a b (account.Release release) h = party_along release.provider a b h
@@ -32,7 +33,7 @@ entry_along a b (account.Settlement settlement) h = party_along settlement.provi
 
 -- ---- holds
 
-second : (a b c : Bool) → (a && b && c) ≡ true → b ≡ true
+pub second : (a b c : Bool) → (a && b && c) ≡ true → b ≡ true
 second a b c h = (both_are a b (both_are (a && b) c h).0).1
 
 -- what ends a hold is an entry of its provider
@@ -63,42 +64,47 @@ own_open provider (account.Charge charge) later h = refl
 own_open provider (account.Credit credit) later h = refl
 own_open provider (account.Settlement settlement) later h = refl
 
-outside : (a b c : Bool) → b ≡ false → (a && b && c) ≡ false
-outside true b c e = ap (λ (x : Bool). x && c) e
-outside false b c e = refl
+abbrev pub is_hold_by : Party → Hold → Bool
+is_hold_by provider hold = same_party hold.provider provider
 
--- what another entry opens is not within
-none_open : (scope : Scope) (entry : AccountEntry) (later : List AccountEntry) → is_entry_of scope.provider entry ≡ false
-    → filter (holds_within scope) (open_hold entry later) ≡ []
-none_open scope (account.Token token) later h = refl
-none_open scope (account.Hold hold) later h = by (list_any (ends_hold hold) later)
+-- what an entry opens is a hold of the provider where the entry is one of its account
+own_hold : (provider : Party) (entry : AccountEntry) (later : List AccountEntry)
+    → filter (is_hold_by provider) (open_hold entry later) ≡ cond (is_entry_of provider entry) (open_hold entry later) []
+own_hold provider (account.Token token) later = none_of (same_party token.provider provider)
+own_hold provider (account.Hold hold) later = by (list_any (ends_hold hold) later)
   where
-    by : (ended : Bool) → filter (holds_within scope) (if ended then [] else hold ∷ []) ≡ []
-    by true = refl
-    by false = ap (λ (b : Bool). cond b (hold ∷ []) []) (outside (is_by scope.operator hold.operator) (same_party hold.provider scope.provider) (same_currency hold.currency scope.currency) h)
-none_open scope (account.Release release) later h = refl
-none_open scope (account.Charge charge) later h = refl
-none_open scope (account.Credit credit) later h = refl
-none_open scope (account.Settlement settlement) later h = refl
+    by : (ended : Bool) → filter (is_hold_by provider) (if ended then [] else hold ∷ []) ≡ cond (same_party hold.provider provider) (if ended then [] else hold ∷ []) []
+    by true = none_of (same_party hold.provider provider)
+    by false = refl
+own_hold provider (account.Release release) later = none_of (same_party release.provider provider)
+own_hold provider (account.Charge charge) later = none_of (same_party charge.provider provider)
+own_hold provider (account.Credit credit) later = none_of (same_party credit.provider provider)
+own_hold provider (account.Settlement settlement) later = none_of (same_party settlement.provider provider)
 
-open_own : (scope : Scope) (entries : List AccountEntry)
-    → filter (holds_within scope) (open_holds (own_entries scope.provider entries)) ≡ filter (holds_within scope) (open_holds entries)
-open_own scope [] = refl
-open_own scope (entry ∷ later) = by (is_entry_of scope.provider entry) refl (open_own scope later)
+-- the open holds of the account are those of the provider
+pub own_holds : (provider : Party) (entries : List AccountEntry) → open_holds (own_entries provider entries) ≡ filter (is_hold_by provider) (open_holds entries)
+own_holds provider [] = refl
+own_holds provider (entry ∷ later) = by (is_entry_of provider entry) refl (own_holds provider later)
   where
-    whole : filter (holds_within scope) (open_hold entry later ++ open_holds later) ≡ filter (holds_within scope) (open_hold entry later) ++ filter (holds_within scope) (open_holds later)
-    whole = filter-append (holds_within scope) (open_hold entry later) (open_holds later)
+    whole : filter (is_hold_by provider) (open_hold entry later ++ open_holds later)
+        ≡ cond (is_entry_of provider entry) (open_hold entry later) [] ++ filter (is_hold_by provider) (open_holds later)
+    whole = filter-append (is_hold_by provider) (open_hold entry later) (open_holds later) ∙ ap (λ l. l ++ filter (is_hold_by provider) (open_holds later)) (own_hold provider entry later)
 
-    by : (b : Bool) → is_entry_of scope.provider entry ≡ b
-        → filter (holds_within scope) (open_holds (own_entries scope.provider later)) ≡ filter (holds_within scope) (open_holds later)
-        → filter (holds_within scope) (open_holds (cond b (entry ∷ own_entries scope.provider later) (own_entries scope.provider later))) ≡ filter (holds_within scope) (open_hold entry later ++ open_holds later)
+    by : (b : Bool) → is_entry_of provider entry ≡ b
+        → open_holds (own_entries provider later) ≡ filter (is_hold_by provider) (open_holds later)
+        → open_holds (cond b (entry ∷ own_entries provider later) (own_entries provider later)) ≡ filter (is_hold_by provider) (open_hold entry later ++ open_holds later)
     by true e rest =
-        filter-append (holds_within scope) (open_hold entry (own_entries scope.provider later)) (open_holds (own_entries scope.provider later))
-        ∙ ap₂ (λ a b. a ++ b) (ap (filter (holds_within scope)) (own_open scope.provider entry later e)) rest ∙ sym whole
-    by false e rest = rest ∙ sym (whole ∙ ap (λ l. l ++ filter (holds_within scope) (open_holds later)) (none_open scope entry later e))
+        ap₂ (λ a b. a ++ b) (own_open provider entry later e) rest
+        ∙ sym (whole ∙ ap (λ (b : Bool). cond b (open_hold entry later) [] ++ filter (is_hold_by provider) (open_holds later)) e)
+    by false e rest =
+        rest ∙ sym (whole ∙ ap (λ (b : Bool). cond b (open_hold entry later) [] ++ filter (is_hold_by provider) (open_holds later)) e)
 
 pub holds_of_own : (scope : Scope) (entries : List AccountEntry) → holds_of scope (own_entries scope.provider entries) ≡ holds_of scope entries
-holds_of_own scope entries = ap total_held (open_own scope entries)
+holds_of_own scope entries =
+    ap (λ l. total_held (filter (holds_within scope) l)) (own_holds scope.provider entries)
+    ∙ ap total_held
+    (filter_kept (holds_within scope) (is_hold_by scope.provider)
+    (λ hold h. second (is_by scope.operator hold.operator) (same_party hold.provider scope.provider) (same_currency hold.currency scope.currency) h) (open_holds entries))
 
 -- ---- debts
 
@@ -124,60 +130,52 @@ same_owed : (provider : Party) (charge : Charge) (entries : List AccountEntry) �
     → is_owed (own_entries provider entries) charge ≡ is_owed entries charge
 same_owed provider charge entries h ended = ap not (own_paid provider charge entries h ended)
 
-abbrev is_charge_of : Party → Charge → Bool
+abbrev pub is_charge_of : Party → Charge → Bool
 is_charge_of provider charge = same_party charge.provider provider
 
-none_charged : (b : Bool) → let none : List Charge = [] in none ≡ cond b none none
-none_charged true = refl
-none_charged false = refl
-
 own_charge : (provider : Party) (entry : AccountEntry) → filter (is_charge_of provider) (charge_in entry) ≡ cond (is_entry_of provider entry) (charge_in entry) []
-own_charge provider (account.Token token) = none_charged (same_party token.provider provider)
-own_charge provider (account.Hold hold) = none_charged (same_party hold.provider provider)
-own_charge provider (account.Release release) = none_charged (same_party release.provider provider)
+own_charge provider (account.Token token) = none_of (same_party token.provider provider)
+own_charge provider (account.Hold hold) = none_of (same_party hold.provider provider)
+own_charge provider (account.Release release) = none_of (same_party release.provider provider)
 own_charge provider (account.Charge charge) = refl
-own_charge provider (account.Credit credit) = none_charged (same_party credit.provider provider)
-own_charge provider (account.Settlement settlement) = none_charged (same_party settlement.provider provider)
+own_charge provider (account.Credit credit) = none_of (same_party credit.provider provider)
+own_charge provider (account.Settlement settlement) = none_of (same_party settlement.provider provider)
 
 -- the charges of the account are those of the provider
 own_charges : (provider : Party) (entries : List AccountEntry) → charges (own_entries provider entries) ≡ filter (is_charge_of provider) (charges entries)
-own_charges provider [] = refl
-own_charges provider (entry ∷ later) = by (is_entry_of provider entry) refl (own_charges provider later)
-  where
-    whole : filter (is_charge_of provider) (charge_in entry ++ charges later) ≡ cond (is_entry_of provider entry) (charge_in entry) [] ++ filter (is_charge_of provider) (charges later)
-    whole = filter-append (is_charge_of provider) (charge_in entry) (charges later) ∙ ap (λ l. l ++ filter (is_charge_of provider) (charges later)) (own_charge provider entry)
+own_charges provider entries = flat_kept charge_in (is_entry_of provider) (is_charge_of provider) (own_charge provider) entries
 
-    by : (b : Bool) → is_entry_of provider entry ≡ b
-        → charges (own_entries provider later) ≡ filter (is_charge_of provider) (charges later)
-        → charges (cond b (entry ∷ own_entries provider later) (own_entries provider later)) ≡ filter (is_charge_of provider) (charge_in entry ++ charges later)
-    by true e rest =
-        ap (λ l. charge_in entry ++ l) rest
-        ∙ sym (whole ∙ ap (λ (b : Bool). cond b (charge_in entry) [] ++ filter (is_charge_of provider) (charges later)) e)
-    by false e rest =
-        rest
-        ∙ sym (whole ∙ ap (λ (b : Bool). cond b (charge_in entry) [] ++ filter (is_charge_of provider) (charges later)) e)
+-- sums of charges of the provider
+module _ (provider : Party) (test : Charge → Bool) (within : IsWithin test (is_charge_of provider)) where
+  -- it passes, and is owed by these entries
+  abbrev owes : List AccountEntry → Charge → Bool
+  owes entries charge = test charge && is_owed entries charge
 
--- within the scope, and owed by these entries
-abbrev owes : Scope → List AccountEntry → Charge → Bool
-owes scope entries charge = charges_within scope charge && is_owed entries charge
+  passes_owed : (entries : List AccountEntry) (charge : Charge) → IsEndedByOwn entries charge → owes (own_entries provider entries) charge ≡ owes entries charge
+  passes_owed entries charge ended = by (test charge) refl
+    where
+      by : (b : Bool) → test charge ≡ b → (b && is_owed (own_entries provider entries) charge) ≡ (b && is_owed entries charge)
+      by true e = same_owed provider charge entries (within charge e) ended
+      by false e = refl
 
-own_owed : (scope : Scope) (entries : List AccountEntry) (found : List Charge) → AllByRecursion (IsEndedByOwn entries) found
-    → filter (owes scope (own_entries scope.provider entries)) (filter (is_charge_of scope.provider) found) ≡ filter (owes scope entries) found
-own_owed scope entries [] ended = refl
-own_owed scope entries (charge ∷ found) ended = by (is_charge_of scope.provider charge) refl (own_owed scope entries found ended.1)
-  where
-    by : (b : Bool) → is_charge_of scope.provider charge ≡ b
-        → filter (owes scope (own_entries scope.provider entries)) (filter (is_charge_of scope.provider) found) ≡ filter (owes scope entries) found
-        → filter (owes scope (own_entries scope.provider entries)) (cond b (charge ∷ filter (is_charge_of scope.provider) found) (filter (is_charge_of scope.provider) found))
-        ≡ cond (owes scope entries charge) (charge ∷ filter (owes scope entries) found) (filter (owes scope entries) found)
-    by true e rest =
-        ap₂ (λ (b : Bool) (l : List Charge). cond b (charge ∷ l) l) (ap (λ b. charges_within scope charge && b) (same_owed scope.provider charge entries e ended.0)) rest
-    by false e rest =
-        let not_within : charges_within scope charge ≡ false = outside (is_by scope.operator charge.operator) (same_party charge.provider scope.provider) (same_currency charge.currency scope.currency) e in
-        rest ∙ sym (ap (λ b. cond (b && is_owed entries charge) (charge ∷ filter (owes scope entries) found) (filter (owes scope entries) found)) not_within)
+  own_owed : (entries : List AccountEntry) (found : List Charge) → AllByRecursion (IsEndedByOwn entries) found
+      → filter (owes (own_entries provider entries)) found ≡ filter (owes entries) found
+  own_owed entries [] ended = refl
+  own_owed entries (charge ∷ found) ended =
+      ap₂ (λ (b : Bool) (l : List Charge). cond b (charge ∷ l) l) (passes_owed entries charge ended.0) (own_owed entries found ended.1)
+
+  pub charged_of_own : (entries : List AccountEntry) → AllByRecursion (IsEndedByOwn entries) (charges entries)
+      → total_charged (filter (owes (own_entries provider entries)) (charges (own_entries provider entries))) ≡ total_charged (filter (owes entries) (charges entries))
+  charged_of_own entries ended =
+      ap (λ l. total_charged (filter (owes (own_entries provider entries)) l)) (own_charges provider entries)
+      ∙ ap total_charged
+      (filter_kept (owes (own_entries provider entries)) (is_charge_of provider)
+      (λ charge h. within charge (both_are (test charge) (is_owed (own_entries provider entries) charge) h).0) (charges entries)
+      ∙ own_owed entries (charges entries) ended)
 
 pub debts_of_own : (scope : Scope) (entries : List AccountEntry) → AllByRecursion (IsEndedByOwn entries) (charges entries)
     → debts_of scope (own_entries scope.provider entries) ≡ debts_of scope entries
 debts_of_own scope entries ended =
-    ap total_charged
-    (ap (filter (owes scope (own_entries scope.provider entries))) (own_charges scope.provider entries) ∙ own_owed scope entries (charges entries) ended)
+    charged_of_own scope.provider (charges_within scope)
+    (λ charge h. second (is_by scope.operator charge.operator) (same_party charge.provider scope.provider) (same_currency charge.currency scope.currency) h)
+    entries ended

@@ -33,7 +33,7 @@ same_provider config credit original meets =
     let within : Bool = is_within_tolerance config.tolerance credit.total_cost (neg_ℤ original.amount) in
     (both_are provider currency (both_are (provider && currency) below (both_are (provider && currency && below) within meets).0).0).0
 
-legal_bookable : LegalCdrsAreCharged → LegalCreditsAreTakenBack → (config : Config) (events : List Event) → IsLegal config events → AreBookable events
+pub legal_bookable : LegalCdrsAreCharged → LegalCreditsAreTakenBack → (config : Config) (events : List Event) → IsLegal config events → AreBookable events
 legal_bookable charged taken config events legal before e later same = by e (subst (IsLegal config) same legal)
   where
     by : (e : Event) → IsLegal config (before ++ e ∷ later) → IsBookable before e

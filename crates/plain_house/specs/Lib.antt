@@ -7,6 +7,7 @@ pub mod Known
 pub mod Laws
 pub mod Legal
 pub mod Obligations
+pub mod Own
 pub mod Posting
 pub mod Replies
 pub mod Room

@@ -2,6 +2,7 @@
 
 ghost use Rattle.plain_house.specs.Legal.{ClosedPeriodsStay, CommandsKeepListsLegal, EmptyListsAreLegal, EntriesAreDated, ExposureIsOfOwnEntries, ExposureWithChargeIsOfOwnEntries, LegalCdrsAreCharged, LegalCreditsAreTakenBack, LegalListsBeginLegally, LegalListsCanBeNetted, LegalListsKeepLimits, LegalPositionsBalance, SettlementsEndTheirDebts};
 ghost use Rattle.plain_house.specs.Laws.{VerdictsAreTold};
+ghost use Rattle.plain_house.specs.Own.{AccountsAreOfOwnEntries, BooksAreOfOwnEntries};
 
 use cdr_checks::posts_are_checked;
 use netting_positions::{parties_are_different, positions_balance};
@@ -89,3 +90,16 @@ pub fn legal_positions_balance()
 pub fn verdicts_are_told()
     ensures { VerdictsAreTold }
 {}
+
+/// What the entries say of an operator is what its own book says.
+pub fn books_are_of_own_entries()
+    ensures { BooksAreOfOwnEntries }
+{}
+
+/// What the entries of a legal list say of a provider is what its own account says.
+pub fn accounts_are_of_own_entries()
+    ensures { AccountsAreOfOwnEntries }
+{
+    legal_cdrs_are_charged();
+    legal_credits_are_taken_back();
+}

@@ -28,7 +28,8 @@ pub use hold_reference::reference;
 pub use holds::names;
 pub use house::PlainHouse;
 pub use laws::{
-    closed_periods_stay, commands_keep_lists_legal, empty_lists_are_legal, entries_are_dated,
+    accounts_are_of_own_entries, books_are_of_own_entries, closed_periods_stay,
+    commands_keep_lists_legal, empty_lists_are_legal, entries_are_dated,
     exposure_is_of_own_entries, exposure_with_charge_is_of_own_entries, legal_cdrs_are_charged,
     legal_credits_are_taken_back, legal_lists_begin_legally, legal_lists_can_be_netted,
     legal_lists_keep_limits, legal_positions_balance, settlements_end_their_debts,
