@@ -2,34 +2,19 @@
 
 ghost use Rattle.std.specs.Prelude.{◌≡◌, ◌<◌, ◌≤◌, ◌^◌, ◌++◌, [], ◌∷◌, filter, option_copied};
 ghost use Rattle.std.specs.List.{list_any};
-ghost use Rattle.plain_house.specs.Entries.{account_entries, account_entry, charge_of};
+ghost use Rattle.plain_house.specs.Entries.{account_entries, account_entry};
 ghost use Rattle.plain_house.specs.Exposure.{debts_of, ends_debt, exposure_of, total_charged};
 ghost use Rattle.plain_house.specs.declared.entry.AccountEntry.TheVariants as account;
 ghost use Rattle.plain_house.specs.Inner.Scanned.{event_ends_debt, event_settles_same, is_owed_in, is_sought, owed_charges, with_charge};
 ghost use Rattle.plain_house.specs.Settlements.{is_settled, settled_debt};
 
-use super::entry::Charge;
+use super::entry::{Charge, charge_of};
 use super::event::Event;
 use super::holds::{holds_of, names};
 use super::periods::period_after;
 use super::scope::Scope;
 use cdr_checks::Settlement;
-use ocpi_types::{Cdr, Cost};
-
-/// What a CDR of this cost, booked in this period, adds to its provider's debts.
-pub fn charge_of(cdr: &Cdr, cost: Cost, period: u64) -> Charge
-    ensures { result ≡ charge_of cdr.now cost period }
-{
-    Charge {
-        operator: cdr.operator,
-        provider: cdr.cdr_token.provider,
-        currency: cdr.currency,
-        cdr: cdr.id,
-        cost,
-        period,
-        hold: cdr.authorization_reference,
-    }
-}
+use ocpi_types::Cost;
 
 fn is_settled_by(charge: &Charge, settlement: &Settlement) -> bool
     ensures { result ≡ ends_debt charge.now (account.Settlement settlement.now) }

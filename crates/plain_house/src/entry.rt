@@ -1,3 +1,6 @@
+ghost use Rattle.std.specs.Prelude.{◌≡◌};
+ghost use Rattle.plain_house.specs.Entries.{charge_of, credit_of};
+
 use super::booked_amount::BookedAmount;
 use super::event::Hold;
 use cdr_checks::{Release, Settlement};
@@ -52,4 +55,32 @@ pub enum AccountEntry {
     Charge(Charge),
     Credit(Credit),
     Settlement(Settlement),
+}
+
+/// What a CDR of this cost, booked in this period, adds to its provider's debts.
+pub fn charge_of(cdr: &Cdr, cost: Cost, period: u64) -> Charge
+    ensures { result ≡ charge_of cdr.now cost period }
+{
+    Charge {
+        operator: cdr.operator,
+        provider: cdr.cdr_token.provider,
+        currency: cdr.currency,
+        cdr: cdr.id,
+        cost,
+        period,
+        hold: cdr.authorization_reference,
+    }
+}
+
+/// What a Credit CDR that is booked in this period takes from its provider's debts.
+pub fn credit_of(cdr: &Cdr, period: u64) -> Credit
+    ensures { result ≡ credit_of cdr.now period }
+{
+    Credit {
+        operator: cdr.operator,
+        provider: cdr.cdr_token.provider,
+        currency: cdr.currency,
+        original: cdr.credit,
+        period,
+    }
 }

@@ -22,7 +22,7 @@ mod tokens;
 pub use answer::{Answer, Refused, Replied};
 pub use booked::BookedCdr;
 pub use booked_amount::BookedAmount;
-pub use entry::{AccountEntry, BookEntry, Charge, Credit};
+pub use entry::{AccountEntry, BookEntry, Charge, Credit, charge_of, credit_of};
 pub use event::{Event, Hold};
 pub use hold_reference::reference;
 pub use holds::names;
