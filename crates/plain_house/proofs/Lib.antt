@@ -17,6 +17,7 @@ pub mod OwnAccount
 pub mod OwnBook
 pub mod OwnEntries
 pub mod OwnExposure
+pub mod OwnVerdict
 pub mod PeriodsLemmas
 pub mod PrintableLemmas
 pub mod SameScope

@@ -10,7 +10,7 @@ use Rattle.ocpi_types.specs.declared.config.Config.{Config}
 use Rattle.ocpi_types.specs.declared.config.Operator.{Operator}
 use Rattle.ocpi_types.specs.declared.config.Provider.{Provider}
 use Rattle.ocpi_types.specs.declared.party.Party.{Party}
-use Rattle.ocpi_types.specs.Config.{has_currency_among, is_operator, is_provider, operator_among}
+use Rattle.ocpi_types.specs.Config.{has_currency, has_currency_among, is_operator, is_provider, operator_among}
 use Rattle.ocpi_types.specs.Party.{same_party}
 use Rattle.cdr_checks.specs.Law.{PostsAreChecked}
 use Rattle.netting_positions.specs.Netting.{is_among, is_configured, parties, size, total_size}
@@ -94,17 +94,19 @@ sound_configured config found sound =
 abbrev picked : Bool → Booked → List Booked → List Obligation
 picked b x xs = map obligation_of (cond b (x ∷ xs) xs)
 
+-- what is so of the obligation of each sound CDR is so of those of the period
+all_pass : (config : Config) (test : Obligation → Bool) → ((found : Booked) → IsSound config found → test (obligation_of found) ≡ true) → (period : ℕ) (found : List Booked)
+    → AllByRecursion (IsSound config) found → list_all test (map obligation_of (filter (is_of_period period) found)) ≡ true
+all_pass config test passes period [] all = refl
+all_pass config test passes period (x ∷ found) all = by (is_of_period period x) (all_pass config test passes period found all.1)
+  where
+    by : (b : Bool) → list_all test (map obligation_of (filter (is_of_period period) found)) ≡ true → list_all test (picked b x (filter (is_of_period period) found)) ≡ true
+    by true rest = ap (λ b. b && list_all test (map obligation_of (filter (is_of_period period) found))) (passes x all.0) ∙ rest
+    by false rest = rest
+
 pub all_configured : (config : Config) (period : ℕ) (found : List Booked) → AllByRecursion (IsSound config) found
     → list_all (is_configured (parties config) config.currencies) (map obligation_of (filter (is_of_period period) found)) ≡ true
-all_configured config period [] all = refl
-all_configured config period (x ∷ found) all = by (is_of_period period x) (all_configured config period found all.1)
-  where
-    by : (b : Bool) → list_all (is_configured (parties config) config.currencies) (map obligation_of (filter (is_of_period period) found)) ≡ true
-        → list_all (is_configured (parties config) config.currencies) (picked b x (filter (is_of_period period) found)) ≡ true
-    by true rest =
-        ap (λ b. b && list_all (is_configured (parties config) config.currencies) (map obligation_of (filter (is_of_period period) found))) (sound_configured config x all.0)
-        ∙ rest
-    by false rest = rest
+all_configured config = all_pass config (is_configured (parties config) config.currencies) (sound_configured config)
 
 sizes : (config : Config) (period : ℕ) (found : List Booked) → AllByRecursion (IsSound config) found
     → total_size (map obligation_of (filter (is_of_period period) found)) ≤ length found * 10 ^ 12
@@ -198,4 +200,8 @@ can_be_netted law config events operators cdrs legal =
     record {
       configured = λ period. all_configured config period (booked (book_entries events)) sound.each;
       fits = λ period. omega (arith, sizes config period (booked (book_entries events)) sound.each, count, each, most);
+      providers = λ period.
+          all_pass config (λ obligation. is_provider config obligation.provider && has_currency config obligation.currency)
+          (λ found sound. ap₂ ◌&&◌ sound.1 sound.2) period (booked (book_entries events)) sound.each;
+      operators = λ period. all_pass config (λ obligation. is_operator config obligation.operator) (λ found sound. sound.0) period (booked (book_entries events)) sound.each;
     }

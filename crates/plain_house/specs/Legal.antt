@@ -6,7 +6,7 @@ use Rattle.ocpi_types.specs.declared.config.Config.{Config}
 use Rattle.ocpi_types.specs.declared.config.Operator.{Operator}
 use Rattle.ocpi_types.specs.declared.party.Party.{Party}
 use Rattle.ocpi_types.specs.Cdr.{is_credit}
-use Rattle.ocpi_types.specs.Config.{alike_operators, alike_providers, limit_of, operator_of, pair_limit_of}
+use Rattle.ocpi_types.specs.Config.{alike_operators, alike_providers, has_currency, is_operator, is_provider, limit_of, operator_of, pair_limit_of}
 use Rattle.ocpi_types.specs.Different.{all_different}
 use Rattle.cdr_checks.specs.declared.request.Command.{Command}
 use Rattle.cdr_checks.specs.Admission.{IsAdmitted}
@@ -45,10 +45,14 @@ pub record KeepsLimits (config : Config) (events : List Event) : Type 0 where
   pub provider : (provider : Party) (currency : List ℕ) → exposure_of (of_provider provider currency) (account_entries events) ≤ limit_of config provider currency
   pub pair : (operator provider : Party) (currency : List ℕ) (limit : ℕ) → pair_limit_of config operator provider currency ≡ Some limit → exposure_of (of_pair operator provider currency) (account_entries events) ≤ limit
 
--- the obligations of each period are of configured parties and currencies, and fit in 63 bits
+-- the obligations of each period are of configured parties and currencies, a provider's to an operator, and fit in 63 bits
 pub record CanBeNetted (config : Config) (events : List Event) : Type 0 where
   pub configured : (period : ℕ) → list_all (is_configured (parties config) config.currencies) (obligations period (book_entries events)) ≡ true
   pub fits : (period : ℕ) → total_size (obligations period (book_entries events)) < 2 ^ 63
+  -- each is of a provider, in a currency of the configuration
+  pub providers : (period : ℕ) → list_all (λ obligation. is_provider config obligation.provider && has_currency config obligation.currency) (obligations period (book_entries events)) ≡ true
+  -- and to an operator
+  pub operators : (period : ℕ) → list_all (λ obligation. is_operator config obligation.operator) (obligations period (book_entries events)) ≡ true
 
 -- a legal list keeps the limits
 abbrev pub LegalListsKeepLimits : Type 0

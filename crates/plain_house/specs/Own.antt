@@ -1,6 +1,6 @@
 -- A house answers a command by the entries of the command's own operator and provider: what is asked of all entries is said
 -- by the operator's own book, or the provider's own account.
-use Rattle.std.specs.Prelude.{◌≡◌, ℕ, List, Bool, true, None, filter}
+use Rattle.std.specs.Prelude.{◌≡◌, ℕ, List, Bool, true, Option, Some, None, filter}
 use Rattle.ocpi_types.specs.declared.cdr.Cdr.{Cdr}
 use Rattle.ocpi_types.specs.declared.config.Config.{Config}
 use Rattle.ocpi_types.specs.declared.party.Party.{Party}
@@ -11,6 +11,8 @@ use Rattle.cdr_checks.specs.declared.request.Authorize.{Authorize}
 use Rattle.cdr_checks.specs.declared.request.ExposureOf.{ExposureOf}
 use Rattle.cdr_checks.specs.declared.request.Release.{Release}
 use Rattle.cdr_checks.specs.declared.request.Settlement.{Settlement}
+use Rattle.cdr_checks.specs.declared.request.Command.{Command}
+use Rattle.cdr_checks.specs.Parties.{operator_of_command, provider_of_command}
 use Rattle.plain_house.specs.declared.event.Event.{Event}
 use Rattle.plain_house.specs.declared.entry.AccountEntry.{AccountEntry}
 use Rattle.plain_house.specs.declared.entry.BookEntry.{BookEntry}
@@ -18,7 +20,8 @@ use Rattle.plain_house.specs.declared.entry.BookEntry.TheVariants as book
 use Rattle.plain_house.specs.Booked.{booked_as, is_credited}
 use Rattle.plain_house.specs.Entries.{account_entries, book_entries, charge_of, period_of}
 use Rattle.plain_house.specs.Exposure.{released_hold}
-use Rattle.plain_house.specs.House.{exposed, hold_for, lacks_credit}
+use Rattle.plain_house.specs.House.{exposed, hold_for, lacks_credit, verdict}
+use Rattle.plain_house.specs.Known.{Known, known}
 use Rattle.plain_house.specs.Legal.{IsLegal}
 use Rattle.plain_house.specs.Posting.{judged_cdr, judged_credit, over_limit}
 use Rattle.plain_house.specs.Room.{are_cdrs_full, are_versions_full, is_account_full, own_entries}
@@ -77,3 +80,30 @@ pub record IsOfOwnAccount (config : Config) (events : List Event) (provider : Pa
 abbrev pub AccountsAreOfOwnEntries : Type 0
 AccountsAreOfOwnEntries =
     (config : Config) (events : List Event) (provider : Party) → IsLegal config events → IsOfOwnAccount config events provider
+
+-- ---- verdicts
+
+-- the entries of an operator's book, or all where none is named
+abbrev pub of_operator : Option Party → List BookEntry → List BookEntry
+of_operator None entries = entries
+of_operator (Some operator) entries = own_book operator entries
+
+-- the entries of a provider's account, or all where none is named
+abbrev pub of_account : Option Party → List AccountEntry → List AccountEntry
+of_account None entries = entries
+of_account (Some provider) entries = own_entries provider entries
+
+-- what is known, less the entries of others than the command's operator and provider
+abbrev pub own_known : Command → Known → Known
+own_known command known = record {
+  book = of_operator (operator_of_command command) known.book;
+  account = of_account (provider_of_command command) known.account;
+  point = known.point;
+  period = known.period;
+}
+
+-- on a legal list a verdict is decided by the entries of the command's own operator and provider
+abbrev pub VerdictsAreOfOwnEntries : Type 0
+VerdictsAreOfOwnEntries =
+    (config : Config) (events : List Event) (command : Command) → IsLegal config events →
+    verdict config (own_known command (known events)) command ≡ verdict config (known events) command

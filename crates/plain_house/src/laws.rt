@@ -2,7 +2,7 @@
 
 ghost use Rattle.plain_house.specs.Legal.{ClosedPeriodsStay, CommandsKeepListsLegal, EmptyListsAreLegal, EntriesAreDated, ExposureIsOfOwnEntries, ExposureWithChargeIsOfOwnEntries, LegalCdrsAreCharged, LegalCreditsAreTakenBack, LegalListsBeginLegally, LegalListsCanBeNetted, LegalListsKeepLimits, LegalPositionsBalance, SettlementsEndTheirDebts};
 ghost use Rattle.plain_house.specs.Laws.{VerdictsAreTold};
-ghost use Rattle.plain_house.specs.Own.{AccountsAreOfOwnEntries, BooksAreOfOwnEntries};
+ghost use Rattle.plain_house.specs.Own.{AccountsAreOfOwnEntries, BooksAreOfOwnEntries, VerdictsAreOfOwnEntries};
 
 use cdr_checks::posts_are_checked;
 use netting_positions::{parties_are_different, positions_balance};
@@ -102,4 +102,12 @@ pub fn accounts_are_of_own_entries()
 {
     legal_cdrs_are_charged();
     legal_credits_are_taken_back();
+}
+
+/// On a legal list a verdict is decided by the entries of the command's own operator and provider.
+pub fn verdicts_are_of_own_entries()
+    ensures { VerdictsAreOfOwnEntries }
+{
+    books_are_of_own_entries();
+    accounts_are_of_own_entries();
 }

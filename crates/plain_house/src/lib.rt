@@ -33,7 +33,7 @@ pub use laws::{
     exposure_is_of_own_entries, exposure_with_charge_is_of_own_entries, legal_cdrs_are_charged,
     legal_credits_are_taken_back, legal_lists_begin_legally, legal_lists_can_be_netted,
     legal_lists_keep_limits, legal_positions_balance, settlements_end_their_debts,
-    verdicts_are_told,
+    verdicts_are_of_own_entries, verdicts_are_told,
 };
 pub use obligations::statement_rows;
 pub use periods::period_after;
