@@ -1,10 +1,11 @@
 -- Obligations that say the same of what is owed: between any two parties, in each currency.
-use Rattle.std.specs.Prelude.{◌≡◌, ℕ, ℤ, List, ◌++◌, Bool, ◌&&◌, filter}
-use Rattle.std.specs.List.{list_any}
+use Rattle.std.specs.Prelude.{◌≡◌, ℕ, ℤ, List, ◌++◌, Bool, true, ◌&&◌, filter, flat_map}
+use Rattle.std.specs.List.{list_all, list_any}
 use Rattle.ocpi_types.specs.Currency.{same_currency}
+use Rattle.ocpi_types.specs.Different.{all_different}
 use Rattle.ocpi_types.specs.Party.{same_party}
 use Rattle.ocpi_types.specs.declared.party.Party.{Party}
-use Rattle.netting_positions.specs.Netting.{amounts, net_positions, total}
+use Rattle.netting_positions.specs.Netting.{amounts, is_among, net_positions, total}
 use Rattle.netting_positions.specs.Statement.{statement_rows}
 use Rattle.netting_positions.specs.declared.obligation.Obligation.{Obligation}
 
@@ -47,3 +48,15 @@ abbrev pub JoinedListsOweAlike : Type 0
 JoinedListsOweAlike =
     (some others later rest : List Obligation) → OweAlike some others → OweAlike later rest →
     OweAlike (some ++ later) (others ++ rest)
+
+-- the obligations to these operators, operator by operator
+abbrev pub by_operator : List Party → List Obligation → List Obligation
+by_operator operators obligations =
+    flat_map (λ operator. filter (λ obligation. same_party obligation.operator operator) obligations) operators
+
+-- where no two operators are the same and each obligation is to one of them, they owe alike
+abbrev pub OperatorsOweAlike : Type 0
+OperatorsOweAlike =
+    (operators : List Party) (obligations : List Obligation) → all_different same_party operators ≡ true →
+    list_all (λ obligation. is_among operators obligation.operator) obligations ≡ true →
+    OweAlike (by_operator operators obligations) obligations

@@ -1,7 +1,7 @@
 //! What follows from the definitions.
 
 ghost use Rattle.netting_positions.specs.Laws.{PartiesAreConfigured, PartiesAreDifferent, PositionsBalance, StatementsAreInOrder, StatementsAreShort};
-ghost use Rattle.netting_positions.specs.SameSums.{JoinedListsOweAlike, SumsDecideNetPositions, SumsDecideStatements};
+ghost use Rattle.netting_positions.specs.SameSums.{JoinedListsOweAlike, OperatorsOweAlike, SumsDecideNetPositions, SumsDecideStatements};
 
 /// In each currency the net positions of all parties add up to 0.
 pub fn positions_balance()
@@ -41,4 +41,9 @@ pub fn sums_decide_statements()
 /// Lists that owe alike do so behind lists that owe alike.
 pub fn joined_lists_owe_alike()
     ensures { JoinedListsOweAlike }
+{}
+
+/// Obligations owe alike when listed operator by operator.
+pub fn operators_owe_alike()
+    ensures { OperatorsOweAlike }
 {}
