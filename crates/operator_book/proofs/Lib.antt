@@ -1,0 +1,9 @@
+pub mod AlikeLemmas
+pub mod FoundLemmas
+pub mod IdsLemmas
+pub mod KeyLemmas
+pub mod LoopLemmas
+pub mod OnceLemmas
+pub mod SumsLemmas
+pub mod TogetherLemmas
+pub mod VersionsLemmas

@@ -1,0 +1,116 @@
+//! How many CDRs and tariff versions each operator has in a list of entries.
+
+ghost use Rattle.std.specs.Prelude.{◌≡◌, ◌+◌, ◌<◌, ◌^◌, [], ◌∷◌, ◌++◌, List, OnOk, count_by, if◌then◌else◌};
+ghost use Rattle.indexmap.specs.IndexMap.{spare};
+ghost use Rattle.ocpi_types.specs.Party.{same_party};
+ghost use Rattle.ocpi_types.specs.declared.party.Party.{Party as Operator};
+ghost use Rattle.operator_book.specs.Inner.Counts.{CountsCdrs, CountsVersions, counted};
+ghost use Rattle.plain_house.specs.Room.{is_cdr_of, is_version_of};
+ghost use Rattle.plain_house.specs.declared.entry.BookEntry.{BookEntry as Entry};
+
+use indexmap::IndexMap;
+use ocpi_types::Party;
+use plain_house::BookEntry;
+use std::alloc::{AllocError, Global};
+
+/// A number for each operator that has any.
+#[derive(Drop)]
+pub struct Tally {
+    counts: IndexMap<Party, u64>,
+}
+
+impl Tally {
+    fn new(alloc: Global) -> Tally
+        ensures { (operator : Operator) → counted result operator ≡ 0 }
+    {
+        Tally {
+            counts: IndexMap::new(alloc),
+        }
+    }
+
+    fn reserve(&mut self) -> Result<(), AllocError>
+        ensures counts { (operator : Operator) → counted self.new operator ≡ counted self.old operator }
+        ensures room { OnOk result (0 < spare self.new.counts) }
+        ensures kept { 0 < spare self.old.counts → 0 < spare self.new.counts }
+    {
+        self.counts.reserve(1)
+    }
+
+    fn of(&self, operator: &Party) -> u64
+        ensures { result ≡ counted self.now operator.now }
+    {
+        self.counts.get(operator).copied().unwrap_or(0)
+    }
+
+    fn add_one(&mut self, operator: Party)
+        requires room { 0 < spare self.old.counts }
+        requires fits { counted self.old operator < 2 ^ 63 }
+        ensures { (asked : Operator) → counted self.new asked ≡ counted self.old asked + (if same_party operator asked then 1 else 0) }
+    {
+        let count = self.of(&operator) + 1;
+        self.counts.insert(operator, count).unwrap();
+    }
+}
+
+/// The CDRs and Credit CDRs, and the tariff versions, of each operator.
+#[derive(Drop)]
+pub struct Counts {
+    cdrs: Tally,
+    versions: Tally,
+}
+
+impl Counts {
+    pub fn new(alloc: Global) -> Counts
+        ensures cdrs { CountsCdrs result.cdrs [] }
+        ensures versions { CountsVersions result.versions [] }
+    {
+        Counts {
+            cdrs: Tally::new(alloc),
+            versions: Tally::new(alloc),
+        }
+    }
+
+    /// Makes room for one more operator.
+    pub fn reserve(&mut self) -> Result<(), AllocError>
+        ensures cdrs { (entries : List Entry) → CountsCdrs self.old.cdrs entries → CountsCdrs self.new.cdrs entries }
+        ensures versions { (entries : List Entry) → CountsVersions self.old.versions entries → CountsVersions self.new.versions entries }
+        ensures cdrs_room { OnOk result (0 < spare self.new.cdrs.counts) }
+        ensures versions_room { OnOk result (0 < spare self.new.versions.counts) }
+        ensures cdrs_kept { 0 < spare self.old.cdrs.counts → 0 < spare self.new.cdrs.counts }
+        ensures versions_kept { 0 < spare self.old.versions.counts → 0 < spare self.new.versions.counts }
+    {
+        self.cdrs.reserve()?;
+        self.versions.reserve()
+    }
+
+    /// How many CDRs and Credit CDRs the operator has.
+    pub fn cdrs_of(&self, operator: &Party) -> u64
+        ensures { result ≡ counted self.now.cdrs operator.now }
+    {
+        self.cdrs.of(operator)
+    }
+
+    /// How many tariff versions the operator has.
+    pub fn versions_of(&self, operator: &Party) -> u64
+        ensures { result ≡ counted self.now.versions operator.now }
+    {
+        self.versions.of(operator)
+    }
+
+    /// Counts the entry that comes after these as well, without taking memory.
+    pub fn add(&mut self, entries: &[BookEntry], entry: &BookEntry)
+        requires cdrs_room { 0 < spare self.old.cdrs.counts }
+        requires versions_room { 0 < spare self.old.versions.counts }
+        requires cdrs { CountsCdrs self.old.cdrs entries.now }
+        requires versions { CountsVersions self.old.versions entries.now }
+        ensures cdrs { CountsCdrs self.new.cdrs (entries.now ++ entry.now ∷ []) }
+        ensures versions { CountsVersions self.new.versions (entries.now ++ entry.now ∷ []) }
+    {
+        let _length = entries.len();
+        match entry {
+            BookEntry::Tariff(tariff) => self.versions.add_one(tariff.operator),
+            BookEntry::Cdr { cdr, .. } => self.cdrs.add_one(cdr.operator),
+            BookEntry::Credit { cdr, .. } => self.cdrs.add_one(cdr.operator),
+        }
+    }
+}

@@ -1,0 +1,9 @@
+pub mod BooksLemmas
+pub mod DecidesLemmas
+pub mod EntriesLemmas
+pub mod GivenLemmas
+pub mod NumberLemmas
+pub mod OrderLemmas
+pub mod PartyLemmas
+pub mod ResolvedLemmas
+pub mod TakesLemmas

@@ -1,0 +1,5 @@
+use Rattle.period_order.proofs.ResolvedLemmas.{are_resolved}
+use Rattle.period_order.proofs.laws.orders_are_resolved.Goals as goal
+
+pub returns : goal.returns
+returns c = are_resolved c.commands_have_parties.ensures

@@ -1,0 +1,153 @@
+-- What a command comes to at its place in the order.
+use Rattle.std.specs.Prelude.{◌≡◌, ◌≤◌, ◌^◌, ◌+◌, ℕ, Bool, true, false, List, [], ◌∷◌, ◌++◌, count_by, length, Option, Some, None, option_map, Ok}
+use Rattle.ocpi_json.specs.Folded.{same_folded}
+use Rattle.ocpi_types.specs.declared.config.Config.{Config}
+use Rattle.cdr_checks.specs.declared.request.Command.{Command}
+use Rattle.cdr_checks.specs.declared.request.Command.TheVariants as command
+use Rattle.netting_positions.specs.Statement.{statement_rows}
+use Rattle.operator_book.specs.State.{PlainBook}
+use Rattle.provider_account.specs.State.{PlainAccount}
+use Rattle.plain_house.specs.declared.answer.Answer.TheVariants as answer
+use Rattle.plain_house.specs.declared.entry.AccountEntry.{AccountEntry}
+use Rattle.plain_house.specs.declared.entry.AccountEntry.TheVariants as account
+use Rattle.plain_house.specs.declared.entry.BookEntry.{BookEntry}
+use Rattle.plain_house.specs.declared.event.Event.{Event}
+use Rattle.plain_house.specs.declared.event.Event.TheVariants as event
+use Rattle.plain_house.specs.Entries.{charge_of}
+use Rattle.plain_house.specs.Exposure.{exposure_of, of_provider}
+use Rattle.plain_house.specs.House.{is_hold_of, positions_in, reference_text, verdict}
+use Rattle.plain_house.specs.Known.{Known}
+use Rattle.plain_house.specs.Obligations.{obligations}
+use Rattle.plain_house.specs.Tariffs.{stored_version}
+use Rattle.plain_house.specs.Verdict.{Verdict, accepts, replies}
+use Rattle.period_order.specs.declared.decided.Outcome.{Outcome}
+use Rattle.period_order.specs.declared.decided.Outcome.TheVariants as outcome
+use Rattle.period_order.specs.declared.order_entry.OrderEntry.{OrderEntry}
+use Rattle.period_order.specs.Order.{PlainOrder, current_of, point_of}
+use Rattle.period_order.specs.Places.{order_entry}
+
+-- ---- what is known at the order
+
+abbrev pub seen : List BookEntry → List AccountEntry → PlainOrder → Known
+seen book account order = record { book = book; account = account; point = point_of order; period = current_of order }
+
+-- these are the book's entries; where no book is given, they may be any
+abbrev pub AreOfBook : Option PlainBook → List BookEntry → Type 0
+AreOfBook None entries = Unit {0}
+AreOfBook (Some book) entries = entries ≡ book.entries
+
+-- the same of an account
+abbrev pub AreOfAccount : Option PlainAccount → List AccountEntry → Type 0
+AreOfAccount None entries = Unit {0}
+AreOfAccount (Some account) entries = entries ≡ account.entries
+
+-- ---- outcomes
+
+-- the verdict, once what is to be collected from books of these entries has been
+abbrev pub verdict_with : Config → List BookEntry → Outcome → Verdict
+verdict_with config entries (outcome.Replied reply event) = record { reply = reply; event = event }
+verdict_with config entries (outcome.Closed period) =
+    accepts (answer.Closed period (positions_in config entries period)) (event.Closed period)
+verdict_with config entries (outcome.Stated ask) =
+    replies (Ok (answer.Statement (statement_rows ask.party (obligations ask.period entries))))
+
+abbrev pub event_of : Outcome → Option Event
+event_of (outcome.Replied reply event) = event
+event_of (outcome.Closed period) = Some (event.Closed period)
+event_of (outcome.Stated ask) = None
+
+-- the order with what it keeps of the event, if there is one
+abbrev pub with_entry : PlainOrder → Option OrderEntry → PlainOrder
+with_entry order None = order
+with_entry order (Some entry) = record { entries = order.entries ++ entry ∷ []; has_room = false }
+
+-- how many entries the book has, and the account
+abbrev pub book_length : Option PlainBook → ℕ
+book_length None = 0
+book_length (Some book) = length book.entries
+
+abbrev pub account_length : Option PlainAccount → ℕ
+account_length None = 0
+account_length (Some account) = length account.entries
+
+-- ---- what can be put
+
+-- a book with these entries takes the event's: no tariff version is stored twice
+abbrev pub BookTakes : List BookEntry → Event → Type 0
+BookTakes entries (event.Tariff tariff) = stored_version tariff entries ≡ None
+BookTakes entries (event.Token token) = Unit {0}
+BookTakes entries (event.Authorised hold) = Unit {0}
+BookTakes entries (event.Released release) = Unit {0}
+BookTakes entries (event.Cdr cdr cost) = Unit {0}
+BookTakes entries (event.Credit cdr amount) = Unit {0}
+BookTakes entries (event.Settled settlement) = Unit {0}
+BookTakes entries (event.Closed period) = Unit {0}
+
+-- an account with these entries takes the event's, in a period: a hold has the provider's next number, and no exposure passes
+-- what a credit limit can be
+abbrev pub AccountTakes : List AccountEntry → ℕ → Event → Type 0
+AccountTakes entries period (event.Tariff tariff) = Unit {0}
+AccountTakes entries period (event.Token token) = Unit {0}
+AccountTakes entries period (event.Authorised hold) =
+    (same_folded hold.reference (reference_text hold.provider (count_by (is_hold_of hold.provider) entries + 1)) ≡ true)
+    × (exposure_of (of_provider hold.provider hold.currency) entries + hold.amount ≤ 10 ^ 15)
+AccountTakes entries period (event.Released release) = Unit {0}
+AccountTakes entries period (event.Cdr cdr cost) =
+    exposure_of (of_provider cdr.cdr_token.provider cdr.currency) (entries ++ account.Charge (charge_of cdr cost period) ∷ []) ≤ 10 ^ 15
+AccountTakes entries period (event.Credit cdr amount) = Unit {0}
+AccountTakes entries period (event.Settled settlement) = Unit {0}
+AccountTakes entries period (event.Closed closed) = Unit {0}
+
+abbrev pub BookTakesAny : Option PlainBook → Option Event → Type 0
+BookTakesAny None event = Unit {0}
+BookTakesAny (Some book) None = Unit {0}
+BookTakesAny (Some book) (Some event) = BookTakes book.entries event
+
+abbrev pub AccountTakesAny : Option PlainAccount → ℕ → Option Event → Type 0
+AccountTakesAny None period event = Unit {0}
+AccountTakesAny (Some account) period None = Unit {0}
+AccountTakesAny (Some account) period (Some event) = AccountTakes account.entries period event
+
+-- ---- the decision
+
+abbrev pub is_close_command : Command → Bool
+is_close_command (command.PutTariff tariff) = false
+is_close_command (command.PutToken token) = false
+is_close_command (command.Authorize ask) = false
+is_close_command (command.Release release) = false
+is_close_command (command.Post checked) = false
+is_close_command (command.Close close) = true
+is_close_command (command.Settle settlement) = false
+is_close_command (command.Exposure ask) = false
+is_close_command (command.Find find) = false
+is_close_command (command.Statement ask) = false
+
+abbrev pub is_statement_command : Command → Bool
+is_statement_command (command.PutTariff tariff) = false
+is_statement_command (command.PutToken token) = false
+is_statement_command (command.Authorize ask) = false
+is_statement_command (command.Release release) = false
+is_statement_command (command.Post checked) = false
+is_statement_command (command.Close close) = false
+is_statement_command (command.Settle settlement) = false
+is_statement_command (command.Exposure ask) = false
+is_statement_command (command.Find find) = false
+is_statement_command (command.Statement ask) = true
+
+-- books are collected for a close or a statement alone
+abbrev pub Collects : Command → Outcome → Type 0
+Collects command (outcome.Replied reply event) = Unit {0}
+Collects command (outcome.Closed period) = is_close_command command ≡ true
+Collects command (outcome.Stated ask) = is_statement_command command ≡ true
+
+-- the outcome is that of the verdict, and the book and the account take its event
+pub record Decides (config : Config) (book : Option PlainBook) (account : Option PlainAccount) (order : PlainOrder) (command : Command) (outcome : Outcome) : Type 0 where
+  pub verdict_is : (entries : List BookEntry) (others : List AccountEntry) → AreOfBook book entries → AreOfAccount account others → verdict config (seen entries others order) command ≡ verdict_with config entries outcome
+  pub collects : Collects command outcome
+  pub in_book : BookTakesAny book (event_of outcome)
+  pub in_account : AccountTakesAny account (current_of order) (event_of outcome)
+
+-- the order with the event's entry
+abbrev pub order_with : Config → Option PlainBook → Option PlainAccount → PlainOrder → Outcome → PlainOrder
+order_with config book account order outcome =
+    with_entry order (option_map (order_entry config (book_length book) (account_length account)) (event_of outcome))

@@ -1,0 +1,111 @@
+//! The order of events.
+
+ghost use Rattle.std.specs.Prelude.{◌≡◌};
+
+use super::order_entry::OrderEntry;
+use ocpi_types::{Config, Refusal};
+use std::alloc::{AllocError, Global};
+use std::marker::Model;
+
+/// The order of events, and the current period.
+#[derive(Drop)]
+pub struct Order {
+    entries: Vec<OrderEntry>,
+    period: u64,
+    has_room: bool,
+}
+
+impl Model for Order {
+    ghost use Rattle.std.specs.Prelude.{◌≡◌, ◌<◌, true, count_by, vec_len, vec_capacity};
+    ghost use Rattle.period_order.specs.Order.{PlainOrder, is_close};
+
+    ghost Value = { PlainOrder };
+
+    ghost view = { λ order. record { entries = order.entries.items; has_room = order.has_room } };
+
+    ghost invariant = { λ order. (order.period ≡ count_by is_close order.entries.items)
+        × (order.has_room ≡ true → vec_len order.entries < vec_capacity order.entries) };
+}
+
+impl Order {
+    ghost use Rattle.std.specs.Prelude.{◌≡◌, [], ◌∷◌, ◌++◌, true, false, OnOk, OnErr};
+    ghost use Rattle.period_order.specs.Order.{current_of, is_close, point_of};
+    ghost use Rattle.plain_house.specs.Room.{are_periods_full, is_order_full};
+    ghost use Rattle.period_order.specs.declared.order_entry.OrderEntry.TheVariants as entry;
+
+    /// An order without entries.
+    pub fn new(alloc: Global) -> Order
+        ensures { result ≡ record { entries = []; has_room = false } }
+    {
+        Order {
+            entries: Vec::new(alloc),
+            period: 0,
+            has_room: false,
+        }
+    }
+
+    /// What the order keeps of each event, the first event first.
+    pub fn entries(&self) -> &[OrderEntry]
+        ensures { result.now ≡ self.now.entries }
+    {
+        self.entries.as_slice()
+    }
+
+    /// The number of events so far.
+    pub fn point(&self) -> u64
+        ensures { result ≡ point_of self.now }
+    {
+        self.entries.len() as u64
+    }
+
+    /// The current period.
+    pub fn current(&self) -> u64
+        ensures { result ≡ current_of self.now }
+    {
+        self.period
+    }
+
+    /// There are as many events as the configuration allows.
+    pub fn is_full(&self, config: &Config) -> bool
+        ensures { result ≡ is_order_full config.now (point_of self.now) }
+    {
+        config.limits.order.get() <= self.point()
+    }
+
+    /// As many periods are closed as the configuration allows.
+    pub fn are_periods_full(&self, config: &Config) -> bool
+        ensures { result ≡ are_periods_full config.now (current_of self.now) }
+    {
+        config.limits.periods.get() <= self.current()
+    }
+
+    /// Makes room for one more entry. Where memory is refused, the order is as before.
+    pub fn reserve(&mut self) -> Result<(), AllocError>
+        ensures ok { OnOk result (self.new ≡ record { entries = self.old.entries; has_room = true }) }
+        ensures err { OnErr result (self.new ≡ self.old) }
+    {
+        self.entries.reserve(1)?;
+        self.has_room = true;
+        Ok(())
+    }
+
+    /// Adds what is kept of an event that is no close, without taking memory.
+    pub fn append(&mut self, entry: OrderEntry)
+        requires room { self.old.has_room ≡ true }
+        requires stays { is_close entry ≡ false }
+        ensures { self.new ≡ record { entries = self.old.entries ++ entry ∷ []; has_room = false } }
+    {
+        let _ = self.entries.push(entry);
+        self.has_room = false;
+    }
+
+    /// Closes the current period, without taking memory.
+    pub fn close(&mut self)
+        requires { self.old.has_room ≡ true }
+        ensures { self.new ≡ record { entries = self.old.entries ++ entry.Close ∷ []; has_room = false } }
+    {
+        let _ = self.entries.push(OrderEntry::Close);
+        self.period += 1;
+        self.has_room = false;
+    }
+}

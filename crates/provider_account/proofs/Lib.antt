@@ -1,0 +1,13 @@
+pub mod ChargedLemmas
+pub mod DebtsLemmas
+pub mod HeldCells
+pub mod HoldBegun
+pub mod HoldsKnown
+pub mod OnlyOne
+pub mod OpenHolds
+pub mod OwedLemmas
+pub mod References
+pub mod SettledLemmas
+pub mod TokensLemmas
+pub mod TotalLemmas
+pub mod LimitsLemmas

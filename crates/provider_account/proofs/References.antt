@@ -1,0 +1,51 @@
+-- References of different numbers differ, but for the case of letters.
+use Rattle.std.proofs.Common.{◌≡◌, ◌<◌, ◌^◌, ◌==◌, ℕ, List, [], ◌∷◌, ◌++◌, true, codes, decimal, refl, sym, ap, ap₂, ◌∙◌, arith}
+use Rattle.std.specs.Char.{digit_value, to_ascii_lowercase}
+use Rattle.std.specs.Cmp.Lexicographic.{pointwise, same_text}
+use Rattle.std.specs.Str.Parse.{AllDigits}
+use Rattle.std.proofs.lemmas.Cmp.{nat_list_eq_equiv}
+use Rattle.std.proofs.lemmas.Fmt.{decimal_injective, decimal_is_IsNumeral}
+use Rattle.std.proofs.lemmas.List.{append_cancel_left, map-append}
+use Rattle.ocpi_json.specs.Folded.{folded, same_folded}
+use Rattle.ocpi_types.specs.declared.party.Party.{Party}
+use Rattle.ocpi_types.specs.Party.{same_party}
+use Rattle.plain_house.specs.House.{reference_text}
+use Rattle.plain_house.proofs.SameScope.{FoldedParty, folded_party, same_folded_party}
+
+pub folded_same : (a b : List ℕ) → same_folded a b ≡ true → folded a ≡ folded b
+folded_same a b e = same_text (folded a) (folded b) (sym e)
+
+pub same_from_folded : (a b : List ℕ) → folded a ≡ folded b → same_folded a b ≡ true
+same_from_folded a b e = ap (λ (text : List ℕ). pointwise ◌==◌ (folded a) text) (sym e) ∙ nat_list_eq_equiv.refl (folded a)
+
+folded_digit : (byte : ℕ) → digit_value byte < 10 → to_ascii_lowercase byte ≡ byte
+folded_digit byte h = grind arith
+
+folded_digits : (digits : List ℕ) → AllDigits 10 digits → folded digits ≡ digits
+folded_digits [] h = refl
+folded_digits (digit ∷ digits) h = ap₂ (λ (a : ℕ) (b : List ℕ). a ∷ b) (folded_digit digit h.0) (folded_digits digits h.1)
+
+-- a reference with its letters folded
+abbrev pub spelled : FoldedParty → ℕ → List ℕ
+spelled party number = party.country_code ++ (party.party_id ++ (folded (codes "-") ++ decimal number))
+
+pub folded_reference : (party : Party) (number : ℕ) → number < 2 ^ 64 → folded (reference_text party number) ≡ spelled (folded_party party) number
+folded_reference party number small =
+    let digits : folded (decimal number) ≡ decimal number = folded_digits (decimal number) (decimal_is_IsNumeral number small).0.1 in
+    map-append to_ascii_lowercase party.country_code (party.party_id ++ (codes "-" ++ decimal number))
+    ∙ ap (λ l. folded party.country_code ++ l) (map-append to_ascii_lowercase party.party_id (codes "-" ++ decimal number))
+    ∙ ap (λ l. folded party.country_code ++ (folded party.party_id ++ l)) (map-append to_ascii_lowercase (codes "-") (decimal number))
+    ∙ ap (λ l. folded party.country_code ++ (folded party.party_id ++ (folded (codes "-") ++ l))) digits
+
+pub same_number : (party : FoldedParty) (m n : ℕ) → m < 2 ^ 64 → n < 2 ^ 64 → spelled party m ≡ spelled party n → m ≡ n
+same_number party m n small_m small_n e =
+    decimal_injective m n small_m small_n
+    (append_cancel_left (folded (codes "-")) (decimal m) (decimal n)
+    (append_cancel_left party.party_id (folded (codes "-") ++ decimal m) (folded (codes "-") ++ decimal n)
+    (append_cancel_left party.country_code (party.party_id ++ (folded (codes "-") ++ decimal m)) (party.party_id ++ (folded (codes "-") ++ decimal n)) e)))
+
+-- the same party's reference of a number is the same
+pub same_reference : (a b : Party) (number : ℕ) → number < 2 ^ 64 → same_party a b ≡ true → same_folded (reference_text a number) (reference_text b number) ≡ true
+same_reference a b number small e =
+    same_from_folded (reference_text a number) (reference_text b number)
+    (folded_reference a number small ∙ ap (λ (party : FoldedParty). spelled party number) (same_folded_party a b e) ∙ sym (folded_reference b number small))

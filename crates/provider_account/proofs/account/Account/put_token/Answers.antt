@@ -1,0 +1,7 @@
+use Rattle.std.proofs.Common.{arith}
+use Rattle.plain_house.specs.declared.entry.AccountEntry.TheVariants as account
+use Rattle.provider_account.proofs.LimitsLemmas.{limited_weightless}
+use Rattle.provider_account.proofs.account.Account.put_token.Goals as goal
+
+pub put-requires-clause-limited : goal.put-requires-clause-limited
+put-requires-clause-limited c = limited_weightless c.args.self.now.entries (account.Token c.args.token) (λ provider currency. omega arith)

@@ -1,0 +1,7 @@
+use Rattle.provider_account.proofs.ChargedLemmas.{places_added}
+use Rattle.provider_account.proofs.charged.ChargePlaces.put.Goals as goal
+
+pub returns : goal.returns
+returns c =
+    let updated = rw (c.unwrap.ensures, c.count-nth.ensures, c.of-cdr.ensures) at c.insert.ensures.updates in
+    places_added c.args.self.now _ c.args.entries.now c.args.charge.now c.requires.knows updated

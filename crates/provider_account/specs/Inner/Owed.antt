@@ -1,0 +1,21 @@
+-- The sums of what is owed, by their keys.
+use Rattle.std.specs.Prelude.{ℕ, Option, if◌then◌else◌}
+use Rattle.std.specs.Option.{unwrap_or}
+use Rattle.indexmap.specs.IndexMap.{IndexMap, get}
+use Rattle.provider_account.specs.declared.debt_keys.DebtKey.{DebtKey}
+use Rattle.provider_account.specs.declared.debt_keys.PeriodKey.{PeriodKey}
+use Rattle.ocpi_types.specs.declared.party.Party.{Party}
+use Rattle.provider_account.specs.Inner.DebtKeys.{same_key}
+
+-- what stands at a key, 0 where nothing does
+abbrev pub amount_of : {S : Type 0} → IndexMap DebtKey ℕ S → DebtKey → ℕ
+amount_of amounts key = unwrap_or (get same_key amounts key) 0
+
+-- what a change at a key is at another
+abbrev pub part_of : DebtKey → DebtKey → ℕ → ℕ
+part_of key other amount = if same_key key other then amount else 0
+
+-- the debts of a period with an operator, or with all
+abbrev pub in_period : PeriodKey → Option ℕ → Option Party → DebtKey
+in_period key period operator =
+    record { period = period; operator = operator; provider = key.provider; currency = key.currency }

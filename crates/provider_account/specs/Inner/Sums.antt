@@ -1,0 +1,13 @@
+-- Sums that are found by a key.
+use Rattle.std.specs.Prelude.{◌≡◌, ℕ, Bool, cond}
+use Rattle.std.specs.Map.{count_at}
+use Rattle.indexmap.specs.IndexMap.{get}
+use Rattle.provider_account.specs.declared.sums.Sums.{Sums}
+
+-- the sum of the key, 0 where none was set
+abbrev pub sum_at : {K : Type 0} → (K → K → Bool) → Sums K → K → ℕ
+sum_at eq sums key = count_at (get eq sums.cells) key
+
+-- the sum of this key is set, and the others stay
+abbrev pub IsSet : {K : Type 0} → (K → K → Bool) → Sums K → K → ℕ → Sums K → Type 0
+IsSet {K} eq old key sum new = (other : K) → sum_at eq new other ≡ cond (eq key other) sum (sum_at eq old other)

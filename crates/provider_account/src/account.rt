@@ -1,0 +1,208 @@
+//! The accounts of providers.
+
+ghost use Rattle.std.specs.Prelude.{◌≡◌, ◌+◌, ◌-◌, ◌^◌, ◌<◌, ◌≤◌, pos, [], ◌∷◌, ◌++◌, OnOk, OnErr, count_by, length, true, false};
+ghost use Rattle.ocpi_json.specs.Folded.{same_folded};
+ghost use Rattle.plain_house.specs.Exposure.{exposure_of, of_provider, released_hold};
+ghost use Rattle.plain_house.specs.House.{exposed, hold_for, is_hold_of, lacks_credit, reference_text};
+ghost use Rattle.plain_house.specs.Posting.{over_limit};
+ghost use Rattle.plain_house.specs.Room.{is_account_full};
+ghost use Rattle.plain_house.specs.Settlements.{is_settled, settled_debt};
+ghost use Rattle.plain_house.specs.Tokens.{validity};
+ghost use Rattle.plain_house.specs.declared.entry.AccountEntry.TheVariants as account;
+ghost use Rattle.provider_account.specs.Inner.Holds.{IsNext};
+ghost use Rattle.provider_account.specs.Inner.Parts.{AreLimited};
+
+use super::limits;
+use super::next_hold::next_hold;
+use super::parts::Parts;
+use cdr_checks::{Authorize, ExposureOf, Release, Settlement};
+use exact_money::Amount;
+use ocpi_json::ci_text::CiText;
+use ocpi_types::{Config, Party, Refusal, Token, TokenKind};
+use plain_house::{AccountEntry, Answer, Charge, Credit, Hold};
+use std::alloc::{AllocError, Global};
+use std::marker::Model;
+
+/// Entries in the order in which they were put, found and summed by keys that have the provider in them.
+#[derive(Drop)]
+pub struct Account {
+    entries: Vec<AccountEntry>,
+    parts: Parts,
+    has_room: bool,
+}
+
+impl Model for Account {
+    ghost use Rattle.std.specs.Prelude.{◌≡◌, ◌<◌, true, vec_capacity, vec_len};
+    ghost use Rattle.provider_account.specs.State.{PlainAccount};
+    ghost use Rattle.provider_account.specs.Inner.Parts.{AreLimited, HasRoom, Knows};
+
+    ghost Value = { PlainAccount };
+
+    ghost view = { λ account. record { entries = account.entries.items; has_room = account.has_room } };
+
+    ghost invariant = { λ account. Knows account.parts account.entries.items × AreLimited account.entries.items
+        × (account.has_room ≡ true → HasRoom account.parts × (vec_len account.entries < vec_capacity account.entries)) };
+}
+
+impl Account {
+    pub fn new(alloc: Global) -> Account
+        ensures { result ≡ record { entries = []; has_room = false } }
+    {
+        Account {
+            entries: Vec::new(alloc),
+            parts: Parts::new(alloc),
+            has_room: false,
+        }
+    }
+
+    /// What was put, in order.
+    pub fn entries(&self) -> &[AccountEntry]
+        ensures { result.now ≡ self.now.entries }
+    {
+        self.entries.as_slice()
+    }
+
+    /// Whether the token is valid, as it was put last; none where it was not put.
+    pub fn validity(&self, provider: &Party, uid: &CiText<36>, kind: TokenKind) -> Option<bool>
+        ensures { result ≡ validity provider.now uid.now kind self.now.entries }
+    {
+        self.parts.tokens.validity(provider, uid, kind)
+    }
+
+    /// The provider has as many entries as the configuration allows.
+    pub fn is_full(&self, config: &Config, provider: &Party) -> bool
+        ensures { result ≡ is_account_full config.now provider.now self.now.entries }
+    {
+        limits::is_full(&self.parts, self.entries.as_slice(), config, provider)
+    }
+
+    /// The hold would pass the provider's credit limit, or its limit with the operator.
+    pub fn lacks_credit(&self, config: &Config, ask: &Authorize) -> bool
+        ensures { result ≡ lacks_credit config.now ask.now self.now.entries }
+    {
+        limits::lacks_credit(&self.parts, self.entries.as_slice(), config, ask)
+    }
+
+    /// The hold that would be placed, under the provider's next reference.
+    pub fn hold_for(&self, config: &Config, ask: &Authorize) -> Hold
+        ensures value { result ≡ hold_for config.now ask.now self.now.entries }
+        ensures numbered { same_folded result.reference (reference_text ask.now.provider (count_by (is_hold_of ask.now.provider) self.now.entries + 1)) ≡ true }
+    {
+        next_hold(&self.parts, self.entries.as_slice(), config, ask)
+    }
+
+    /// The open hold that the release ends.
+    pub fn released_hold(&self, release: &Release) -> Option<Hold>
+        ensures { result ≡ released_hold self.now.entries release.now }
+    {
+        self.parts.holds.released(release)
+    }
+
+    /// With the charge added, an exposure would be above its limit.
+    pub fn over_limit(&self, config: &Config, charge: &Charge) -> Option<Refusal>
+        ensures { result ≡ over_limit config.now charge.now self.now.entries }
+    {
+        limits::over_limit(&self.parts, self.entries.as_slice(), config, charge)
+    }
+
+    /// The provider's period is settled in that currency.
+    pub fn is_settled(&self, settlement: &Settlement) -> bool
+        ensures { result ≡ is_settled settlement.now self.now.entries }
+    {
+        self.parts
+            .debts
+            .is_settled(self.entries.as_slice(), settlement)
+    }
+
+    /// The debt that the settlement ends.
+    pub fn settled_debt(&self, settlement: &Settlement) -> Amount
+        ensures { result ≡ pos (settled_debt settlement.now self.now.entries) }
+    {
+        limits::settled_debt(&self.parts, self.entries.as_slice(), settlement)
+    }
+
+    /// What a provider holds and owes, and its limit.
+    pub fn exposure(&self, config: &Config, ask: &ExposureOf) -> Answer
+        ensures { result ≡ exposed config.now ask.now self.now.entries }
+    {
+        limits::exposed(&self.parts, self.entries.as_slice(), config, ask)
+    }
+
+    /// Makes room for one more entry.
+    ///
+    /// # Errors
+    ///
+    /// `AllocError` where memory is refused; the account is as before.
+    pub fn reserve(&mut self) -> Result<(), AllocError>
+        ensures ok { OnOk result (self.new ≡ record { entries = self.old.entries; has_room = true }) }
+        ensures err { OnErr result (self.new ≡ self.old) }
+    {
+        self.parts.reserve()?;
+        self.entries.reserve(1)?;
+        self.has_room = true;
+        Ok(())
+    }
+
+    // Takes the entry in, without taking memory.
+    fn put(&mut self, entry: AccountEntry)
+        requires room { self.old.has_room ≡ true }
+        requires next { IsNext self.old.entries entry }
+        requires limited { AreLimited self.old.entries → AreLimited (self.old.entries ++ entry ∷ []) }
+        ensures { self.new ≡ record { entries = self.old.entries ++ entry ∷ []; has_room = false } }
+    {
+        self.parts.put(self.entries.as_slice(), &entry);
+        self.entries.push(entry).unwrap();
+        self.has_room = false;
+    }
+
+    /// Puts a token, without taking memory.
+    pub fn put_token(&mut self, token: Token)
+        requires { self.old.has_room ≡ true }
+        ensures { self.new ≡ record { entries = self.old.entries ++ account.Token token ∷ []; has_room = false } }
+    {
+        self.put(AccountEntry::Token(token));
+    }
+
+    /// Places a hold, without taking memory.
+    pub fn hold(&mut self, hold: Hold)
+        requires room { self.old.has_room ≡ true }
+        requires numbered { same_folded hold.reference (reference_text hold.provider (count_by (is_hold_of hold.provider) self.old.entries + 1)) ≡ true }
+        requires within { exposure_of (of_provider hold.provider hold.currency) self.old.entries + hold.amount ≤ 10 ^ 15 }
+        ensures { self.new ≡ record { entries = self.old.entries ++ account.Hold hold ∷ []; has_room = false } }
+    {
+        self.put(AccountEntry::Hold(hold));
+    }
+
+    /// Gives a hold back, without taking memory.
+    pub fn release(&mut self, release: Release)
+        requires { self.old.has_room ≡ true }
+        ensures { self.new ≡ record { entries = self.old.entries ++ account.Release release ∷ []; has_room = false } }
+    {
+        self.put(AccountEntry::Release(release));
+    }
+
+    /// Adds a charge, without taking memory.
+    pub fn bill(&mut self, charge: Charge)
+        requires room { self.old.has_room ≡ true }
+        requires within { exposure_of (of_provider charge.provider charge.currency) (self.old.entries ++ account.Charge charge ∷ []) ≤ 10 ^ 15 }
+        ensures { self.new ≡ record { entries = self.old.entries ++ account.Charge charge ∷ []; has_room = false } }
+    {
+        self.put(AccountEntry::Charge(charge));
+    }
+
+    /// Takes the charges of a CDR back, without taking memory.
+    pub fn credit(&mut self, credit: Credit)
+        requires { self.old.has_room ≡ true }
+        ensures { self.new ≡ record { entries = self.old.entries ++ account.Credit credit ∷ []; has_room = false } }
+    {
+        self.put(AccountEntry::Credit(credit));
+    }
+
+    /// Ends the debts of a provider's period, without taking memory.
+    pub fn settle(&mut self, settlement: Settlement)
+        requires { self.old.has_room ≡ true }
+        ensures { self.new ≡ record { entries = self.old.entries ++ account.Settlement settlement ∷ []; has_room = false } }
+    {
+        self.put(AccountEntry::Settlement(settlement));
+    }
+}

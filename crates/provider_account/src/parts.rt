@@ -1,0 +1,89 @@
+//! What is known of the entries of an account, by their keys.
+
+ghost use Rattle.std.specs.Prelude.{◌≡◌, ◌*◌, ◌^◌, ◌≤◌, List, [], ◌∷◌, ◌++◌, OnOk};
+ghost use Rattle.plain_house.specs.Exposure.{exposure_of};
+ghost use Rattle.plain_house.specs.declared.entry.AccountEntry.{AccountEntry};
+ghost use Rattle.plain_house.specs.declared.entry.AccountEntry.TheVariants as account;
+ghost use Rattle.provider_account.specs.Inner.Holds.{IsNext};
+ghost use Rattle.provider_account.specs.Inner.Parts.{AreLimited, HasRoom, Knows};
+
+use super::counts::Counts;
+use super::debts::Debts;
+use super::holds::Holds;
+use super::tokens::Tokens;
+use plain_house::{AccountEntry, Charge, Scope};
+use std::alloc::{AllocError, Global};
+
+/// Tokens, holds and debts by their keys, and how many entries there are.
+#[derive(Drop)]
+pub(crate) struct Parts {
+    pub tokens: Tokens,
+    pub counts: Counts,
+    pub holds: Holds,
+    pub debts: Debts,
+}
+
+impl Parts {
+    pub(crate) fn new(alloc: Global) -> Parts
+        ensures { Knows result [] }
+    {
+        Parts {
+            tokens: Tokens::new(alloc),
+            counts: Counts::new(alloc),
+            holds: Holds::new(alloc),
+            debts: Debts::new(alloc),
+        }
+    }
+
+    /// What is held and owed within the scope, in ten-thousandths.
+    pub(crate) fn exposure(&self, entries: &[AccountEntry], scope: &Scope) -> u64
+        requires knows { Knows self.now entries.now }
+        requires limited { AreLimited entries.now }
+        ensures value { result ≡ exposure_of scope.now entries.now }
+        ensures bound { result ≤ 10 ^ 15 }
+    {
+        self.holds.held(scope) + self.debts.owed(entries, scope)
+    }
+
+    /// The same, with the charge added.
+    pub(crate) fn exposure_with(
+        &self,
+        entries: &[AccountEntry],
+        scope: &Scope,
+        charge: &Charge,
+    ) -> u64
+        requires knows { Knows self.now entries.now }
+        requires limited { AreLimited entries.now }
+        ensures value { result ≡ exposure_of scope.now (entries.now ++ account.Charge charge.now ∷ []) }
+        ensures bound { result ≤ 2 * 10 ^ 15 }
+    {
+        let _cost = charge.cost.get();
+        self.holds.held_with(scope, charge) + self.debts.owed_with(entries, scope, charge)
+    }
+
+    /// Room for what one more entry needs.
+    pub(crate) fn reserve(&mut self) -> Result<(), AllocError>
+        ensures room { OnOk result (HasRoom self.new) }
+        ensures more { HasRoom self.old → HasRoom self.new }
+        ensures kept { (entries : List AccountEntry) → Knows self.old entries → Knows self.new entries }
+    {
+        self.tokens.reserve()?;
+        self.counts.reserve()?;
+        self.holds.reserve()?;
+        self.debts.reserve()
+    }
+
+    /// Takes the entry in, without taking memory.
+    pub(crate) fn put(&mut self, entries: &[AccountEntry], entry: &AccountEntry)
+        requires room { HasRoom self.old }
+        requires knows { Knows self.old entries.now }
+        requires limited { AreLimited entries.now }
+        requires next { IsNext entries.now entry.now }
+        ensures { Knows self.new (entries.now ++ entry.now ∷ []) }
+    {
+        self.tokens.put(entry);
+        self.counts.put(entry);
+        self.holds.put(entry);
+        self.debts.put(entries, entry);
+    }
+}
