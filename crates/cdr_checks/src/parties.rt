@@ -36,9 +36,8 @@ impl Command {
             Command::Post(checked) => Some(checked.cdr().cdr_token.provider),
             Command::Settle(settlement) => Some(settlement.provider),
             Command::Exposure(ask) => Some(ask.provider),
-            Command::PutTariff(_) | Command::Close(_) | Command::Find(_) | Command::Statement(_) => {
-                None
-            }
+            Command::PutTariff(_) | Command::Close(_) | Command::Find(_) | Command::Statement(_) =>
+                { None }
         }
     }
 }
