@@ -1,9 +1,15 @@
 pub mod BooksLemmas
+pub mod CollectLemmas
+pub mod CollectingLemmas
 pub mod DecidesLemmas
+pub mod DuesLemmas
 pub mod EntriesLemmas
 pub mod GivenLemmas
+pub mod HouseLemmas
+pub mod KeptLemmas
 pub mod NumberLemmas
 pub mod OrderLemmas
 pub mod PartyLemmas
+pub mod PerformLemmas
 pub mod ResolvedLemmas
 pub mod TakesLemmas

@@ -1,6 +1,7 @@
 //! The order of events over books and accounts, and a house that keeps them.
 #![tactic(auto)]
 
+mod book_house;
 mod decided;
 mod decision;
 mod laws;
@@ -9,6 +10,7 @@ mod order;
 mod order_entry;
 mod puts;
 
+pub use book_house::BookHouse;
 pub use decided::{Decided, Outcome};
 pub use decision::decide;
 pub use laws::orders_are_resolved;

@@ -1,0 +1,287 @@
+-- A house after a command that looks into one book, one account, or both.
+use Rattle.std.proofs.Common.{◌≡◌, ◌<◌, ℕ, List, [], ◌∷◌, ◌++◌, true, false, refl, sym, ap, ap₂, subst, ◌∙◌, length, slice_get, count_by, Option, None, Some, is_some, map, option_map, IfSome, Result, true≢false, Bor}
+use Rattle.std.specs.Option.{option_and_then, option_copied}
+use Rattle.std.proofs.lemmas.Option.{slice_get-map, slice_get_within}
+use Rattle.ocpi_types.specs.declared.config.Config.{Config}
+use Rattle.ocpi_types.specs.declared.party.Party.{Party}
+use Rattle.ocpi_types.specs.Config.{alike_operators, alike_providers}
+use Rattle.ocpi_types.specs.Different.{all_different}
+use Rattle.cdr_checks.specs.declared.request.Command.{Command}
+use Rattle.cdr_checks.specs.Admission.{IsAdmitted}
+use Rattle.cdr_checks.specs.Parties.{HasParties, operator_of_command, provider_of_command}
+use Rattle.plain_house.specs.declared.entry.AccountEntry.{AccountEntry}
+use Rattle.plain_house.specs.declared.entry.BookEntry.{BookEntry}
+use Rattle.plain_house.specs.declared.event.Event.{Event}
+use Rattle.plain_house.specs.Entries.{account_entries, account_entry, book_entries, book_entry, period_of}
+use Rattle.plain_house.specs.House.{verdict}
+use Rattle.plain_house.specs.Known.{known}
+use Rattle.plain_house.specs.Legal.{CommandsKeepListsLegal, IsLegal}
+use Rattle.plain_house.specs.Own.{VerdictsAreOfOwnEntries, of_account, of_operator, own_account, own_book}
+use Rattle.operator_book.specs.State.{PlainBook}
+use Rattle.provider_account.specs.State.{PlainAccount}
+use Rattle.period_order.specs.declared.decided.Outcome.{Outcome}
+use Rattle.period_order.specs.declared.decided.Outcome.TheVariants as outcome
+use Rattle.period_order.specs.Decided.{AreOfAccount, AreOfBook, Decides, account_length, book_length, event_of, order_with, verdict_with, with_entry}
+use Rattle.ocpi_types.specs.declared.refusal.Refusal.{Refusal}
+use Rattle.plain_house.specs.declared.answer.Answer.{Answer}
+use Rattle.plain_house.specs.Laws.{VerdictsAreTold}
+use Rattle.plain_house.specs.Replies.{Follows, Reply, is_no_memory, no_memory, stamped, with_event}
+use Rattle.plain_house.specs.Verdict.{Verdict}
+use Rattle.period_order.specs.declared.order_entry.OrderEntry.{OrderEntry}
+use Rattle.period_order.specs.Inner.Kept.{Keeps, entries_of_accounts, entries_of_books, with_added, with_event_added}
+use Rattle.period_order.specs.Order.{PlainOrder, current_of, is_close}
+use Rattle.period_order.specs.Places.{operator_number, order_entry, order_of, provider_number}
+use Rattle.period_order.specs.Resolved.{OrdersAreResolved, books_of, resolved}
+use Rattle.period_order.proofs.BooksLemmas.{account_at, book_at}
+use Rattle.period_order.proofs.GivenLemmas.{is_of_command}
+use Rattle.period_order.proofs.HouseLemmas.{account_number, accounts_added, book_number, books_added, entry_is}
+use Rattle.period_order.proofs.OrderLemmas.{current_is, order_push, point_is}
+
+module _ (config : Config) (books : List (List BookEntry)) (accounts : List (List AccountEntry)) (order : List OrderEntry) where
+  -- what is kept is resolved
+  pub kept_is : (events : List Event) → OrdersAreResolved → Keeps config books accounts order events → resolved books accounts order ≡ events
+  kept_is events laws keeps =
+      ap₂ (λ b o. resolved b accounts o) keeps.books_are keeps.order_is
+      ∙ ap (λ a. resolved (books_of config events) a (order_of config events)) keeps.accounts_are
+      ∙ laws config events keeps.legal
+
+  module _ (events : List Event) (keeps : Keeps config books accounts order events) (told : Command) (parties : HasParties config told) where
+    pub point_kept : length order ≡ length events
+    point_kept = ap length keeps.order_is ∙ point_is config events
+
+    pub period_kept : count_by is_close order ≡ period_of events
+    period_kept = ap (count_by is_close) keeps.order_is ∙ current_is config events
+
+    -- with the event of the command's verdict
+    pub keeps_event : (e : Event) (book account : ℕ)
+        → CommandsKeepListsLegal → IsAdmitted config told → (verdict config (known events) told).event ≡ Some e
+        → all_different alike_operators config.operators ≡ true → all_different alike_providers config.providers ≡ true
+        → ((operator : Party) → operator_of_command told ≡ Some operator → book ≡ length (own_book operator (book_entries events)))
+        → ((provider : Party) → provider_of_command told ≡ Some provider → account ≡ length (own_account provider events))
+        → Keeps config
+        (with_added books (book_number config events told parties) (book_entry e (count_by is_close order)))
+        (with_added accounts (account_number config events told parties) (account_entry e (count_by is_close order)))
+        (order ++ order_entry config book account e ∷ [])
+        (events ++ e ∷ [])
+    keeps_event e book account laws admitted added operators providers in_book in_account =
+        let own = is_of_command config (known events) e told added in
+        record {
+          legal = subst (IsLegal config) (ap (with_event events) added) (laws config events told keeps.legal admitted);
+          books_are =
+              ap₂ (λ b n. with_added b (book_number config events told parties) (book_entry e n)) keeps.books_are period_kept
+              ∙ books_added config events told parties operators e own;
+          accounts_are =
+              ap₂ (λ a n. with_added a (account_number config events told parties) (account_entry e n)) keeps.accounts_are period_kept
+              ∙ accounts_added config events told parties providers e own;
+          order_is =
+              ap₂ (λ o x. o ++ x ∷ []) keeps.order_is (entry_is config events told parties book account e own in_book in_account)
+              ∙ sym (order_push config events e);
+        }
+
+-- ---- the event of an outcome
+
+pub event_is : (config : Config) (entries : List BookEntry) (outcome : Outcome) → (verdict_with config entries outcome).event ≡ event_of outcome
+event_is config entries (outcome.Replied reply event) = refl
+event_is config entries (outcome.Closed period) = refl
+event_is config entries (outcome.Stated ask) = refl
+
+-- ---- what is given
+
+-- the book whose entries are known
+given_at : {X Y : Type 0} (f : X → List Y) (items : List X) (number : ℕ) (own : List Y) → slice_get (map f items) number ≡ Some own
+    → (x : X) × (slice_get items number ≡ Some x) × (own ≡ f x)
+given_at {X = X} f items number own h = by (slice_get items number) refl (sym (slice_get-map f items number) ∙ h)
+  where
+    by : (o : Option X) → slice_get items number ≡ o → option_map f o ≡ Some own → (x : X) × (slice_get items number ≡ Some x) × (own ≡ f x)
+    by None e g = absurd (cc)
+    by (Some x) e g = let same : f x ≡ own = cc (g) in (x, e, sym same)
+
+module _ (config : Config) (books : List PlainBook) (accounts : List PlainAccount) (order : PlainOrder) (events : List Event)
+    (keeps : Keeps config (entries_of_books books) (entries_of_accounts accounts) order.entries events) (told : Command) (parties : HasParties config told) where
+  pub book_given : (operator : Party) → operator_of_command told ≡ Some operator
+      → (book : PlainBook) × (slice_get books (operator_number config operator) ≡ Some book) × (own_book operator (book_entries events) ≡ book.entries)
+  book_given operator own =
+      given_at (λ book. book.entries) books (operator_number config operator) (own_book operator (book_entries events))
+      (ap (λ b. slice_get b (operator_number config operator)) keeps.books_are ∙ book_at config events operator (parties.operator operator own))
+
+  pub account_given : (provider : Party) → provider_of_command told ≡ Some provider
+      → (account : PlainAccount) × (slice_get accounts (provider_number config provider) ≡ Some account) × (own_account provider events ≡ account.entries)
+  account_given provider own =
+      given_at (λ account. account.entries) accounts (provider_number config provider) (own_account provider events)
+      (ap (λ a. slice_get a (provider_number config provider)) keeps.accounts_are ∙ account_at config events provider (parties.provider provider own))
+
+  -- the book at the command's number, if it has one
+  abbrev pub the_book : Option PlainBook
+  the_book = option_and_then (slice_get books) (option_map (operator_number config) (operator_of_command told))
+
+  abbrev pub the_account : Option PlainAccount
+  the_account = option_and_then (slice_get accounts) (option_map (provider_number config) (provider_of_command told))
+
+  pub are_of_book : AreOfBook the_book (of_operator (operator_of_command told) (book_entries events))
+  are_of_book = by (operator_of_command told) refl
+    where
+      by : (o : Option Party) → operator_of_command told ≡ o → AreOfBook (option_and_then (slice_get books) (option_map (operator_number config) o)) (of_operator o (book_entries events))
+      by None e = tt
+      by (Some operator) e =
+          let given = book_given operator e in
+          subst (λ (o : Option PlainBook). AreOfBook o (own_book operator (book_entries events))) (sym given.1) given.2
+
+  pub are_of_account : AreOfAccount the_account (of_account (provider_of_command told) (account_entries events))
+  are_of_account = by (provider_of_command told) refl
+    where
+      by : (o : Option Party) → provider_of_command told ≡ o → AreOfAccount (option_and_then (slice_get accounts) (option_map (provider_number config) o)) (of_account o (account_entries events))
+      by None e = tt
+      by (Some provider) e =
+          let given = account_given provider e in
+          subst (λ (o : Option PlainAccount). AreOfAccount o (own_account provider events)) (sym given.1) given.2
+
+  pub is_given_book : is_some the_book ≡ is_some (operator_of_command told)
+  is_given_book = by (operator_of_command told) refl
+    where
+      by : (o : Option Party) → operator_of_command told ≡ o → is_some (option_and_then (slice_get books) (option_map (operator_number config) o)) ≡ is_some o
+      by None e = refl
+      by (Some operator) e = ap is_some (book_given operator e).1
+
+  pub is_given_account : is_some the_account ≡ is_some (provider_of_command told)
+  is_given_account = by (provider_of_command told) refl
+    where
+      by : (o : Option Party) → provider_of_command told ≡ o → is_some (option_and_then (slice_get accounts) (option_map (provider_number config) o)) ≡ is_some o
+      by None e = refl
+      by (Some provider) e = ap is_some (account_given provider e).1
+
+  -- the verdict on the list is that of what is given
+  pub verdict_is : VerdictsAreOfOwnEntries → (outcome : Outcome) → Decides config the_book the_account order told outcome
+      → verdict config (known events) told ≡ verdict_with config (of_operator (operator_of_command told) (book_entries events)) outcome
+  verdict_is laws outcome decides =
+      sym (laws config events told keeps.legal)
+      ∙ ap₂ (λ (point period : ℕ). verdict config (record { book = of_operator (operator_of_command told) (book_entries events); account = of_account (provider_of_command told) (account_entries events); point = point; period = period }) told)
+      (sym (point_kept config (entries_of_books books) (entries_of_accounts accounts) order.entries events keeps told parties))
+      (sym (period_kept config (entries_of_books books) (entries_of_accounts accounts) order.entries events keeps told parties))
+      ∙ decides.verdict_is (of_operator (operator_of_command told) (book_entries events)) (of_account (provider_of_command told) (account_entries events)) are_of_book are_of_account
+
+  -- ---- what stands at the command's numbers
+
+  pub book_within : IfSome (option_map (operator_number config) (operator_of_command told)) (λ n. n < length books)
+  book_within = by (operator_of_command told) refl
+    where
+      by : (o : Option Party) → operator_of_command told ≡ o → IfSome (option_map (operator_number config) o) (λ n. n < length books)
+      by None e = tt
+      by (Some operator) e = let given = book_given operator e in slice_get_within books (operator_number config operator) given.0 given.1
+
+  pub account_within : IfSome (option_map (provider_number config) (provider_of_command told)) (λ n. n < length accounts)
+  account_within = by (provider_of_command told) refl
+    where
+      by : (o : Option Party) → provider_of_command told ≡ o → IfSome (option_map (provider_number config) o) (λ n. n < length accounts)
+      by None e = tt
+      by (Some provider) e = let given = account_given provider e in slice_get_within accounts (provider_number config provider) given.0 given.1
+
+  book_size_is : (operator : Party) → operator_of_command told ≡ Some operator → book_length the_book ≡ length (own_book operator (book_entries events))
+  book_size_is operator own =
+      let given = book_given operator own in
+      ap (λ (o : Option Party). book_length (option_and_then (slice_get books) (option_map (operator_number config) o))) own
+      ∙ ap book_length given.1 ∙ ap length (sym given.2)
+
+  account_size_is : (provider : Party) → provider_of_command told ≡ Some provider → account_length the_account ≡ length (own_account provider events)
+  account_size_is provider own =
+      let given = account_given provider own in
+      ap (λ (o : Option Party). account_length (option_and_then (slice_get accounts) (option_map (provider_number config) o))) own
+      ∙ ap account_length given.1 ∙ ap length (sym given.2)
+
+  -- ---- once it is put
+
+  module _ (outcome : Outcome) (decides : Decides config the_book the_account order told outcome) (laws : VerdictsAreOfOwnEntries) where
+    abbrev verdict_reached : verdict config (known events) told ≡ verdict_with config (of_operator (operator_of_command told) (book_entries events)) outcome
+    verdict_reached = verdict_is laws outcome decides
+
+    event_reached : (verdict config (known events) told).event ≡ event_of outcome
+    event_reached = ap (λ (v : Verdict). v.event) verdict_reached ∙ event_is config (of_operator (operator_of_command told) (book_entries events)) outcome
+
+    pub keeps_put : (now_books : List (List BookEntry)) (now_accounts : List (List AccountEntry)) (now : PlainOrder)
+        → CommandsKeepListsLegal → IsAdmitted config told
+        → all_different alike_operators config.operators ≡ true → all_different alike_providers config.providers ≡ true
+        → now_books ≡ with_event_added (entries_of_books books) (option_map (operator_number config) (operator_of_command told)) (λ e. book_entry e (current_of order)) (event_of outcome)
+        → now_accounts ≡ with_event_added (entries_of_accounts accounts) (option_map (provider_number config) (provider_of_command told)) (λ e. account_entry e (current_of order)) (event_of outcome)
+        → now ≡ order_with config the_book the_account order outcome
+        → Keeps config now_books now_accounts now.entries (with_event events (event_of outcome))
+    keeps_put now_books now_accounts now legal admitted operators providers b a o =
+        subst (λ x. Keeps config x now_accounts now.entries (with_event events (event_of outcome))) (sym b)
+        (subst (λ x. Keeps config (with_event_added (entries_of_books books) (option_map (operator_number config) (operator_of_command told)) (λ e. book_entry e (current_of order)) (event_of outcome)) x now.entries (with_event events (event_of outcome))) (sym a)
+        (subst (λ (x : PlainOrder). Keeps config (with_event_added (entries_of_books books) (option_map (operator_number config) (operator_of_command told)) (λ e. book_entry e (current_of order)) (event_of outcome))
+        (with_event_added (entries_of_accounts accounts) (option_map (provider_number config) (provider_of_command told)) (λ e. account_entry e (current_of order)) (event_of outcome)) x.entries (with_event events (event_of outcome))) (sym o)
+        (by (event_of outcome) refl)))
+      where
+        by : (x : Option Event) → event_of outcome ≡ x
+            → Keeps config (with_event_added (entries_of_books books) (option_map (operator_number config) (operator_of_command told)) (λ e. book_entry e (current_of order)) x)
+            (with_event_added (entries_of_accounts accounts) (option_map (provider_number config) (provider_of_command told)) (λ e. account_entry e (current_of order)) x)
+            (with_entry order (option_map (order_entry config (book_length the_book) (account_length the_account)) x)).entries (with_event events x)
+        by None e = keeps
+        by (Some added) e =
+            keeps_event config (entries_of_books books) (entries_of_accounts accounts) order.entries events keeps told parties added
+            (book_length the_book) (account_length the_account) legal admitted (event_reached ∙ e) operators providers book_size_is account_size_is
+
+    -- and the house follows the verdict
+    pub follows : (result : Reply) (point : ℕ) (reply : Result Answer Refusal) (now : List Event) → VerdictsAreTold → result ≡ stamped point reply → point ≡ length order.entries
+        → reply ≡ (verdict_with config (of_operator (operator_of_command told) (book_entries events)) outcome).reply
+        → now ≡ with_event events (event_of outcome) → Follows (verdict config (known events) told) events result now
+    follows result point reply now told_law is at is_reply is_now =
+        let stamp : result ≡ stamped (length events) (verdict config (known events) told).reply =
+        is ∙ ap₂ (λ (n : ℕ) (r : Result Answer Refusal). stamped n r)
+        (at ∙ point_kept config (entries_of_books books) (entries_of_accounts accounts) order.entries events keeps told parties)
+        (is_reply ∙ sym (ap (λ (v : Verdict). v.reply) verdict_reached)) in
+        let found : is_no_memory result ≡ false = ap is_no_memory stamp ∙ told_law config (known events) told (length events) in
+        record {
+          reply_is = λ h. stamp;
+          events_are = λ h. is_now ∙ ap (with_event events) (sym event_reached);
+          refused_is = λ h. absurd (true≢false (sym h ∙ found));
+          unchanged = λ h. absurd (true≢false (sym h ∙ found));
+        }
+
+-- want of memory leaves the house as it was
+pub refused : (verdict : Verdict) (events now : List Event) (result : Reply) → result ≡ no_memory → now ≡ events → Follows verdict events result now
+refused verdict events now result is same =
+    let found : is_no_memory result ≡ true = ap is_no_memory is in
+    record {
+      reply_is = λ h. absurd (true≢false (sym found ∙ h));
+      events_are = λ h. absurd (true≢false (sym found ∙ h));
+      refused_is = λ h. is;
+      unchanged = λ h. same;
+    }
+
+-- ---- what is seen as before
+
+-- room that was made changes nothing that is kept
+pub kept_still : (config : Config) (books : List (List BookEntry)) (accounts : List (List AccountEntry)) (order : List OrderEntry)
+    (now_books : List (List BookEntry)) (now_accounts : List (List AccountEntry)) (now_order : List OrderEntry) (events : List Event)
+    → Keeps config books accounts order events → now_books ≡ books → now_accounts ≡ accounts → now_order ≡ order
+    → Keeps config now_books now_accounts now_order events
+kept_still config books accounts order now_books now_accounts now_order events keeps b a o = record {
+  legal = keeps.legal;
+  books_are = b ∙ keeps.books_are;
+  accounts_are = a ∙ keeps.accounts_are;
+  order_is = o ∙ keeps.order_is;
+}
+
+pub some_copied : {T : Type 0} (found : Option (Bor T)) → is_some found ≡ is_some (option_copied found)
+some_copied None = refl
+some_copied (Some x) = refl
+
+-- ---- what is given, in other words
+
+module _ (config : Config) (books : List PlainBook) (accounts : List PlainAccount) (order : PlainOrder) (told : Command) where
+  abbrev book_of : Option PlainBook
+  book_of = option_and_then (slice_get books) (option_map (operator_number config) (operator_of_command told))
+
+  abbrev account_of : Option PlainAccount
+  account_of = option_and_then (slice_get accounts) (option_map (provider_number config) (provider_of_command told))
+
+  pub decides_given : (book : Option PlainBook) (account : Option PlainAccount) (outcome given : Outcome) → book ≡ book_of → account ≡ account_of → outcome ≡ given
+      → Decides config book account order told outcome → Decides config book_of account_of order told given
+  decides_given book account outcome given b a o h =
+      subst (λ x. Decides config book_of account_of order told x) o
+      (subst (λ x. Decides config book_of x order told outcome) a
+      (subst (λ x. Decides config x account order told outcome) b h))
+
+  pub ordered_given : (book : Option PlainBook) (account : Option PlainAccount) (outcome given : Outcome) (now : PlainOrder) → book ≡ book_of → account ≡ account_of → outcome ≡ given
+      → now ≡ order_with config book account order outcome → now ≡ order_with config book_of account_of order given
+  ordered_given book account outcome given now b a o h =
+      h ∙ ap₂ (λ x y. order_with config x y order outcome) b a ∙ ap (order_with config book_of account_of order) o

@@ -1,0 +1,88 @@
+use Rattle.std.proofs.Common.{None, Ok, refl, ap, sym, subst, ◌∙◌}
+use Rattle.cdr_checks.specs.declared.request.Command.TheVariants as command
+use Rattle.netting_positions.specs.Netting.{parties}
+use Rattle.plain_house.specs.declared.answer.Answer.TheVariants as answer
+use Rattle.plain_house.specs.Entries.{book_entries}
+use Rattle.plain_house.specs.Obligations.{obligations}
+use Rattle.period_order.specs.declared.decided.Outcome.TheVariants as outcome
+use Rattle.period_order.specs.Decided.{Decides, order_with}
+use Rattle.period_order.specs.Inner.Collected.{dues}
+use Rattle.period_order.specs.Inner.Kept.{Keeps, entries_of_accounts, entries_of_books, kept_events}
+use Rattle.period_order.proofs.CollectLemmas.{follows_all, keeps_all, still_ordered}
+use Rattle.period_order.proofs.PerformLemmas.{kept_is, kept_still}
+use Rattle.period_order.proofs.book_house.close.close.Goals as goal
+
+pub returns-in-Replied-clause-kept : goal.returns-in-Replied-clause-kept
+returns-in-Replied-clause-kept c =
+    let config = c.args.config.now in
+    let books = c.args.books.now in
+    let accounts = c.args.accounts.now in
+    let order = c.reserve.new.self in
+    let told = command.Close c.args.close in
+    let reached = outcome.Replied c.in-Replied.reply c.in-Replied.event in
+    let keeps = kept_still config _ _ _ _ _ order.entries _ c.requires.kept refl refl (still_ordered c.reserve.result c.args.order.now order c.reserve.ensures.ok c.reserve.ensures.err) in
+    let known = c.commands_have_parties.ensures config told c.requires.admitted in
+    let decides = subst (Decides config None None order told) c.in-Replied.is c.decide-point.ensures.outcome in
+    let kept = keeps_all config books accounts order _ keeps told known refl refl reached decides c.verdicts_are_of_own_entries.ensures c.decide-point.new.order
+    c.commands_keep_lists_legal.ensures c.requires.admitted c.parties_are_distinct.ensures.operators c.parties_are_distinct.ensures.providers
+    (c.decide-point.ensures.order ∙ ap (order_with config None None order) c.in-Replied.is) in
+    let is = kept_is config _ _ _ _ c.orders_are_resolved.ensures kept in
+    subst (Keeps config (entries_of_books books) (entries_of_accounts accounts) c.decide-point.new.order.entries) (sym is) kept
+
+pub returns-in-Replied-clause-does : goal.returns-in-Replied-clause-does
+returns-in-Replied-clause-does c =
+    let config = c.args.config.now in
+    let books = c.args.books.now in
+    let accounts = c.args.accounts.now in
+    let order = c.reserve.new.self in
+    let told = command.Close c.args.close in
+    let reached = outcome.Replied c.in-Replied.reply c.in-Replied.event in
+    let keeps = kept_still config _ _ _ _ _ order.entries _ c.requires.kept refl refl (still_ordered c.reserve.result c.args.order.now order c.reserve.ensures.ok c.reserve.ensures.err) in
+    let known = c.commands_have_parties.ensures config told c.requires.admitted in
+    let decides = subst (Decides config None None order told) c.in-Replied.is c.decide-point.ensures.outcome in
+    let kept = keeps_all config books accounts order _ keeps told known refl refl reached decides c.verdicts_are_of_own_entries.ensures c.decide-point.new.order
+    c.commands_keep_lists_legal.ensures c.requires.admitted c.parties_are_distinct.ensures.operators c.parties_are_distinct.ensures.providers
+    (c.decide-point.ensures.order ∙ ap (order_with config None None order) c.in-Replied.is) in
+    let is = kept_is config _ _ _ _ c.orders_are_resolved.ensures kept in
+    follows_all config books accounts order _ keeps told known refl refl reached decides c.verdicts_are_of_own_entries.ensures
+    c.stamped.result c.decide-point.result.point _ _ c.verdicts_are_told.ensures c.stamped.ensures c.decide-point.ensures.point
+    refl is
+
+pub returns-in-Closed-clause-kept : goal.returns-in-Closed-clause-kept
+returns-in-Closed-clause-kept c =
+    let config = c.args.config.now in
+    let books = c.args.books.now in
+    let accounts = c.args.accounts.now in
+    let order = c.reserve.new.self in
+    let told = command.Close c.args.close in
+    let reached = outcome.Closed c.in-Closed.period in
+    let keeps = kept_still config _ _ _ _ _ order.entries _ c.requires.kept refl refl (still_ordered c.reserve.result c.args.order.now order c.reserve.ensures.ok c.reserve.ensures.err) in
+    let known = c.commands_have_parties.ensures config told c.requires.admitted in
+    let decides = subst (Decides config None None order told) c.in-Closed.is c.decide-point.ensures.outcome in
+    let kept = keeps_all config books accounts order _ keeps told known refl refl reached decides c.verdicts_are_of_own_entries.ensures c.decide-point.new.order
+    c.commands_keep_lists_legal.ensures c.requires.admitted c.parties_are_distinct.ensures.operators c.parties_are_distinct.ensures.providers
+    (c.decide-point.ensures.order ∙ ap (order_with config None None order) c.in-Closed.is) in
+    let is = kept_is config _ _ _ _ c.orders_are_resolved.ensures kept in
+    subst (Keeps config (entries_of_books books) (entries_of_accounts accounts) c.decide-point.new.order.entries) (sym is) kept
+
+pub returns-in-Closed-clause-does : goal.returns-in-Closed-clause-does
+returns-in-Closed-clause-does c =
+    let config = c.args.config.now in
+    let books = c.args.books.now in
+    let accounts = c.args.accounts.now in
+    let order = c.reserve.new.self in
+    let told = command.Close c.args.close in
+    let reached = outcome.Closed c.in-Closed.period in
+    let keeps = kept_still config _ _ _ _ _ order.entries _ c.requires.kept refl refl (still_ordered c.reserve.result c.args.order.now order c.reserve.ensures.ok c.reserve.ensures.err) in
+    let known = c.commands_have_parties.ensures config told c.requires.admitted in
+    let decides = subst (Decides config None None order told) c.in-Closed.is c.decide-point.ensures.outcome in
+    let kept = keeps_all config books accounts order _ keeps told known refl refl reached decides c.verdicts_are_of_own_entries.ensures c.decide-point.new.order
+    c.commands_keep_lists_legal.ensures c.requires.admitted c.parties_are_distinct.ensures.operators c.parties_are_distinct.ensures.providers
+    (c.decide-point.ensures.order ∙ ap (order_with config None None order) c.in-Closed.is) in
+    let is = kept_is config _ _ _ _ c.orders_are_resolved.ensures kept in
+    follows_all config books accounts order _ keeps told known refl refl reached decides c.verdicts_are_of_own_entries.ensures
+    c.stamped-in-Closed.result c.decide-point.result.point _ _ c.verdicts_are_told.ensures c.stamped-in-Closed.ensures c.decide-point.ensures.point
+    (ap (λ positions. Ok (answer.Closed c.in-Closed.period positions))
+    (c.netted-positions.ensures
+    ∙ c.sums_decide_net_positions.ensures (parties config) config.currencies (dues config.operators c.in-Closed.period (entries_of_books books)) (obligations c.in-Closed.period (book_entries (kept_events books accounts c.args.order.now)))
+    (c.books_are_collectable.ensures.alike c.in-Closed.period))) is

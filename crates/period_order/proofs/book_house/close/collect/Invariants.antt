@@ -1,0 +1,15 @@
+use Rattle.std.proofs.Common.{◌≡◌, length}
+use Rattle.netting_positions.specs.Netting.{parties}
+use Rattle.period_order.specs.Inner.Collected.{IsCollecting, dues}
+use Rattle.period_order.specs.Inner.Kept.{entries_of_books}
+use Rattle.period_order.proofs.book_house.close.collect.Given as goal
+
+abbrev pub invariant-loop-operator : goal.invariant-loop-operator
+invariant-loop-operator l = record {
+  parties : l.positions.parties ≡ parties l.config;
+  currencies : l.positions.currencies ≡ l.config.currencies;
+  collecting : IsCollecting l.config l.positions.obligations (dues l.operators l.period (entries_of_books l.rest)) (dues l.config.operators l.period (entries_of_books l.books));
+}
+
+abbrev pub decreases-loop-operator : goal.decreases-loop-operator
+decreases-loop-operator l = length l.operators
