@@ -1,6 +1,6 @@
 //! The command `script`.
 
-ghost use Rattle.std.specs.Prelude.{◌≡◌, ◌≢◌, ◌≤◌, IfOk, IfErr, MatchResult, Ok, Err};
+ghost use Rattle.std.specs.Prelude.{◌≡◌, ◌≢◌, ◌≤◌, [], IfOk, IfErr, MatchResult, Ok, Err};
 ghost use Rattle.clear_cli.specs.declared.fault.Fault.{Fault as FaultValue};
 ghost use Rattle.clear_cli.specs.declared.fault.Fault.TheVariants.{NoMemory};
 ghost use Rattle.clear_cli.specs.Fault.{IsTold, exit_status, fault_line};
@@ -9,7 +9,8 @@ ghost use Rattle.clear_cli.specs.Inner.UnderConfig.{FailsUnder};
 
 use crate::fault::{Fault, tell};
 use ocpi_types::{Config, TryCopy};
-use plain_house::PlainHouse;
+use period_order::BookHouse;
+use plain_house::Sequential;
 use request_lines::{Sink, Source, run_script};
 use std::alloc::Global;
 
@@ -19,6 +20,33 @@ fn read_config(alloc: Global, file: &[u8]) -> Result<Config, Fault<'static>>
     ensures status { IfErr result (λ fault. exit_status fault ≡ 1) }
 {
     Ok(Config::read(alloc, file)?)
+}
+
+// Answers the lines of the reader by an empty house.
+fn answer_by<R: Source, W: Sink, S: Sequential>(
+    alloc: Global,
+    config: &Config,
+    house: &mut S,
+    reader: &mut R,
+    writer: &mut W,
+) -> Result<(), Fault<'static>>
+    requires config { S.config house.old ≡ config.now }
+    requires empty { S.events house.old ≡ [] }
+    ensures ended { let streams : Streams R W = record {
+      gives = R.gives;
+      at_end = R.at_end;
+      reader_failed = R.failed;
+      takes = W.takes;
+      writer_failed = W.failed;
+      reader = reader.old;
+      reader' = reader.new;
+      writer = writer.old;
+      writer' = writer.new;
+    } in MatchResult result (λ _. IsAnswered streams config.now) (λ fault. FailsUnder streams config.now fault) }
+    ensures status { IfErr result (λ fault. exit_status fault ≡ 1) }
+{
+    run_script(alloc, reader, writer, config, house)?;
+    Ok(())
 }
 
 // Answers the lines of the reader by a house of this configuration.
@@ -41,9 +69,8 @@ fn answer_under<R: Source, W: Sink>(
     } in MatchResult result (λ _. IsAnswered streams config.now) (λ fault. FailsUnder streams config.now fault) }
     ensures status { IfErr result (λ fault. exit_status fault ≡ 1) }
 {
-    let mut house = PlainHouse::new(alloc, config.copy(alloc)?);
-    run_script(alloc, reader, writer, config, &mut house)?;
-    Ok(())
+    let mut house = BookHouse::new(alloc, config.copy(alloc)?)?;
+    answer_by(alloc, config, &mut house, reader, writer)
 }
 
 fn answer_lines<R: Source, W: Sink>(

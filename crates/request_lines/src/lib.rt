@@ -21,7 +21,7 @@ pub use device::Device;
 pub use faults::{Count, Failed, ScriptFault};
 pub use laws::scripts_keep_lists_legal;
 pub use lines::{MOST_LINE_BYTES, NEWLINE, lines_join_to_bytes};
-pub use one_line::respond;
+pub use one_line::{is_out_of_memory, reply_to, respond};
 pub use requests::{CommandName, request_of};
 pub use script::run_script;
 pub use streams::{MOST_READ_BYTES, Sink, Source, write_all};

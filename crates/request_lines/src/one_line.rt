@@ -39,8 +39,9 @@ fn command_of(
     admitted(config, request_of(alloc, room, line)?)
 }
 
+/// The reply to one line: of the house to its command, or why it has none.
 #[tactic(auto, unfolding(crate::specs::Script::reply_in, crate::specs::Script::after))]
-fn reply_to<S: Sequential>(
+pub fn reply_to<S: Sequential>(
     alloc: Global,
     room: &mut Room,
     config: &Config,
@@ -59,7 +60,8 @@ fn reply_to<S: Sequential>(
     }
 }
 
-fn is_out_of_memory(reply: &Result<Replied, Refused>) -> bool
+/// Whether a reply says that memory ran out.
+pub fn is_out_of_memory(reply: &Result<Replied, Refused>) -> bool
     ensures { result ≡ is_no_memory reply.now }
 {
     match reply {
