@@ -18,11 +18,11 @@ use Rattle.ocpi_types.specs.Party.{same_party}
 use Rattle.netting_positions.specs.Netting.{amounts, is_configured, size, total, total_size}
 use Rattle.netting_positions.specs.SameSums.{OweAlike, is_between}
 use Rattle.netting_positions.specs.declared.obligation.Obligation.{Obligation}
-use Rattle.netting_positions.proofs.Sums.{sum_of}
+use Rattle.operator_book.proofs.AmountLemmas.{sum_of, sum_of-append}
 use Rattle.operator_book.specs.Due.{is_of_provider}
 use Rattle.operator_book.specs.Inner.Together.{owed_by, owed_by_all, together}
 use Rattle.operator_book.proofs.KeyLemmas.{both_are, folded_alike, is_folded, party_laws}
-use Rattle.operator_book.proofs.OnceLemmas.{any_once, kept_least, or_and, sizes_once, sum_of-append, sum_once}
+use Rattle.operator_book.proofs.OnceLemmas.{any_once, kept_least, or_and, sizes_once, sum_once}
 use Rattle.operator_book.proofs.SumsLemmas.{between_alike, none_owed}
 use Rattle.operator_book.proofs.TogetherLemmas.{row_with}
 

@@ -1,14 +1,13 @@
 -- Tests of the same key.
 use Rattle.std.proofs.Common.{◌≡◌, ◌∙◌, ◌&&◌, ◌||◌, ◌==◌, ℕ, ◌+◌, refl, ap₂, ap, rules, Bool, true, false, cond, List, [], ◌∷◌, Option, Some, unwrap_or, arith}
 use Rattle.std.specs.Cmp.{IsEquivalence}
-use Rattle.std.specs.Cmp.Lexicographic.{pointwise}
+use Rattle.std.specs.Cmp.Lexicographic.{bytes_decides, pointwise}
 use Rattle.std.specs.Cmp.Rules.{comparing}
 use Rattle.std.specs.Map.{lookup}
-use Rattle.ocpi_json.specs.Folded.{folded}
+use Rattle.ocpi_json.specs.Folded.{folded, same_folded}
 use Rattle.ocpi_types.specs.Party.{same_party}
 use Rattle.ocpi_types.specs.SameTariff.{folded_party}
 use Rattle.ocpi_types.specs.declared.party.Party.{Party}
-use Rattle.ocpi_types.proofs.SameTariffs.{parties}
 
 pub both_are : (a b : Bool) → (a && b) ≡ true → (a ≡ true) × (b ≡ true)
 both_are true true h = (refl, refl)
@@ -30,7 +29,11 @@ pub party_laws : IsEquivalence same_party
 party_laws = search (comparing, rules)
 
 pub folded_alike : (a b : Party) → same_party a b ≡ true → folded_party a ≡ folded_party b
-folded_alike a b h = (parties a b).0 h
+folded_alike a b h =
+    let parts = both_are (same_folded a.country_code b.country_code) (same_folded a.party_id b.party_id) h in
+    let country_code = (bytes_decides (folded a.country_code) (folded b.country_code)).0 parts.0 in
+    let party_id = (bytes_decides (folded a.party_id) (folded b.party_id)).0 parts.1 in
+    λ i. record { country_code = country_code i; party_id = party_id i }
 
 -- a test against a party is one against its folded texts
 abbrev pub is_folded : Party → Party → Bool

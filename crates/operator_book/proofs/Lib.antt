@@ -1,4 +1,5 @@
 pub mod AlikeLemmas
+pub mod AmountLemmas
 pub mod FoundLemmas
 pub mod IdsLemmas
 pub mod KeyLemmas

@@ -1,25 +1,19 @@
 -- Lists of obligations of items of which at most one passes a test.
-use Rattle.std.proofs.Common.{◌≡◌, ◌∙◌, ◌≤◌, ◌+◌, ◌&&◌, ◌||◌, ℤ, List, [], ◌∷◌, ◌++◌, Bool, true, false, not, cond, refl, sym, ap, ap₂, filter, flat_map, pos, arith}
+use Rattle.std.proofs.Common.{◌≡◌, ◌∙◌, ◌≤◌, ◌+◌, ◌&&◌, ◌||◌, ℤ, List, [], ◌∷◌, Bool, true, false, not, cond, refl, sym, ap, ap₂, filter, flat_map, pos, arith}
 use Rattle.std.specs.Prelude.{◌+ℤ◌}
 use Rattle.std.specs.List.{list_any}
-use Rattle.std.proofs.Math.IntN.{+ℤ_idl, +ℤ_idr, +ℤ_assoc}
+use Rattle.std.proofs.Math.IntN.{+ℤ_idl, +ℤ_idr}
 use Rattle.std.proofs.lemmas.List.Folds.{list_any-append}
 use Rattle.std.proofs.lemmas.List.Sums.{sum_by-append, sum_by-cons}
 use Rattle.ocpi_types.specs.Different.{all_different}
 use Rattle.netting_positions.specs.Netting.{size, total_size}
 use Rattle.netting_positions.specs.declared.obligation.Obligation.{Obligation}
-use Rattle.netting_positions.proofs.Sums.{sum_of, sum_of-cons}
+use Rattle.operator_book.proofs.AmountLemmas.{sum_of, sum_of-append}
 use Rattle.operator_book.proofs.KeyLemmas.{both_are}
 
 either_false : (a b : Bool) → (a || b) ≡ false → (a ≡ false) × (b ≡ false)
 either_false true b h = absurd (cc)
 either_false false b h = (refl, h)
-
-pub sum_of-append : (t : Obligation → Bool) (xs ys : List Obligation) → sum_of t (xs ++ ys) ≡ sum_of t xs +ℤ sum_of t ys
-sum_of-append t [] ys = sym (+ℤ_idl (sum_of t ys))
-sum_of-append t (x ∷ xs) ys =
-    sum_of-cons t x (xs ++ ys) ∙ ap (λ z. cond (t x) x.amount (pos 0) +ℤ z) (sum_of-append t xs ys)
-    ∙ sym (+ℤ_assoc (cond (t x) x.amount (pos 0)) (sum_of t xs) (sum_of t ys)) ∙ ap (λ z. z +ℤ sum_of t ys) (sym (sum_of-cons t x xs))
 
 -- ---- items of which at most one passes
 

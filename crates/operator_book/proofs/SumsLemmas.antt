@@ -17,12 +17,12 @@ use Rattle.ocpi_types.specs.declared.party.Party.{Party}
 use Rattle.netting_positions.specs.Netting.{size, total_size}
 use Rattle.netting_positions.specs.SameSums.{is_between}
 use Rattle.netting_positions.specs.declared.obligation.Obligation.{Obligation}
-use Rattle.netting_positions.proofs.Sums.{sum_of, sum_of-cons, sum_of-push, sum_of_small}
 use Rattle.plain_house.specs.Booked.{Booked, booked, booked_in}
 use Rattle.plain_house.specs.Obligations.{is_of_period, obligation_of, obligations}
 use Rattle.plain_house.specs.declared.entry.BookEntry.{BookEntry}
 use Rattle.operator_book.specs.Inner.Sums.{same_sum_key, sum_among}
 use Rattle.operator_book.specs.declared.keys.SumKey.{SumKey}
+use Rattle.operator_book.proofs.AmountLemmas.{sum_of, sum_of-cons, sum_of-push, sum_of_small}
 use Rattle.operator_book.proofs.KeyLemmas.{both_are, folded_alike, is_folded, or_false}
 
 -- ---- the same parties and currency

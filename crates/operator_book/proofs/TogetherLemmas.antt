@@ -8,11 +8,11 @@ use Rattle.ocpi_types.specs.declared.party.Party.{Party}
 use Rattle.netting_positions.specs.Netting.{amounts, total, total_size}
 use Rattle.netting_positions.specs.SameSums.{is_between}
 use Rattle.netting_positions.specs.declared.obligation.Obligation.{Obligation}
-use Rattle.netting_positions.proofs.Sums.{sum_of, sum_of_small}
 use Rattle.plain_house.specs.Obligations.{obligations}
 use Rattle.plain_house.specs.declared.entry.BookEntry.{BookEntry}
 use Rattle.operator_book.specs.Due.{due}
 use Rattle.operator_book.specs.Inner.Together.{together}
+use Rattle.operator_book.proofs.AmountLemmas.{sum_of, sum_of_small}
 use Rattle.operator_book.proofs.SumsLemmas.{sum_or_zero, sum_with}
 
 abbrev pub row_with : Party → Party → List ℕ → ℤ → Obligation

@@ -1,8 +1,8 @@
 -- Tariff versions by their operators, ids and moments.
-use Rattle.std.proofs.Common.{◌≡◌, ◌<◌, ◌∙◌, ℕ, List, [], ◌∷◌, ◌++◌, Bool, true, false, ◌&&◌, ◌||◌, ◌==◌, cond, Option, Some, None, refl, sym, ap, ap₂, find, length, get_or, if◌then◌else◌}
+use Rattle.std.proofs.Common.{◌≡◌, ◌<◌, ◌∙◌, ℕ, List, [], ◌∷◌, ◌++◌, Bool, true, false, ◌&&◌, ◌||◌, ◌==◌, cond, Option, Some, None, refl, sym, ap, find, length, get_or, if◌then◌else◌}
 use Rattle.std.specs.Cmp.Lexicographic.{pointwise, bytes_decides}
 use Rattle.std.specs.List.{list_any, position_from}
-use Rattle.std.specs.Option.{option_eq, option_or, option_to_list}
+use Rattle.std.specs.Option.{option_or, option_to_list}
 use Rattle.std.specs.Ordering.{int_eq}
 use Rattle.std.proofs.Math.Bool.{and_assoc}
 use Rattle.std.proofs.lemmas.Bool.Decides.{Decides-int_eq}
@@ -10,10 +10,8 @@ use Rattle.std.proofs.lemmas.List.Concat.{flat_map-append}
 use Rattle.std.proofs.lemmas.List.Folds.{find-append, list_any-append}
 use Rattle.std.proofs.lemmas.Option.{get_or_from_slice_get, slice_get_within}
 use Rattle.ocpi_json.specs.Folded.{folded, same_folded}
-use Rattle.ocpi_types.specs.Currency.{same_currency}
 use Rattle.ocpi_types.specs.Party.{same_party}
-use Rattle.ocpi_types.specs.SameTariff.{folded_party}
-use Rattle.ocpi_types.specs.Inner.SameTariff.{same_element, same_instant, same_tariff}
+use Rattle.ocpi_types.specs.SameTariff.{SameTariffsAreEqualFolded, folded_party, folded_tariff, same_tariff}
 use Rattle.ocpi_types.specs.declared.party.Party.{Party}
 use Rattle.ocpi_types.specs.declared.tariff.Tariff.{Tariff}
 use Rattle.plain_house.specs.Tariffs.{is_registered, same_version, stored_version, tariff_versions, version_in}
@@ -99,30 +97,23 @@ same_for version tariff h entries =
     let moment = (Decides-int_eq version.last_updated.nanosecond tariff.last_updated.nanosecond).0 parts.1 in
     λ i. find (λ (x : Tariff). is_folded x.operator (operator i) && pointwise ◌==◌ (folded x.id) (id i) && int_eq x.last_updated.nanosecond (moment i)) (tariff_versions entries)
 
--- the first two of seven tests, and the last
-first_two_and_last : (a b c d e f g : Bool) → (a && b && c && d && e && f && g) ≡ true → (a && b && g) ≡ true
-first_two_and_last a b c d e f g h =
-    let all = both_are (a && b && c && d && e && f) g h in
-    let five = both_are (a && b && c && d && e) f all.0 in
-    let four = both_are (a && b && c && d) e five.0 in
-    let three = both_are (a && b && c) d four.0 in
-    let two = both_are (a && b) c three.0 in
-    ap₂ ◌&&◌ two.0 all.1
+-- tariffs of the same content are of the same operator, id and moment
+same_content : SameTariffsAreEqualFolded → (version tariff : Tariff) → same_tariff version tariff ≡ true → same_version version tariff ≡ true
+same_content equal version tariff h =
+    let same : folded_tariff version ≡ folded_tariff tariff = (equal version tariff).0 h in
+    let country_code = (bytes_decides (folded version.operator.country_code) (folded tariff.operator.country_code)).1 (λ i. (same i).operator.country_code) in
+    let party_id = (bytes_decides (folded version.operator.party_id) (folded tariff.operator.party_id)).1 (λ i. (same i).operator.party_id) in
+    let id = (bytes_decides (folded version.id) (folded tariff.id)).1 (λ i. (same i).id) in
+    let moment = (Decides-int_eq version.last_updated.nanosecond tariff.last_updated.nanosecond).1 (λ i. (same i).last_updated.nanosecond) in
+    λ i. ((country_code i && party_id i) && id i) && moment i
 
-same_content : (version tariff : Tariff) → same_tariff version tariff ≡ true → same_version version tariff ≡ true
-unfolding same_tariff
-same_content version tariff h =
-    first_two_and_last (same_party version.operator tariff.operator) (same_folded version.id tariff.id) (same_currency version.currency tariff.currency)
-    (option_eq ◌==◌ version.min_price tariff.min_price) (option_eq ◌==◌ version.max_price tariff.max_price)
-    (pointwise same_element version.elements tariff.elements) (same_instant version.last_updated tariff.last_updated) h
-
-registered_added : (operator : Party) (tariff version : Tariff) (entries : List BookEntry) → stored_version version entries ≡ None → StoresEachOnce entries
+registered_added : SameTariffsAreEqualFolded → (operator : Party) (tariff version : Tariff) (entries : List BookEntry) → stored_version version entries ≡ None → StoresEachOnce entries
     → (is_registered operator entries tariff || (same_party version.operator operator && same_tariff version tariff))
     ≡ registers operator tariff (option_or (stored_version tariff entries) (cond (same_version version tariff) (Some version) None))
-registered_added operator tariff version entries fresh once = by (same_version version tariff) refl
+registered_added equal operator tariff version entries fresh once = by (same_version version tariff) refl
   where
     unlike : (b : Bool) → same_tariff version tariff ≡ b → same_version version tariff ≡ false → same_tariff version tariff ≡ false
-    unlike true h other = absurd (let e : true ≡ false = sym (same_content version tariff h) ∙ other in cc)
+    unlike true h other = absurd (let e : true ≡ false = sym (same_content equal version tariff h) ∙ other in cc)
     unlike false h other = h
 
     and_false : (a : Bool) → (a && false) ≡ false
@@ -155,13 +146,13 @@ append_none operator tariff entries entry none once =
     ∙ ap (registers operator tariff) (sym (ap (find is) all ∙ find-append is (tariff_versions entries) [] ∙ or_none (stored_version tariff entries)))
 
 -- a version that is new is stored once
-pub stored_once : (entries : List BookEntry) (entry : BookEntry) → IsNewVersion entries entry → StoresEachOnce entries → StoresEachOnce (entries ++ entry ∷ [])
-stored_once entries (book.Tariff version) fresh once operator tariff =
+pub stored_once : SameTariffsAreEqualFolded → (entries : List BookEntry) (entry : BookEntry) → IsNewVersion entries entry → StoresEachOnce entries → StoresEachOnce (entries ++ entry ∷ [])
+stored_once equal entries (book.Tariff version) fresh once operator tariff =
     let passes = λ (version : Tariff). same_party version.operator operator && same_tariff version tariff in
     let is = λ (version : Tariff). same_version version tariff in
     let all : tariff_versions (entries ++ book.Tariff version ∷ []) ≡ tariff_versions entries ++ version ∷ [] = versions_more entries (book.Tariff version) in
     ap (list_any passes) all ∙ list_any-append passes (tariff_versions entries) (version ∷ [])
-    ∙ ap (λ b. is_registered operator entries tariff || b) (or_false (passes version)) ∙ registered_added operator tariff version entries fresh once
+    ∙ ap (λ b. is_registered operator entries tariff || b) (or_false (passes version)) ∙ registered_added equal operator tariff version entries fresh once
     ∙ ap (registers operator tariff) (sym (ap (find is) all ∙ find-append is (tariff_versions entries) (version ∷ [])))
-stored_once entries (book.Cdr cdr cost period) fresh once operator tariff = append_none operator tariff entries (book.Cdr cdr cost period) refl once
-stored_once entries (book.Credit cdr amount period) fresh once operator tariff = append_none operator tariff entries (book.Credit cdr amount period) refl once
+stored_once equal entries (book.Cdr cdr cost period) fresh once operator tariff = append_none operator tariff entries (book.Cdr cdr cost period) refl once
+stored_once equal entries (book.Credit cdr amount period) fresh once operator tariff = append_none operator tariff entries (book.Credit cdr amount period) refl once

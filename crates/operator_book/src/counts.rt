@@ -1,6 +1,6 @@
 //! How many CDRs and tariff versions each operator has in a list of entries.
 
-ghost use Rattle.std.specs.Prelude.{◌≡◌, ◌+◌, ◌<◌, ◌^◌, [], ◌∷◌, ◌++◌, List, OnOk, count_by, if◌then◌else◌};
+ghost use Rattle.std.specs.Prelude.{◌≡◌, ◌+◌, ◌<◌, ◌^◌, [], ◌∷◌, ◌++◌, List, OnOk, if◌then◌else◌};
 ghost use Rattle.indexmap.specs.IndexMap.{spare};
 ghost use Rattle.ocpi_types.specs.Party.{same_party};
 ghost use Rattle.ocpi_types.specs.declared.party.Party.{Party as Operator};

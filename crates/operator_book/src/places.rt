@@ -1,6 +1,6 @@
 //! The places at which keys stand first in a list.
 
-ghost use Rattle.std.specs.Prelude.{◌≡◌, ◌<◌, None, IfOk, OnOk, OnErr};
+ghost use Rattle.std.specs.Prelude.{◌≡◌, ◌<◌, None, OnOk};
 ghost use Rattle.indexmap.specs.IndexMap.{get, spare};
 ghost use Rattle.operator_book.specs.Inner.FirstPlaces.{AddsPlace};
 

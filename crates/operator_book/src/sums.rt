@@ -1,6 +1,6 @@
 //! What is owed, summed by operator, provider, currency and period.
 
-ghost use Rattle.std.specs.Prelude.{◌≡◌, ◌<◌, ◌≤◌, ◌^◌, ◌+ℤ◌, pos, unsigned_abs, unwrap_or, [], ◌∷◌, ◌++◌, List, Some, OnOk, if◌then◌else◌};
+ghost use Rattle.std.specs.Prelude.{◌≡◌, ◌<◌, ◌^◌, ◌+ℤ◌, pos, unsigned_abs, unwrap_or, [], ◌∷◌, ◌++◌, List, Some, OnOk, if◌then◌else◌};
 ghost use Rattle.indexmap.specs.IndexMap.{get, spare};
 ghost use Rattle.operator_book.specs.Inner.Sums.{SumsUp, same_sum_key};
 ghost use Rattle.operator_book.specs.declared.keys.SumKey.{SumKey as Key};

@@ -9,6 +9,7 @@ ghost use Rattle.plain_house.specs.declared.entry.BookEntry.{BookEntry as Entry}
 
 use crate::keys::VersionKey;
 use crate::places::Places;
+use ocpi_types::laws::same_tariffs_are_equal_folded;
 use ocpi_types::{Cdr, Party, Tariff, same_tariff};
 use plain_house::BookEntry;
 use std::alloc::{AllocError, Global};
@@ -99,6 +100,7 @@ impl Versions {
         ensures kept { FindsVersions self.new (entries.now ++ entry.now ∷ []) }
         ensures once { StoresEachOnce (entries.now ++ entry.now ∷ []) }
     {
+        same_tariffs_are_equal_folded();
         if let Some(tariff) = version_in(entry) {
             self.places.put(key_of(tariff), entries.len());
         }

@@ -19,7 +19,7 @@ use Rattle.plain_house.specs.declared.entry.BookEntry.TheVariants as book
 use Rattle.plain_house.specs.declared.event.Event.{Event}
 use Rattle.plain_house.specs.Booked.{Booked, booked}
 use Rattle.plain_house.specs.Entries.{book_entries}
-use Rattle.plain_house.specs.Legal.{CanBeNetted}
+use Rattle.plain_house.specs.LegalLists.{CanBeNetted}
 use Rattle.plain_house.specs.Obligations.{is_of_period, obligation_of, obligations}
 use Rattle.plain_house.specs.Own.{own_book}
 use Rattle.period_order.specs.Inner.Collected.{AreCollectable, CanBeCollected, dues}

@@ -11,8 +11,8 @@ use Rattle.plain_house.specs.declared.event.Event.{Event}
 use Rattle.plain_house.specs.declared.event.Event.TheVariants as event
 use Rattle.plain_house.specs.Booked.{booked}
 use Rattle.plain_house.specs.Entries.{book_entries, book_entries_from, book_entry, is_close, period_after, period_of}
-use Rattle.plain_house.specs.Legal.{ClosedPeriodsStay, LegalPositionsBalance}
-use Rattle.plain_house.specs.Obligations.{obligation_of, obligations}
+use Rattle.plain_house.specs.LegalLists.{LegalPositionsBalance}
+use Rattle.plain_house.specs.Obligations.{ClosedPeriodsStay, obligation_of, obligations}
 use Rattle.plain_house.proofs.DatedLemmas.{entries_split}
 use Rattle.plain_house.proofs.NettingLemmas.{all_configured}
 use Rattle.plain_house.proofs.ObligationLemmas.{next_obligations, obligations-append}

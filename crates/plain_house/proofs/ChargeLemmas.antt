@@ -12,7 +12,8 @@ use Rattle.plain_house.specs.Booked.{booked_as}
 use Rattle.plain_house.specs.Known.{known}
 use Rattle.plain_house.specs.Entries.{book_entries, period_of}
 use Rattle.plain_house.specs.House.{post_of}
-use Rattle.plain_house.specs.Legal.{IsLegal, IsCharged, IsTakenBack, LegalCdrsAreCharged, LegalCreditsAreTakenBack}
+use Rattle.plain_house.specs.Legal.{IsLegal}
+use Rattle.plain_house.specs.LegalLists.{IsCharged, IsTakenBack, LegalCdrsAreCharged, LegalCreditsAreTakenBack}
 use Rattle.plain_house.specs.Posting.{credited_amount}
 use Rattle.plain_house.specs.Tariffs.{lacks_registered}
 use Rattle.plain_house.proofs.BookingLemmas.{cdr_added, credit_added, only_posts, taken_from}

@@ -3,9 +3,8 @@ use Rattle.std.proofs.Common.{◌≡◌, ℕ, ◌+◌, List, [], ◌∷◌, ◌+
 use Rattle.std.proofs.lemmas.List.Concat.{flat_map-append}
 use Rattle.std.proofs.lemmas.List.Sums.{sum_by-append}
 use Rattle.plain_house.specs.declared.event.Event.{Event}
-use Rattle.plain_house.specs.Entries.{Dated, account_entry, book_entries, book_entries_from, book_entry, dated_from, is_close, period_after, period_of}
+use Rattle.plain_house.specs.Entries.{account_entry, book_entries, book_entries_from, book_entry, Dated, dated_from, EntriesAreDated, is_close, period_after, period_of}
 use Rattle.plain_house.specs.declared.entry.BookEntry.{BookEntry}
-use Rattle.plain_house.specs.Legal.{EntriesAreDated}
 use Rattle.plain_house.proofs.PeriodsLemmas.{period_after-cons}
 
 dated-append : (n : ℕ) (before later : List Event) → dated_from n (before ++ later) ≡ dated_from n before ++ dated_from (n + count_by is_close before) later

@@ -149,3 +149,19 @@ at_most_all false n = omega arith
 
 pub weight_charge-le : (scope : Scope) (charge : Charge) → weight scope (account.Charge charge) ≤ charge.cost
 weight_charge-le scope charge = omega (arith, weight_charge scope charge, at_most_all (charges_within scope charge) charge.cost)
+
+alone : (scope : Scope) (x : AccountEntry) → weight scope x ≡ exposure_of scope (x ∷ [])
+alone scope (account.Token token) = refl
+alone scope (account.Hold hold) = refl
+alone scope (account.Release release) = refl
+alone scope (account.Charge charge) = by (charges_within scope charge)
+  where
+    by : (b : Bool) → 0 + total_charged (cond b (charge ∷ []) []) ≡ 0 + total_charged (cond (b && true) (charge ∷ []) [])
+    by true = refl
+    by false = refl
+alone scope (account.Credit credit) = refl
+alone scope (account.Settlement settlement) = refl
+
+pub adds_at_most : (scope : Scope) (entries : List AccountEntry) (x : AccountEntry)
+    → exposure_of scope (entries ++ x ∷ []) ≤ exposure_of scope entries + exposure_of scope (x ∷ [])
+adds_at_most scope entries x = omega (arith, exposure_later scope entries x, alone scope x)

@@ -6,7 +6,8 @@ use Rattle.cdr_checks.specs.declared.request.Command.{Command}
 use Rattle.plain_house.specs.declared.event.Event.{Event}
 use Rattle.plain_house.specs.Known.{known}
 use Rattle.plain_house.specs.House.{verdict, events_after, Does}
-use Rattle.plain_house.specs.Legal.{IsGiven, IsLegal, KeepsLimits}
+use Rattle.plain_house.specs.Legal.{IsGiven, IsLegal}
+use Rattle.plain_house.specs.LegalLists.{KeepsLimits}
 use Rattle.plain_house.specs.Replies.{Reply, is_no_memory, with_event}
 use Rattle.plain_house.proofs.LimitsLemmas.{keeps_empty, keeps_given}
 

@@ -26,7 +26,7 @@ use Rattle.plain_house.specs.Entries.{account_entries, account_entry, book_entri
 use Rattle.plain_house.specs.Booked.{Booked, booked_as}
 use Rattle.plain_house.specs.Exposure.{exposure_of, of_pair, of_provider, released_hold}
 use Rattle.plain_house.specs.House.{verdict, allows, cdr_judged, credit_judged, post_of, hold_for, lacks_credit, no_room_for, passes, positions_in, stored_already, unless_covered, unless_current, unless_open, unless_settled, unless_valid, release_of, found_of}
-use Rattle.plain_house.specs.Legal.{KeepsLimits}
+use Rattle.plain_house.specs.LegalLists.{KeepsLimits}
 use Rattle.plain_house.specs.declared.answer.Answer.TheVariants as answer
 use Rattle.plain_house.specs.Room.{are_cdrs_full, are_periods_full, are_versions_full, first_full, is_account_full, is_order_full}
 use Rattle.plain_house.specs.Tariffs.{stored_version}

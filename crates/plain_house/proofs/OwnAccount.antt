@@ -28,8 +28,9 @@ use Rattle.plain_house.specs.Booked.{booked_as}
 use Rattle.plain_house.specs.Entries.{account_entries, book_entries, charge_of, period_of}
 use Rattle.plain_house.specs.Exposure.{ends_debt, ends_hold, exposure_of, of_pair, of_provider, open_holds, released_hold}
 use Rattle.plain_house.specs.House.{as_configured, exposed, hold_for, is_hold_of, lacks_credit, passes, reference_text}
-use Rattle.plain_house.specs.Legal.{IsLegal, IsOfOwnEntries, LegalCdrsAreCharged, LegalCreditsAreTakenBack}
-use Rattle.plain_house.specs.Own.{AccountsAreOfOwnEntries, own_account}
+use Rattle.plain_house.specs.Legal.{IsLegal}
+use Rattle.plain_house.specs.LegalLists.{LegalCdrsAreCharged, LegalCreditsAreTakenBack}
+use Rattle.plain_house.specs.Own.{AccountsAreOfOwnEntries, IsOfOwnEntries, own_account}
 use Rattle.plain_house.specs.Posting.{above, above_if_any, over_limit}
 use Rattle.plain_house.specs.Room.{is_account_full, is_entry_of, own_entries}
 use Rattle.plain_house.specs.Settlements.{is_settled, settled_debt, settles_same}

@@ -10,7 +10,9 @@ use Rattle.plain_house.specs.declared.event.Event.TheVariants as event
 use Rattle.plain_house.specs.declared.scope.Scope.{Scope}
 use Rattle.plain_house.specs.Booked.{Booked}
 use Rattle.plain_house.specs.Entries.{account_entries}
-use Rattle.plain_house.specs.Legal.{ExposureIsOfOwnEntries, ExposureWithChargeIsOfOwnEntries, IsLegal, IsOfOwnEntries, LegalCdrsAreCharged, LegalCreditsAreTakenBack}
+use Rattle.plain_house.specs.Own.{ExposureIsOfOwnEntries, ExposureWithChargeIsOfOwnEntries, IsOfOwnEntries}
+use Rattle.plain_house.specs.Legal.{IsLegal}
+use Rattle.plain_house.specs.LegalLists.{LegalCdrsAreCharged, LegalCreditsAreTakenBack}
 use Rattle.plain_house.specs.Posting.{meets_original}
 use Rattle.plain_house.proofs.BookedOnce.{AreBookable, IsBookable, are_ended_by_own}
 use Rattle.plain_house.proofs.ExposureLater.{entries_push}

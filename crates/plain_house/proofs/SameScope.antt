@@ -81,3 +81,9 @@ pub same_pair_exposure : (entries : List AccountEntry) (o p a b : Party) (c d : 
 same_pair_exposure entries o p a b c d their same =
     ap (λ (operator : FoldedParty). exposure_by (is_party_of operator) (folded_account a c) entries) their
     ∙ ap (λ (account : FoldedAccount). exposure_by (is_party_of (folded_party p)) account entries) same
+
+-- an exposure in another spelling of its provider
+pub in_any_spelling : (entries : List AccountEntry) (a b : Party) (currency : List ℕ) → same_party a b ≡ true
+    → exposure_of (of_provider a currency) entries ≡ exposure_of (of_provider b currency) entries
+in_any_spelling entries a b currency h =
+    ap (λ (provider : FoldedParty). exposure_by (λ operator. true) (record { provider = provider; currency = currency }) entries) (same_folded_party a b h)

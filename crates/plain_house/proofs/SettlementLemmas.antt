@@ -17,8 +17,8 @@ use Rattle.plain_house.specs.declared.entry.AccountEntry.TheVariants as account
 use Rattle.plain_house.specs.declared.entry.Charge.{Charge}
 use Rattle.plain_house.specs.Entries.{account_entries}
 use Rattle.plain_house.specs.Exposure.{charge_in, charges, charges_within, debts_of, ends_debt, is_owed, of_provider, total_charged}
-use Rattle.plain_house.specs.Legal.{KeepsLimits, SettlementsEndTheirDebts}
-use Rattle.plain_house.specs.Settlements.{settled_debt}
+use Rattle.plain_house.specs.LegalLists.{KeepsLimits}
+use Rattle.plain_house.specs.Settlements.{SettlementsEndTheirDebts, settled_debt}
 use Rattle.plain_house.proofs.ExposureLater.{charged_one, fewer}
 
 pub party_symm : (a b : Party) → same_party a b ≡ same_party b a

@@ -1,5 +1,5 @@
 -- The period in which each event stands, and what an operator's book and a provider's account keep of it.
-use Rattle.std.specs.Prelude.{ℕ, ◌+◌, Bool, true, false, List, [], ◌∷◌, count_by, flat_map, if◌then◌else◌}
+use Rattle.std.specs.Prelude.{◌≡◌, ℕ, ◌+◌, Bool, true, false, List, [], ◌∷◌, ◌++◌, count_by, flat_map, if◌then◌else◌}
 use Rattle.ocpi_types.specs.declared.cdr.Cdr.{Cdr}
 use Rattle.plain_house.specs.declared.event.Event.{Event}
 use Rattle.plain_house.specs.declared.event.Event.TheVariants as event
@@ -98,3 +98,11 @@ account_entries_from period events =
 -- the entries of all accounts, in the order of the events
 abbrev pub account_entries : List Event → List AccountEntry
 account_entries events = account_entries_from 0 events
+
+-- an event's entries have its period, the number of closes before it; those of later events go on from the next
+pub record AreDated (before : List Event) (event : Event) (later : List Event) : Type 0 where
+  pub in_books : book_entries (before ++ event ∷ later) ≡ book_entries before ++ (book_entry event (period_of before) ++ book_entries_from (period_of (before ++ event ∷ [])) later)
+  pub in_accounts : account_entries (before ++ event ∷ later) ≡ account_entries before ++ (account_entry event (period_of before) ++ account_entries_from (period_of (before ++ event ∷ [])) later)
+
+abbrev pub EntriesAreDated : Type 0
+EntriesAreDated = (before : List Event) (event : Event) (later : List Event) → AreDated before event later

@@ -1,5 +1,5 @@
 -- The exposure of a provider in a currency: its open holds and its debts, with all operators or with one.
-use Rattle.std.specs.Prelude.{ℕ, ◌+◌, ◌==◌, List, [], ◌∷◌, ◌++◌, Bool, true, false, not, ◌&&◌, if◌then◌else◌, Option, None, Some, find, sum_by, filter, flat_map}
+use Rattle.std.specs.Prelude.{◌≡◌, ◌≤◌, ℕ, ◌+◌, ◌==◌, List, [], ◌∷◌, ◌++◌, Bool, true, false, not, ◌&&◌, if◌then◌else◌, Option, None, Some, find, sum_by, filter, flat_map}
 use Rattle.std.specs.List.{list_any}
 use Rattle.std.specs.Option.{option_map_or}
 use Rattle.ocpi_json.specs.Folded.{same_folded}
@@ -118,3 +118,15 @@ debts_of scope entries =
 
 abbrev pub exposure_of : Scope → List AccountEntry → ℕ
 exposure_of scope entries = holds_of scope entries + debts_of scope entries
+
+-- an entry adds to an exposure at most what its exposure is alone
+abbrev pub EntriesAddAtMost : Type 0
+EntriesAddAtMost =
+    (scope : Scope) (entries : List AccountEntry) (entry : AccountEntry) →
+    exposure_of scope (entries ++ entry ∷ []) ≤ exposure_of scope entries + exposure_of scope (entry ∷ [])
+
+-- in another spelling of the provider the exposure is the same
+abbrev pub ExposuresInAnySpelling : Type 0
+ExposuresInAnySpelling =
+    (entries : List AccountEntry) (one another : Party) (currency : List ℕ) → same_party one another ≡ true →
+    exposure_of (of_provider one currency) entries ≡ exposure_of (of_provider another currency) entries

@@ -1,6 +1,6 @@
 -- A house answers a command by the entries of the command's own operator and provider: what is asked of all entries is said
 -- by the operator's own book, or the provider's own account.
-use Rattle.std.specs.Prelude.{◌≡◌, ℕ, List, Bool, true, Option, Some, None, filter}
+use Rattle.std.specs.Prelude.{◌≡◌, ℕ, List, [], ◌∷◌, ◌++◌, Bool, true, Option, Some, None, filter}
 use Rattle.ocpi_types.specs.declared.cdr.Cdr.{Cdr}
 use Rattle.ocpi_types.specs.declared.config.Config.{Config}
 use Rattle.ocpi_types.specs.declared.party.Party.{Party}
@@ -14,12 +14,14 @@ use Rattle.cdr_checks.specs.declared.request.Settlement.{Settlement}
 use Rattle.cdr_checks.specs.declared.request.Command.{Command}
 use Rattle.cdr_checks.specs.Parties.{operator_of_command, provider_of_command}
 use Rattle.plain_house.specs.declared.event.Event.{Event}
+use Rattle.plain_house.specs.declared.scope.Scope.{Scope}
 use Rattle.plain_house.specs.declared.entry.AccountEntry.{AccountEntry}
+use Rattle.plain_house.specs.declared.entry.AccountEntry.TheVariants as account
 use Rattle.plain_house.specs.declared.entry.BookEntry.{BookEntry}
 use Rattle.plain_house.specs.declared.entry.BookEntry.TheVariants as book
 use Rattle.plain_house.specs.Booked.{booked_as, is_credited}
 use Rattle.plain_house.specs.Entries.{account_entries, book_entries, charge_of, period_of}
-use Rattle.plain_house.specs.Exposure.{released_hold}
+use Rattle.plain_house.specs.Exposure.{debts_of, exposure_of, holds_of, released_hold}
 use Rattle.plain_house.specs.House.{exposed, hold_for, lacks_credit, verdict}
 use Rattle.plain_house.specs.Known.{Known, known}
 use Rattle.plain_house.specs.Legal.{IsLegal}
@@ -80,6 +82,26 @@ pub record IsOfOwnAccount (config : Config) (events : List Event) (provider : Pa
 abbrev pub AccountsAreOfOwnEntries : Type 0
 AccountsAreOfOwnEntries =
     (config : Config) (events : List Event) (provider : Party) → IsLegal config events → IsOfOwnAccount config events provider
+
+-- ---- exposures
+
+-- the exposure, its holds and its debts, are those of the entries of the provider's own account
+pub record IsOfOwnEntries (scope : Scope) (entries : List AccountEntry) : Type 0 where
+  pub holds : holds_of scope (own_entries scope.provider entries) ≡ holds_of scope entries
+  pub debts : debts_of scope (own_entries scope.provider entries) ≡ debts_of scope entries
+  pub exposure : exposure_of scope (own_entries scope.provider entries) ≡ exposure_of scope entries
+
+-- so they are on a legal list
+abbrev pub ExposureIsOfOwnEntries : Type 0
+ExposureIsOfOwnEntries =
+    (config : Config) (events : List Event) (scope : Scope) → IsLegal config events → IsOfOwnEntries scope (account_entries events)
+
+-- and with the charge added of a CDR whose id is not booked
+abbrev pub ExposureWithChargeIsOfOwnEntries : Type 0
+ExposureWithChargeIsOfOwnEntries =
+    (config : Config) (events : List Event) (scope : Scope) (cdr : Cdr) (cost : ℕ) → IsLegal config events →
+    booked_as cdr.operator cdr.id (book_entries events) ≡ None →
+    IsOfOwnEntries scope (account_entries events ++ account.Charge (charge_of cdr cost (period_of events)) ∷ [])
 
 -- ---- verdicts
 

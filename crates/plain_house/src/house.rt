@@ -1,6 +1,7 @@
 ghost use Rattle.std.specs.Prelude.{◌≡◌, ◌≤◌, [], length};
 ghost use Rattle.plain_house.specs.House.{Does};
-ghost use Rattle.plain_house.specs.Legal.{CanBeNetted, IsLegal, KeepsLimits};
+ghost use Rattle.plain_house.specs.LegalLists.{CanBeNetted, KeepsLimits};
+ghost use Rattle.plain_house.specs.Legal.{IsLegal};
 
 use super::answer::{Refused, Replied};
 use super::event::Event;

@@ -1,8 +1,13 @@
 //! What follows from the definitions.
 
-ghost use Rattle.plain_house.specs.Legal.{ClosedPeriodsStay, CommandsKeepListsLegal, EmptyListsAreLegal, EntriesAreDated, ExposureIsOfOwnEntries, ExposureWithChargeIsOfOwnEntries, LegalCdrsAreCharged, LegalCreditsAreTakenBack, LegalListsBeginLegally, LegalListsCanBeNetted, LegalListsKeepLimits, LegalPositionsBalance, SettlementsEndTheirDebts};
+ghost use Rattle.plain_house.specs.Entries.{EntriesAreDated};
+ghost use Rattle.plain_house.specs.Exposure.{EntriesAddAtMost, ExposuresInAnySpelling};
 ghost use Rattle.plain_house.specs.Laws.{VerdictsAreTold};
-ghost use Rattle.plain_house.specs.Own.{AccountsAreOfOwnEntries, BooksAreOfOwnEntries, VerdictsAreOfOwnEntries};
+ghost use Rattle.plain_house.specs.Legal.{CommandsKeepListsLegal, EmptyListsAreLegal, LegalListsBeginLegally};
+ghost use Rattle.plain_house.specs.LegalLists.{LegalCdrsAreCharged, LegalCreditsAreTakenBack, LegalListsCanBeNetted, LegalListsKeepLimits, LegalPositionsBalance};
+ghost use Rattle.plain_house.specs.Obligations.{ClosedPeriodsStay};
+ghost use Rattle.plain_house.specs.Own.{AccountsAreOfOwnEntries, BooksAreOfOwnEntries, ExposureIsOfOwnEntries, ExposureWithChargeIsOfOwnEntries, VerdictsAreOfOwnEntries};
+ghost use Rattle.plain_house.specs.Settlements.{SettlementsEndTheirDebts};
 
 use cdr_checks::posts_are_checked;
 use netting_positions::{parties_are_different, positions_balance};
@@ -56,6 +61,16 @@ pub fn exposure_with_charge_is_of_own_entries()
     legal_cdrs_are_charged();
     legal_credits_are_taken_back();
 }
+
+/// An entry adds to an exposure at most what its exposure is alone.
+pub fn entries_add_at_most()
+    ensures { EntriesAddAtMost }
+{}
+
+/// In another spelling of its provider an exposure is the same.
+pub fn exposures_in_any_spelling()
+    ensures { ExposuresInAnySpelling }
+{}
 
 /// A list without events is legal.
 pub fn empty_lists_are_legal()

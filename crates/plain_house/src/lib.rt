@@ -29,11 +29,11 @@ pub use holds::names;
 pub use house::PlainHouse;
 pub use laws::{
     accounts_are_of_own_entries, books_are_of_own_entries, closed_periods_stay,
-    commands_keep_lists_legal, empty_lists_are_legal, entries_are_dated,
-    exposure_is_of_own_entries, exposure_with_charge_is_of_own_entries, legal_cdrs_are_charged,
-    legal_credits_are_taken_back, legal_lists_begin_legally, legal_lists_can_be_netted,
-    legal_lists_keep_limits, legal_positions_balance, settlements_end_their_debts,
-    verdicts_are_of_own_entries, verdicts_are_told,
+    commands_keep_lists_legal, empty_lists_are_legal, entries_add_at_most, entries_are_dated,
+    exposure_is_of_own_entries, exposure_with_charge_is_of_own_entries, exposures_in_any_spelling,
+    legal_cdrs_are_charged, legal_credits_are_taken_back, legal_lists_begin_legally,
+    legal_lists_can_be_netted, legal_lists_keep_limits, legal_positions_balance,
+    settlements_end_their_debts, verdicts_are_of_own_entries, verdicts_are_told,
 };
 pub use obligations::statement_rows;
 pub use periods::period_after;

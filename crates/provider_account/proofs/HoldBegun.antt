@@ -1,11 +1,14 @@
 -- What is known of holds, after one more hold.
-use Rattle.std.proofs.Common.{◌≡◌, ◌≤◌, ◌<◌, ◌^◌, ℕ, ◌+◌, List, [], ◌∷◌, ◌++◌, Bool, true, false, ◌&&◌, cond, Option, None, Some, filter, find, count_by, refl, sym, ap, ap₂, ◌∙◌, arith}
+use Rattle.std.proofs.Common.{◌≡◌, ◌≤◌, ◌<◌, ◌==◌, ◌^◌, ℕ, ◌+◌, List, [], ◌∷◌, ◌++◌, Bool, true, false, ◌&&◌, cond, Option, None, Some, filter, find, count_by, refl, sym, ap, ap₂, ◌∙◌, arith}
+use Rattle.std.specs.Cmp.Lexicographic.{pointwise}
 use Rattle.std.specs.Option.{option_or}
+use Rattle.std.proofs.lemmas.List.Elements.{filter-append}
 use Rattle.std.proofs.lemmas.List.Folds.{find-append}
 use Rattle.std.proofs.lemmas.List.Sums.{sum_by-append}
 use Rattle.ocpi_json.specs.Folded.{folded, same_folded}
 use Rattle.ocpi_types.specs.declared.party.Party.{Party}
 use Rattle.ocpi_types.specs.Party.{same_party}
+use Rattle.ocpi_types.specs.SameTariff.{folded_party}
 use Rattle.cdr_checks.specs.declared.request.Release.{Release}
 use Rattle.plain_house.specs.declared.entry.AccountEntry.{AccountEntry}
 use Rattle.plain_house.specs.declared.entry.AccountEntry.TheVariants as account
@@ -13,15 +16,13 @@ use Rattle.plain_house.specs.declared.event.Hold.{Hold}
 use Rattle.plain_house.specs.declared.scope.Scope.{Scope}
 use Rattle.plain_house.specs.Exposure.{ends_hold, holds_of, holds_within, open_holds, released_hold, total_held}
 use Rattle.plain_house.specs.House.{is_hold_of, reference_text}
-use Rattle.plain_house.proofs.HoldsLemmas.{total_held-append}
-use Rattle.plain_house.proofs.SameScope.{FoldedParty, folded_party, is_party_of, same_folded_party}
 use Rattle.provider_account.specs.declared.holds.Holds.{Holds}
 use Rattle.provider_account.specs.Inner.Held.{held_at}
 use Rattle.provider_account.specs.Inner.Holds.{AreNumbered, IsNumbered, KnowsHolds, key_of_hold, key_of_release, open_under, same_hold}
 use Rattle.provider_account.proofs.HeldCells.{same_party_laws}
 use Rattle.provider_account.proofs.OnlyOne.{count-none}
 use Rattle.provider_account.proofs.OpenHolds.{both, ended_by_key, open_holds-push, same_hold_laws}
-use Rattle.provider_account.proofs.References.{folded_reference, folded_same, same_from_folded, same_number, spelled}
+use Rattle.provider_account.proofs.References.{folded_reference, folded_same, same_folded_party, same_from_folded, same_number, spelled}
 
 abbrev freed : Release → Hold → Bool
 freed release hold = ends_hold hold (account.Release release)
@@ -30,10 +31,17 @@ all_stay : (holds : List Hold) → filter (λ (hold : Hold). true) holds ≡ hol
 all_stay [] = refl
 all_stay (hold ∷ holds) = ap (λ l. hold ∷ l) (all_stay holds)
 
+total_held-append : (p : Hold → Bool) (xs ys : List Hold) → total_held (filter p (xs ++ ys)) ≡ total_held (filter p xs) + total_held (filter p ys)
+total_held-append p xs ys = ap total_held (filter-append p xs ys) ∙ sum_by-append (λ hold. hold.amount) (filter p xs) (filter p ys)
+
+-- a test against a party is one against its folded texts
+abbrev is_folded : Party → Party → Bool
+is_folded party text = pointwise ◌==◌ (folded party.country_code) text.country_code && pointwise ◌==◌ (folded party.party_id) text.party_id
+
 -- how many holds the same provider has
 hold_of_same : (a b : Party) → folded_party a ≡ folded_party b → (x : AccountEntry) → is_hold_of a x ≡ is_hold_of b x
 hold_of_same a b same (account.Token token) = refl
-hold_of_same a b same (account.Hold hold) = ap (λ (party : FoldedParty). is_party_of party hold.provider) same
+hold_of_same a b same (account.Hold hold) = ap (λ (party : Party). is_folded hold.provider party) same
 hold_of_same a b same (account.Release release) = refl
 hold_of_same a b same (account.Charge charge) = refl
 hold_of_same a b same (account.Credit credit) = refl
@@ -65,7 +73,7 @@ module _ (entries : List AccountEntry) (hold : Hold) (numbered : AreNumbered ent
       folded_same release.reference hold.reference reference
       ∙ folded_same hold.reference (reference_text hold.provider (count_by (is_hold_of hold.provider) entries + 1)) next
       ∙ folded_reference hold.provider (count_by (is_hold_of hold.provider) entries + 1) small
-      ∙ ap (λ (party : FoldedParty). spelled party (count_by (is_hold_of hold.provider) entries + 1)) (sym (same_provider release same))
+      ∙ ap (λ (party : Party). spelled party (count_by (is_hold_of hold.provider) entries + 1)) (sym (same_provider release same))
 
   -- no open hold has its key yet
   none_yet : (release : Release) → same_hold (key_of_release release) (key_of_hold hold) ≡ true → released_hold entries release ≡ None
@@ -92,7 +100,7 @@ module _ (entries : List AccountEntry) (hold : Hold) (numbered : AreNumbered ent
           sym (named release e) ∙ folded_same release.reference (reference_text release.provider n) names ∙ folded_reference release.provider n fits in
           let same : count_by (is_hold_of hold.provider) entries + 1 ≡ n = same_number (folded_party release.provider) (count_by (is_hold_of hold.provider) entries + 1) n small fits spelling in
           let theirs = holds_of_same release.provider hold.provider provider entries in
-          let its : same_party hold.provider release.provider ≡ true = ap (λ (party : FoldedParty). is_party_of party hold.provider) provider ∙ same_party_laws.refl hold.provider in
+          let its : same_party hold.provider release.provider ≡ true = ap (λ (party : Party). is_folded hold.provider party) provider ∙ same_party_laws.refl hold.provider in
           absurd (omega (arith, one_more release.provider, ap (λ b. cond {A = ℕ} b 1 0) its, theirs, same, more))
 
   counts : (release : Release) (b : Bool) → same_hold (key_of_release release) (key_of_hold hold) ≡ b → count_by (freed release) (open_holds entries) + cond {A = ℕ} b 1 0 ≤ 1

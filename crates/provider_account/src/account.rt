@@ -1,6 +1,6 @@
 //! The accounts of providers.
 
-ghost use Rattle.std.specs.Prelude.{◌≡◌, ◌+◌, ◌-◌, ◌^◌, ◌<◌, ◌≤◌, pos, [], ◌∷◌, ◌++◌, OnOk, OnErr, count_by, length, true, false};
+ghost use Rattle.std.specs.Prelude.{◌≡◌, ◌+◌, ◌-◌, ◌^◌, ◌<◌, ◌≤◌, pos, [], ◌∷◌, ◌++◌, OnOk, OnErr, count_by, true, false};
 ghost use Rattle.ocpi_json.specs.Folded.{same_folded};
 ghost use Rattle.plain_house.specs.Exposure.{exposure_of, of_provider, released_hold};
 ghost use Rattle.plain_house.specs.House.{exposed, hold_for, is_hold_of, lacks_credit, reference_text};
@@ -19,7 +19,9 @@ use cdr_checks::{Authorize, ExposureOf, Release, Settlement};
 use exact_money::Amount;
 use ocpi_json::ci_text::CiText;
 use ocpi_types::{Config, Party, Refusal, Token, TokenKind};
-use plain_house::{AccountEntry, Answer, Charge, Credit, Hold};
+use plain_house::{
+    AccountEntry, Answer, Charge, Credit, Hold, entries_add_at_most, exposures_in_any_spelling,
+};
 use std::alloc::{AllocError, Global};
 use std::marker::Model;
 
@@ -160,6 +162,7 @@ impl Account {
         requires { self.old.has_room ≡ true }
         ensures { self.new ≡ record { entries = self.old.entries ++ account.Token token ∷ []; has_room = false } }
     {
+        entries_add_at_most();
         self.put(AccountEntry::Token(token));
     }
 
@@ -170,6 +173,8 @@ impl Account {
         requires within { exposure_of (of_provider hold.provider hold.currency) self.old.entries + hold.amount ≤ 10 ^ 15 }
         ensures { self.new ≡ record { entries = self.old.entries ++ account.Hold hold ∷ []; has_room = false } }
     {
+        entries_add_at_most();
+        exposures_in_any_spelling();
         self.put(AccountEntry::Hold(hold));
     }
 
@@ -178,6 +183,7 @@ impl Account {
         requires { self.old.has_room ≡ true }
         ensures { self.new ≡ record { entries = self.old.entries ++ account.Release release ∷ []; has_room = false } }
     {
+        entries_add_at_most();
         self.put(AccountEntry::Release(release));
     }
 
@@ -187,6 +193,8 @@ impl Account {
         requires within { exposure_of (of_provider charge.provider charge.currency) (self.old.entries ++ account.Charge charge ∷ []) ≤ 10 ^ 15 }
         ensures { self.new ≡ record { entries = self.old.entries ++ account.Charge charge ∷ []; has_room = false } }
     {
+        entries_add_at_most();
+        exposures_in_any_spelling();
         self.put(AccountEntry::Charge(charge));
     }
 
@@ -195,6 +203,7 @@ impl Account {
         requires { self.old.has_room ≡ true }
         ensures { self.new ≡ record { entries = self.old.entries ++ account.Credit credit ∷ []; has_room = false } }
     {
+        entries_add_at_most();
         self.put(AccountEntry::Credit(credit));
     }
 
@@ -203,6 +212,7 @@ impl Account {
         requires { self.old.has_room ≡ true }
         ensures { self.new ≡ record { entries = self.old.entries ++ account.Settlement settlement ∷ []; has_room = false } }
     {
+        entries_add_at_most();
         self.put(AccountEntry::Settlement(settlement));
     }
 }

@@ -1,6 +1,6 @@
 //! What is owed, summed by operator or all of them, provider, currency and period or all of them.
 
-ghost use Rattle.std.specs.Prelude.{◌≡◌, ◌+◌, ◌<◌, ◌≤◌, ◌^◌, Some, None, true, OnOk, OnErr};
+ghost use Rattle.std.specs.Prelude.{◌≡◌, ◌+◌, ◌<◌, ◌≤◌, ◌^◌, Some, None, true, OnOk};
 ghost use Rattle.indexmap.specs.IndexMap.{spare};
 ghost use Rattle.provider_account.specs.Inner.DebtKeys.{counted, covers};
 ghost use Rattle.provider_account.specs.Inner.Owed.{amount_of, in_period, part_of};

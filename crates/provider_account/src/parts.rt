@@ -11,7 +11,7 @@ use super::counts::Counts;
 use super::debts::Debts;
 use super::holds::Holds;
 use super::tokens::Tokens;
-use plain_house::{AccountEntry, Charge, Scope};
+use plain_house::{AccountEntry, Charge, Scope, entries_add_at_most};
 use std::alloc::{AllocError, Global};
 
 /// Tokens, holds and debts by their keys, and how many entries there are.
@@ -57,6 +57,7 @@ impl Parts {
         ensures value { result ≡ exposure_of scope.now (entries.now ++ account.Charge charge.now ∷ []) }
         ensures bound { result ≤ 2 * 10 ^ 15 }
     {
+        entries_add_at_most();
         let _cost = charge.cost.get();
         self.holds.held_with(scope, charge) + self.debts.owed_with(entries, scope, charge)
     }

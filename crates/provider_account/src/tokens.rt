@@ -1,6 +1,6 @@
 //! Whether tokens are valid, as they were put last.
 
-ghost use Rattle.std.specs.Prelude.{◌≡◌, ◌<◌, ◌≤◌, List, [], ◌∷◌, ◌++◌, OnOk, OnErr};
+ghost use Rattle.std.specs.Prelude.{◌≡◌, ◌<◌, ◌≤◌, List, [], ◌∷◌, ◌++◌, OnOk};
 ghost use Rattle.indexmap.specs.IndexMap.{spare};
 ghost use Rattle.plain_house.specs.declared.entry.AccountEntry.{AccountEntry};
 ghost use Rattle.plain_house.specs.declared.entry.AccountEntry.TheVariants as account;

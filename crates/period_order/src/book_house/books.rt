@@ -1,6 +1,6 @@
 //! The books and accounts of a house.
 
-ghost use Rattle.std.specs.Prelude.{◌≡◌, ◌<◌, [], map, option_map, option_and_then, slice_get, length, IfOk, IfSome, OnOk};
+ghost use Rattle.std.specs.Prelude.{◌≡◌, ◌<◌, [], map, option_and_then, slice_get, length, IfOk, IfSome, OnOk};
 ghost use Rattle.std.specs.Option.{option_copied};
 ghost use Rattle.period_order.specs.Inner.Kept.{AccountHasRoom, BookHasRoom, entries_of_accounts, entries_of_books};
 

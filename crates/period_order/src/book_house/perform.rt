@@ -1,6 +1,6 @@
 //! Commands that look into one book, one account, or both.
 
-ghost use Rattle.std.specs.Prelude.{◌≡◌, ◌<◌, true, false, option_map, option_and_then, slice_get, length, IfSome, OnOk};
+ghost use Rattle.std.specs.Prelude.{◌≡◌, ◌<◌, true, false, option_map, length, IfSome, OnOk};
 ghost use Rattle.cdr_checks.specs.Admission.{IsAdmitted};
 ghost use Rattle.cdr_checks.specs.Parties.{operator_of_command, provider_of_command};
 ghost use Rattle.plain_house.specs.Entries.{account_entry, book_entry};

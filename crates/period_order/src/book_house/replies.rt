@@ -1,7 +1,7 @@
 //! Replies with the number of events before them.
 
 ghost use Rattle.std.specs.Prelude.{◌≡◌, Some, None, Err};
-ghost use Rattle.plain_house.specs.Replies.{no_memory, stamped};
+ghost use Rattle.plain_house.specs.Replies.{stamped};
 
 use ocpi_types::Refusal;
 use plain_house::{Answer, Refused, Replied};

@@ -8,7 +8,7 @@ ghost use Rattle.plain_house.specs.Exposure.{exposure_of, of_pair};
 ghost use Rattle.plain_house.specs.Known.{known};
 ghost use Rattle.plain_house.specs.House.{Does, allows, hold_for, is_hold_of, lacks_credit, next_reference, no_room_for, passes, unless_covered};
 ghost use Rattle.plain_house.specs.Inner.Scanned.{event_is_hold_of};
-ghost use Rattle.plain_house.specs.Legal.{KeepsLimits};
+ghost use Rattle.plain_house.specs.LegalLists.{KeepsLimits};
 ghost use Rattle.plain_house.specs.Replies.{Follows};
 ghost use Rattle.plain_house.specs.Verdict.{unless};
 

@@ -2,8 +2,8 @@
 
 ghost use Rattle.std.specs.Prelude.{◌≡◌};
 ghost use Rattle.cdr_checks.specs.declared.request.Command.TheVariants.{Close as CloseCommand};
-ghost use Rattle.plain_house.specs.House.{Does, closed};
-ghost use Rattle.plain_house.specs.Legal.{CanBeNetted};
+ghost use Rattle.plain_house.specs.House.{Does};
+ghost use Rattle.plain_house.specs.LegalLists.{CanBeNetted};
 ghost use Rattle.plain_house.specs.Replies.{Follows};
 
 use super::replies::{add, out_of_memory, refused};

@@ -3,7 +3,7 @@
 ghost use Rattle.std.specs.Prelude.{◌≡◌, length};
 ghost use Rattle.plain_house.specs.Entries.{account_entries};
 ghost use Rattle.plain_house.specs.House.{exposed};
-ghost use Rattle.plain_house.specs.Legal.{KeepsLimits};
+ghost use Rattle.plain_house.specs.LegalLists.{KeepsLimits};
 
 use super::replies::replied;
 use crate::answer::{Answer, Replied};

@@ -7,7 +7,7 @@ ghost use Rattle.plain_house.specs.Entries.{account_entries, book_entries, perio
 ghost use Rattle.plain_house.specs.Exposure.{exposure_of, of_pair};
 ghost use Rattle.plain_house.specs.Known.{known};
 ghost use Rattle.plain_house.specs.House.{Does, cdr_judged, cdr_posted, credit_judged, credit_posted};
-ghost use Rattle.plain_house.specs.Legal.{KeepsLimits};
+ghost use Rattle.plain_house.specs.LegalLists.{KeepsLimits};
 ghost use Rattle.plain_house.specs.Posting.{above, above_if_any, judged_cdr, judged_credit, over_limit};
 ghost use Rattle.plain_house.specs.Replies.{Follows, IsTold};
 ghost use Rattle.plain_house.specs.declared.entry.AccountEntry.TheVariants as account;

@@ -4,7 +4,7 @@ ghost use Rattle.std.specs.Prelude.{◌≡◌, pos};
 ghost use Rattle.cdr_checks.specs.declared.request.Command.TheVariants.{Settle};
 ghost use Rattle.plain_house.specs.Entries.{account_entries};
 ghost use Rattle.plain_house.specs.House.{Does};
-ghost use Rattle.plain_house.specs.Legal.{KeepsLimits};
+ghost use Rattle.plain_house.specs.LegalLists.{KeepsLimits};
 ghost use Rattle.plain_house.specs.Settlements.{settled_debt};
 
 use super::replies::{add, refused};

@@ -3,7 +3,7 @@
 ghost use Rattle.std.specs.Prelude.{◌≡◌};
 ghost use Rattle.plain_house.specs.House.{stated};
 ghost use Rattle.plain_house.specs.Known.{known};
-ghost use Rattle.plain_house.specs.Legal.{CanBeNetted};
+ghost use Rattle.plain_house.specs.LegalLists.{CanBeNetted};
 ghost use Rattle.plain_house.specs.Replies.{Follows};
 
 use super::replies::{out_of_memory, refused, replied};

@@ -13,7 +13,10 @@ returns-in-Some-clause-kept c key =
     ∙ version_added key entries c.args.entry.now c.in-Some.tariff.now c.in-Some.ensures
 
 pub returns-in-Some-clause-once : goal.returns-in-Some-clause-once
-returns-in-Some-clause-once c = stored_once c.args.entries.now c.args.entry.now c.requires.fresh c.requires.once
+returns-in-Some-clause-once c = stored_once c.same_tariffs_are_equal_folded.ensures c.args.entries.now c.args.entry.now c.requires.fresh c.requires.once
 
 pub returns-in_default-clause-kept : goal.returns-in_default-clause-kept
 returns-in_default-clause-kept c key = c.requires.kept key ∙ none_added key c.args.entries.now c.args.entry.now c.in_default.ensures
+
+pub returns-in_default-clause-once : goal.returns-in_default-clause-once
+returns-in_default-clause-once c = stored_once c.same_tariffs_are_equal_folded.ensures c.args.entries.now c.args.entry.now c.requires.fresh c.requires.once

@@ -1,5 +1,6 @@
 use Rattle.std.proofs.Common.{subst, sym}
-use Rattle.plain_house.specs.Legal.{CanBeNetted, IsLegal}
+use Rattle.plain_house.specs.LegalLists.{CanBeNetted}
+use Rattle.plain_house.specs.Legal.{IsLegal}
 use Rattle.print_statements.proofs.ended.EndedHouse.statement.Goals as goal
 
 pub statement_rows-requires : goal.statement_rows-requires

@@ -4,4 +4,4 @@ use Rattle.provider_account.proofs.LimitsLemmas.{limited_weightless}
 use Rattle.provider_account.proofs.account.Account.release.Goals as goal
 
 pub put-requires-clause-limited : goal.put-requires-clause-limited
-put-requires-clause-limited c = limited_weightless c.args.self.now.entries (account.Release c.args.release) (λ provider currency. omega arith)
+put-requires-clause-limited c limited = limited_weightless c.entries_add_at_most.ensures c.args.self.now.entries limited (account.Release c.args.release) (λ provider currency. omega arith)

@@ -12,7 +12,7 @@ owed_with-requires-clause-fits c = omega (arith, limited_scope c.args.entries.no
 pub overflow_add-result : goal.overflow_add-result
 overflow_add-result c =
     let held = c.held_with.ensures ∙ held_with_known c.args.self.now.holds c.args.entries.now c.requires.knows.holds c.args.scope.now c.args.charge.now in
-    let limit = with_charge c.args.entries.now c.requires.limited c.args.charge.now c.args.scope.now (omega arith) in
+    let limit = with_charge c.entries_add_at_most.ensures c.args.entries.now c.requires.limited c.args.charge.now c.args.scope.now (omega arith) in
     omega (arith, held, limit, c.owed_with.ensures)
 
 pub returns-clause-value : goal.returns-clause-value
@@ -23,5 +23,5 @@ returns-clause-value c =
 pub returns-clause-bound : goal.returns-clause-bound
 returns-clause-bound c =
     let held = c.held_with.ensures ∙ held_with_known c.args.self.now.holds c.args.entries.now c.requires.knows.holds c.args.scope.now c.args.charge.now in
-    let limit = with_charge c.args.entries.now c.requires.limited c.args.charge.now c.args.scope.now (omega arith) in
+    let limit = with_charge c.entries_add_at_most.ensures c.args.entries.now c.requires.limited c.args.charge.now c.args.scope.now (omega arith) in
     omega (arith, held, limit, c.owed_with.ensures)
