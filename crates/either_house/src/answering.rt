@@ -1,16 +1,16 @@
 //! The lines of a reader, answered by a house of the kind that is asked for.
 
-ghost use Rattle.std.specs.Prelude.{◌≡◌, ◌≤◌, ◌^◌, ℕ, List, true, false, OnOk, IfErr, MatchResult};
-ghost use Rattle.request_lines.specs.Answering.{IsDone, IsFault, is_read_fault, is_write_fault};
+ghost use Rattle.std.specs.Prelude.{◌≡◌, ◌≤◌, ◌^◌, ℕ, List, MatchResult};
+ghost use Rattle.request_lines.specs.Answering.{IsDone, IsFault};
 ghost use Rattle.request_lines.specs.Script.{script_rule};
 
-use crate::again::run_again;
+use crate::again::Again;
 use crate::fault::Fault;
 use crate::words::{Job, Kind};
 use ocpi_types::{Config, TryCopy};
 use period_order::BookHouse;
 use plain_house::{PlainHouse, Sequential};
-use request_lines::{Count, ScriptFault, Sink, Source, run_script};
+use request_lines::{Count, ScriptFault, Sink, Source, run_script, run_script_by};
 use std::alloc::Global;
 
 // Answers the lines of the reader in turn, until it ends: those that `run_script` gives.
@@ -34,7 +34,7 @@ fn run<R: Source, W: Sink, S: Sequential>(
         (record { start = S.events house.old; written = written; now = S.events house.new }) fault) }
 {
     if is_again {
-        return run_again(alloc, reader, writer, config, house);
+        return run_script_by(alloc, reader, writer, config, house, &Again);
     }
     run_script(alloc, reader, writer, config, house)
 }

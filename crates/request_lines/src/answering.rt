@@ -1,6 +1,6 @@
-ghost use Rattle.std.specs.Prelude.{◌≡◌, ℕ, ◌+◌, ◌*◌, ◌^◌, ◌<◌, ◌≤◌, List, [], ◌∷◌, ◌++◌, length, take, true, false, IfOk, OnOk, OnErr, IfErr, MatchResult, All};
+ghost use Rattle.std.specs.Prelude.{◌≡◌, ℕ, ◌+◌, ◌^◌, ◌<◌, ◌≤◌, List, [], ◌∷◌, ◌++◌, length, take, true, false, IfOk, OnOk, OnErr, IfErr, MatchResult, All};
 ghost use Rattle.request_lines.specs.Lines.{IsShort, HasNoNewline, last_line, with_newline};
-ghost use Rattle.request_lines.specs.Answering.{Rule, Run, Input, IsDone, IsFault, is_read_fault, is_write_fault};
+ghost use Rattle.request_lines.specs.Answering.{Rule, IsDone, IsFault, is_read_fault, is_write_fault};
 ghost use Rattle.request_lines.specs.Inner.Progress.{HasAnswered, HasStopped, CannotKeep, state, read_line, read_last, read_from, whole_from, rest_from};
 
 use super::faults::{Count, Failed, ScriptFault};

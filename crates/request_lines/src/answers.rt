@@ -1,6 +1,6 @@
 //! The lines that answer requests.
 
-ghost use Rattle.std.specs.Prelude.{◌≡◌, ◌++◌, IfOk, [], codes, option_map};
+ghost use Rattle.std.specs.Prelude.{◌≡◌, ◌++◌, IfOk, codes};
 ghost use Rattle.request_lines.specs.Inner.Adding.{Adds};
 ghost use Rattle.request_lines.specs.Members.{amount_member, flag_member, number_member};
 ghost use Rattle.request_lines.specs.TableText.{positions_member};

@@ -73,25 +73,43 @@ pub fn is_out_of_memory(reply: &Result<Replied, Refused>) -> bool
     }
 }
 
-/// Answers one line. Where memory runs out, the house is as it was or as after the line.
-#[tactic(auto, unfolding(crate::specs::Script::answer_of))]
-pub fn respond<S: Sequential>(
-    alloc: Global,
-    room: &mut Room,
-    config: &Config,
-    house: &mut S,
-    line: &[u8],
-) -> Result<Vec<u8>, AllocError>
-    requires { S.config house.old ≡ config.now }
-    ensures config { S.config house.new ≡ S.config house.old }
-    ensures text { IfOk result (λ text. text.items ≡ answer_of config.now (S.events house.old) line.now) }
-    ensures ok { OnOk result (S.events house.new ≡ after config.now (S.events house.old) line.now) }
-    ensures err { OnErr result ((S.events house.new ≡ S.events house.old)
-        ⊎ (S.events house.new ≡ after config.now (S.events house.old) line.now)) }
-{
-    let reply = reply_to(alloc, room, config, house, line);
-    if is_out_of_memory(&reply) {
-        return Err(AllocError);
+/// A way to answer one line by a house.
+pub trait Respond {
+    /// Answers one line. Where memory runs out, the house is as it was or as after the line.
+    fn respond<S: Sequential>(
+        &self,
+        alloc: Global,
+        room: &mut Room,
+        config: &Config,
+        house: &mut S,
+        line: &[u8],
+    ) -> Result<Vec<u8>, AllocError>
+        requires { S.config house.old ≡ config.now }
+        ensures config { S.config house.new ≡ S.config house.old }
+        ensures text { IfOk result (λ text. text.items ≡ answer_of config.now (S.events house.old) line.now) }
+        ensures ok { OnOk result (S.events house.new ≡ after config.now (S.events house.old) line.now) }
+        ensures err { OnErr result ((S.events house.new ≡ S.events house.old)
+            ⊎ (S.events house.new ≡ after config.now (S.events house.old) line.now)) };
+}
+
+/// The line is read once, and its command done once.
+#[derive(Clone, Copy)]
+pub struct Once;
+
+impl Respond for Once {
+    #[tactic(auto, unfolding(crate::specs::Script::answer_of))]
+    fn respond<S: Sequential>(
+        &self,
+        alloc: Global,
+        room: &mut Room,
+        config: &Config,
+        house: &mut S,
+        line: &[u8],
+    ) -> Result<Vec<u8>, AllocError> {
+        let reply = reply_to(alloc, room, config, house, line);
+        if is_out_of_memory(&reply) {
+            return Err(AllocError);
+        }
+        answer_line(alloc, config, &reply)
     }
-    answer_line(alloc, config, &reply)
 }

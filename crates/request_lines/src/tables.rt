@@ -1,6 +1,6 @@
 //! Net positions and the rows of statements on an answer line.
 
-ghost use Rattle.std.specs.Prelude.{[], ◌∷◌, codes, flat_map};
+ghost use Rattle.std.specs.Prelude.{[], ◌∷◌, flat_map};
 ghost use Rattle.json.specs.Token.{begin_array, end_array, key};
 ghost use Rattle.request_lines.specs.Inner.Adding.{Adds};
 ghost use Rattle.request_lines.specs.TableText.{party_member, position_object, positions_member, row_members, row_object, rows_member, sum_members};
