@@ -1,0 +1,26 @@
+//! A bit of everything, over standard input and the files of the crate's folder `data`, where the program then has to run.
+
+use crate::fault::Fault;
+use crate::files::open;
+use crate::houses::Choice;
+use crate::measures::Asked;
+use crate::{copies, houses, json_rows, measures, readings};
+use std::thread::Threads;
+
+fn answer_by_all(rt: &HostRuntime) -> Result<(), Fault<'static>> {
+    for house in ["plain", "books", "plain-again", "books-again"] {
+        let choice = Choice::of(house, "config.json").ok_or(Fault::Usage)?;
+        houses::answer_lines(rt, choice, open(rt, "lines.jsonl")?)?;
+    }
+    Ok(())
+}
+
+/// Does a bit of everything.
+pub fn perform(rt: &HostRuntime, threads: &(impl Threads + Sync)) -> Result<(), Fault<'static>> {
+    json_rows::tell_rows(rt)?;
+    copies::copy_input(rt, rt.stdin())?;
+    copies::copy_input(rt, open(rt, "cdrs.jsonl")?)?;
+    readings::compare_lines(rt, open(rt, "readings.jsonl")?)?;
+    answer_by_all(rt)?;
+    measures::measure(rt, threads, &Asked::everything())
+}

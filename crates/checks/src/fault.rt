@@ -1,0 +1,100 @@
+//! What ends the program early, and the line that tells it.
+
+use ocpi_json::name::Name;
+use ocpi_types::ConfigFault;
+use request_lines::ScriptFault;
+use std::alloc::AllocError;
+use std::io;
+
+/// What ends the program early.
+#[derive(Clone, Copy)]
+pub enum Fault<'a> {
+    /// The command line has another form.
+    Usage,
+
+    ConfigSyntax,
+
+    /// The first member of the configuration that is missing, of a wrong kind or out of bounds.
+    ConfigMember { name: Name },
+
+    CannotRead { path: &'a str },
+
+    CannotReadInput,
+
+    CannotWrite,
+
+    /// The input's line of this number, from 1, is longer than a line may be.
+    LineTooLong { line: u128 },
+
+    NoMemory,
+
+    /// What was read is no input of copies, or could not be copied.
+    NoCopy,
+
+    /// Lines could not be read in both ways.
+    NotCompared,
+
+    /// A line is read in one way as it stands, and in another as its marked text.
+    ReadDifferently,
+
+    NotMeasured,
+
+    /// A row that was told is not as expected.
+    NotAsExpected,
+}
+
+impl From<AllocError> for Fault<'_> {
+    fn from(_error: AllocError) -> Self {
+        Fault::NoMemory
+    }
+}
+
+impl From<ConfigFault> for Fault<'_> {
+    fn from(cause: ConfigFault) -> Self {
+        match cause {
+            ConfigFault::Syntax => Fault::ConfigSyntax,
+            ConfigFault::Member { name } => Fault::ConfigMember { name },
+            ConfigFault::NoMemory => Fault::NoMemory,
+        }
+    }
+}
+
+impl From<ScriptFault> for Fault<'_> {
+    fn from(cause: ScriptFault) -> Self {
+        match cause {
+            ScriptFault::Read => Fault::CannotReadInput,
+            ScriptFault::Write { .. } => Fault::CannotWrite,
+            ScriptFault::NoMemory => Fault::NoMemory,
+            ScriptFault::LineTooLong { line } => Fault::LineTooLong { line },
+        }
+    }
+}
+
+impl Fault<'_> {
+    /// The exit status.
+    pub fn status(&self) -> u8 {
+        match self {
+            Fault::Usage => 2,
+            _ => 1,
+        }
+    }
+}
+
+/// Tells the fault in one line on standard error.
+pub fn tell(rt: &HostRuntime, fault: &Fault<'_>) -> io::Result<()> {
+    match *fault {
+        Fault::Usage => eprintln!(rt; "checks: usage"),
+        Fault::ConfigSyntax => eprintln!(rt; "checks: config: syntax"),
+        Fault::ConfigMember { name } => eprintln!(rt; "checks: config: {}", name.key()),
+        Fault::CannotRead { path } => eprintln!(rt; "checks: cannot read {path}"),
+        Fault::CannotReadInput => eprintln!(rt; "checks: cannot read -"),
+        Fault::CannotWrite => eprintln!(rt; "checks: cannot write"),
+        Fault::LineTooLong { line } => eprintln!(rt; "checks: line {line} is too long"),
+        Fault::NoMemory => eprintln!(rt; "checks: no memory"),
+        Fault::NoCopy => eprintln!(rt; "checks: no copy"),
+        Fault::NotCompared => eprintln!(rt; "checks: not compared"),
+        Fault::ReadDifferently => eprintln!(rt; "checks: read differently"),
+        Fault::NotMeasured => eprintln!(rt; "checks: not measured"),
+        Fault::NotAsExpected => eprintln!(rt; "checks: not as expected"),
+    }
+}

@@ -1,0 +1,38 @@
+//! Lines answered by one house or the other. What memory was refused for can be done once more: all that comes before the
+//! first read, and then the reading, the command and the answer of each line.
+
+mod again;
+mod answering;
+mod choice;
+
+use crate::fault::Fault;
+use crate::files::read_config;
+use answering::answer;
+pub use choice::Choice;
+use request_lines::Device;
+use std::io::Read;
+
+fn answer_under_config<'a, R: Read>(
+    rt: &HostRuntime,
+    choice: Choice<'a>,
+    reader: &mut Device<R>,
+) -> Result<(), Fault<'a>> {
+    let file = read_config(rt, rt.alloc(), choice.config)?;
+    let mut writer = Device::new(rt.stdout());
+    answer(rt.alloc(), choice, file.as_slice(), reader, &mut writer)
+}
+
+/// Answers the lines of the reader on standard output.
+pub fn answer_lines<'a, R: Read + Drop>(
+    rt: &HostRuntime,
+    choice: Choice<'a>,
+    reader: R,
+) -> Result<(), Fault<'a>> {
+    let mut reader = Device::new(reader);
+    match answer_under_config(rt, choice, &mut reader) {
+        Err(Fault::NoMemory) if choice.is_again && reader.reads == 0 => {
+            answer_under_config(rt, choice, &mut reader)
+        }
+        ended => ended,
+    }
+}

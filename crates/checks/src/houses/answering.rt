@@ -1,0 +1,79 @@
+//! The lines of a reader, answered by a house of the kind that is asked for.
+
+ghost use Rattle.std.specs.Prelude.{◌≡◌, ◌≤◌, ◌^◌, ℕ, List, MatchResult};
+ghost use Rattle.request_lines.specs.Answering.{IsDone, IsFault};
+ghost use Rattle.request_lines.specs.Script.{script_rule};
+
+use super::again::Again;
+use super::choice::{Choice, Kind};
+use crate::fault::Fault;
+use ocpi_types::{Config, TryCopy};
+use period_order::BookHouse;
+use plain_house::{PlainHouse, Sequential};
+use request_lines::{Count, ScriptFault, Sink, Source, run_script, run_script_by};
+use std::alloc::Global;
+
+// Answers the lines of the reader in turn, until it ends: those that `run_script` gives.
+fn run<R: Source, W: Sink, S: Sequential>(
+    alloc: Global,
+    reader: &mut R,
+    writer: &mut W,
+    config: &Config,
+    house: &mut S,
+    is_again: bool,
+) -> Result<Count, ScriptFault>
+    requires { S.config house.old ≡ config.now }
+    // So many calls gave these bytes, and what was written answers all their lines, or those that the fault says.
+    ensures told { (calls : ℕ) × (bytes : List ℕ) × (written : List ℕ) × (calls ≤ 2 ^ 40)
+        × R.gives reader.old calls bytes reader.new × W.takes writer.old written writer.new
+        × MatchResult result
+        (λ count. IsDone (script_rule config.now) bytes
+        (record { start = S.events house.old; written = written; now = S.events house.new }) count)
+        (λ fault. IsFault (script_rule config.now)
+        (record { calls = calls; bytes = bytes; has_failed = R.failed reader.new; at_end = R.at_end reader.new })
+        (record { start = S.events house.old; written = written; now = S.events house.new }) fault) }
+{
+    if is_again {
+        return run_script_by(alloc, reader, writer, config, house, &Again);
+    }
+    run_script(alloc, reader, writer, config, house)
+}
+
+fn answer_by_list<R: Source, W: Sink>(
+    alloc: Global,
+    config: &Config,
+    is_again: bool,
+    reader: &mut R,
+    writer: &mut W,
+) -> Result<(), Fault<'static>> {
+    let mut house = PlainHouse::new(alloc, config.copy(alloc)?);
+    run(alloc, reader, writer, config, &mut house, is_again)?;
+    Ok(())
+}
+
+fn answer_by_books<R: Source, W: Sink>(
+    alloc: Global,
+    config: &Config,
+    is_again: bool,
+    reader: &mut R,
+    writer: &mut W,
+) -> Result<(), Fault<'static>> {
+    let mut house = BookHouse::new(alloc, config.copy(alloc)?)?;
+    run(alloc, reader, writer, config, &mut house, is_again)?;
+    Ok(())
+}
+
+/// Answers the lines of the reader under the configuration of these bytes.
+pub fn answer<R: Source, W: Sink>(
+    alloc: Global,
+    choice: Choice<'_>,
+    file: &[u8],
+    reader: &mut R,
+    writer: &mut W,
+) -> Result<(), Fault<'static>> {
+    let config = Config::read(alloc, file)?;
+    match choice.kind {
+        Kind::Plain => answer_by_list(alloc, &config, choice.is_again, reader, writer),
+        Kind::Books => answer_by_books(alloc, &config, choice.is_again, reader, writer),
+    }
+}

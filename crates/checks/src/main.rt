@@ -1,0 +1,79 @@
+//! A developer's program: it shows what no contract says, and measures. Its words say what:
+//!
+//! - `plain CONFIG` and `books CONFIG` answer the lines of standard input, by the house of one list of events or by that of
+//!   books and accounts. `plain-again CONFIG` and `books-again CONFIG` do once more what memory was refused for, and so show
+//!   whether a house that memory was refused to is as it was.
+//! - `copies` copies what standard input has, and `readings` reads each of its lines in two ways.
+//! - `measure [SUBJECT [PART [NUMBER]]]` does the work that is measured.
+//! - `json` tells row by row whether `ocpi_json` reads and keeps texts as expected.
+//!
+//! Without words it does a bit of everything. A fault is told on standard error, with status 2 for words of another form
+//! and else with status 1.
+#![tactic(auto)]
+
+mod copies;
+mod everything;
+mod fault;
+mod files;
+mod houses;
+mod json_rows;
+mod measures;
+mod readings;
+mod words;
+
+use fault::{Fault, tell};
+use std::alloc::Global;
+use std::env;
+use std::io::ErrorKind;
+use std::process::ExitCode;
+use std::thread::Threads;
+use words::{Job, job_of};
+
+// The words of the command line, the program's name first.
+fn given_words(rt: &HostRuntime, alloc: Global) -> Result<Vec<String>, Fault<'static>> {
+    let args = match env::args(rt) {
+        Ok(args) => args,
+        Err(error) if error.kind() == ErrorKind::OutOfMemory => return Err(Fault::NoMemory),
+        Err(_) => return Err(Fault::Usage),
+    };
+    Ok(args.collect::<Vec<String>>(alloc)?)
+}
+
+// The words alone say whether anything is done once more, so they are always asked for again.
+fn words_again(rt: &HostRuntime, alloc: Global) -> Result<Vec<String>, Fault<'static>> {
+    match given_words(rt, alloc) {
+        Err(Fault::NoMemory) => given_words(rt, alloc),
+        words => words,
+    }
+}
+
+fn perform<'a>(
+    rt: &HostRuntime,
+    threads: &(impl Threads + Sync),
+    words: &'a [String],
+) -> Result<(), Fault<'a>> {
+    match job_of(words)? {
+        Job::Everything => everything::perform(rt, threads),
+        Job::Answer(choice) => houses::answer_lines(rt, choice, rt.stdin()),
+        Job::Copies => copies::copy_input(rt, rt.stdin()),
+        Job::Readings => readings::compare_lines(rt, rt.stdin()),
+        Job::Measure(asked) => measures::measure(rt, threads, &asked),
+        Job::Json => json_rows::tell_rows(rt),
+    }
+}
+
+fn told(rt: &HostRuntime, fault: &Fault<'_>) -> ExitCode {
+    let _ = tell(rt, fault);
+    ExitCode::from(fault.status())
+}
+
+fn main(rt: HostRuntime) -> ExitCode {
+    let words = match words_again(&rt, rt.alloc()) {
+        Ok(words) => words,
+        Err(fault) => return told(&rt, &fault),
+    };
+    match perform(&rt, &rt, words.as_slice()) {
+        Ok(()) => ExitCode::SUCCESS,
+        Err(fault) => told(&rt, &fault),
+    }
+}
