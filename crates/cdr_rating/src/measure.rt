@@ -7,7 +7,7 @@ use ocpi_types::StepSize;
 use ocpi_types::members::Quantity;
 
 /// What a volume is measured in: millionths of a kWh, or seconds.
-#[derive(Clone, Copy, Debug, PartialEq, Eq)]
+#[derive(Clone, Copy, PartialEq, Eq)]
 pub enum Measure {
     Energy,
     Time,

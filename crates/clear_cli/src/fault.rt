@@ -11,7 +11,7 @@ use request_lines::{ScriptFault, Sink, write_all};
 use std::alloc::AllocError;
 
 /// What ends the program early.
-#[derive(Clone, Copy, Debug, PartialEq, Eq)]
+#[derive(Clone, Copy, PartialEq, Eq)]
 pub enum Fault<'a> {
     /// The command line has another form.
     Usage,

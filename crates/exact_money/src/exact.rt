@@ -8,7 +8,7 @@ use std::marker::Model;
 /// A sum with nothing rounded, in units of 1/(9 * 10^12) of the currency unit: at most 10^37 of them.
 ///
 /// Prices per kWh, per hour and flat, in millionths, all come to whole such units.
-#[derive(Clone, Copy, Debug, PartialEq, Eq, PartialOrd, Ord)]
+#[derive(Clone, Copy, PartialEq, Eq, PartialOrd, Ord)]
 pub struct Exact {
     units: u128,
 }

@@ -9,7 +9,7 @@ ghost use Rattle.exact_money.specs.Millionths.{MillionthsOfIsValue};
 use std::marker::Model;
 
 /// A whole number of millionths, as of a price or of a quantity: at most 10^15 either way.
-#[derive(Clone, Copy, Debug, PartialEq, Eq, PartialOrd, Ord)]
+#[derive(Clone, Copy, PartialEq, Eq, PartialOrd, Ord)]
 pub struct Millionths {
     value: i64,
 }

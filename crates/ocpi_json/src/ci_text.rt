@@ -8,7 +8,7 @@ use std::alloc::AllocError;
 use std::cmp::Ordering;
 use std::hash::{Hash, Hasher};
 use std::marker::Model;
-use std::{fmt, str};
+use std::str;
 
 /// A CiString of OCPI 2.2.1, chapter 'Types': at most `MOST` bytes of printable ASCII, bytes 32 to 126. It is kept as
 /// written, and compared with its letters folded.
@@ -165,11 +165,5 @@ impl<const MOST: usize> Hash for CiText<MOST> {
         let mut folded = self.cells;
         folded.make_ascii_lowercase();
         state.write(&folded[..self.len]);
-    }
-}
-
-impl<const MOST: usize> fmt::Debug for CiText<MOST> {
-    fn fmt<W: fmt::Write>(&self, f: &mut fmt::Formatter<W>) -> fmt::Result {
-        fmt::Debug::fmt(&self.as_str(), f)
     }
 }

@@ -21,7 +21,7 @@ use jiff::civil::{Date, Time};
 use std::alloc::{AllocError, AllocFailed, Global};
 
 /// Why an object was not read.
-#[derive(Clone, Copy, Debug, PartialEq, Eq)]
+#[derive(Clone, Copy, PartialEq, Eq)]
 pub enum FieldFault {
     /// The member that is missing or not of its kind.
     Field(Name),

@@ -2,8 +2,6 @@
 
 ghost use Rattle.std.specs.Prelude.{◌≡◌};
 
-use std::fmt;
-
 /// The name of a member of an object.
 #[derive(Clone, Copy, PartialEq, Eq)]
 pub enum Name {
@@ -170,11 +168,5 @@ impl Name {
             Name::Reference => "reference",
             Name::Period => "period",
         }
-    }
-}
-
-impl fmt::Debug for Name {
-    fn fmt<W: fmt::Write>(&self, f: &mut fmt::Formatter<W>) -> fmt::Result {
-        fmt::Debug::fmt(&self.key(), f)
     }
 }

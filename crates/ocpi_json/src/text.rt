@@ -5,7 +5,7 @@ use std::alloc::{AllocError, Global};
 use std::marker::Model;
 
 /// Any text, kept as written and compared byte by byte.
-#[derive(Debug, Drop)]
+#[derive(Drop)]
 pub struct Text {
     written: String,
 }

@@ -6,7 +6,7 @@ use ocpi_json::objects::{FromNode, FromText};
 use ocpi_json::{Node, fields};
 
 /// How a session was authorised (OCPI 2.2.1, AuthMethod enum).
-#[derive(Clone, Copy, Debug, PartialEq, Eq)]
+#[derive(Clone, Copy, PartialEq, Eq)]
 pub enum AuthMethod {
     AuthRequest,
     Command,

@@ -5,7 +5,7 @@ use ocpi_json::objects::{FromNode, FromText};
 use ocpi_json::{Node, fields};
 
 /// What a price component charges for (OCPI 2.2.1, TariffDimensionType enum).
-#[derive(Clone, Copy, Debug, PartialEq, Eq)]
+#[derive(Clone, Copy, PartialEq, Eq)]
 pub enum ComponentKind {
     Energy,
     Flat,
@@ -17,7 +17,7 @@ pub enum ComponentKind {
 pub type StepSize = AtMost<1_000_000_000>;
 
 /// A price per kWh, per hour or once (OCPI 2.2.1, PriceComponent object). Its `type` is the field `kind`.
-#[derive(Clone, Copy, Debug, PartialEq, Eq)]
+#[derive(Clone, Copy, PartialEq, Eq)]
 pub struct PriceComponent {
     pub kind: ComponentKind,
     /// In millionths of the currency unit.

@@ -59,7 +59,7 @@ pub struct Platform {
 }
 
 /// How many of each the house keeps.
-#[derive(Clone, Copy, Debug, PartialEq, Eq)]
+#[derive(Clone, Copy, PartialEq, Eq)]
 pub struct Limits {
     /// CDRs of an operator.
     pub cdrs: AtMost<100_000>,

@@ -9,7 +9,7 @@ use std::marker::Model;
 use std::str;
 
 /// A currency by its ISO 4217 code of three letters A to Z, compared exactly (OCPI 2.2.1, CDR object, `currency`).
-#[derive(Debug, PartialEq, Eq, PartialOrd, Ord, Hash)]
+#[derive(PartialEq, Eq, PartialOrd, Ord, Hash)]
 pub struct Currency {
     letters: [u8; 3],
 }

@@ -1,7 +1,7 @@
 use ocpi_json::objects::FromText;
 
 /// A day of the week (OCPI 2.2.1, DayOfWeek enum).
-#[derive(Clone, Copy, Debug, PartialEq, Eq)]
+#[derive(Clone, Copy, PartialEq, Eq)]
 pub enum DayOfWeek {
     Monday,
     Tuesday,

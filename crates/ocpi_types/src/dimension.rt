@@ -13,7 +13,7 @@ use ocpi_json::text::Text;
 use std::alloc::{AllocError, Global};
 
 /// What a volume counts (OCPI 2.2.1, CdrDimensionType enum). Every text that is none of the four is kept.
-#[derive(Debug, Drop)]
+#[derive(Drop)]
 pub enum DimensionKind {
     Energy,
     ParkingTime,
@@ -23,7 +23,7 @@ pub enum DimensionKind {
 }
 
 /// A volume of a charging period (OCPI 2.2.1, CdrDimension object). Its `type` is the field `kind`.
-#[derive(Debug, Drop)]
+#[derive(Drop)]
 pub struct Dimension {
     pub kind: DimensionKind,
     /// In millionths of a kWh, of an hour, or of the unit of another kind.

@@ -12,7 +12,7 @@ use std::fmt;
 
 /// A party by its country code and party id (OCPI 2.2.1, 'Credentials': ISO 3166 country code and party id), both
 /// case insensitive.
-#[derive(Clone, Copy, Debug, PartialEq, Eq, PartialOrd, Ord, Hash)]
+#[derive(Clone, Copy, PartialEq, Eq, PartialOrd, Ord, Hash)]
 pub struct Party {
     pub country_code: CiText<2>,
     pub party_id: CiText<3>,

@@ -5,7 +5,7 @@ use exact_money::Amount;
 use ocpi_json::name::Name;
 
 /// What has reached its configured limit.
-#[derive(Clone, Copy, Debug, PartialEq, Eq)]
+#[derive(Clone, Copy, PartialEq, Eq)]
 pub enum Store {
     /// The CDRs of an operator.
     Cdrs,
@@ -34,7 +34,7 @@ impl Store {
 }
 
 /// Why a request is refused. Where several conditions hold, the first in the order of the numbers is told.
-#[derive(Clone, Copy, Debug, PartialEq, Eq)]
+#[derive(Clone, Copy, PartialEq, Eq)]
 pub enum Refusal {
     /// The line is no JSON.
     Syntax,

@@ -21,7 +21,7 @@ use std::alloc::{AllocError, Global};
 pub type Seconds = AtMost<999_999_999_999_999_999>;
 
 /// Which bounds on current and power are given. What they are is not kept.
-#[derive(Clone, Copy, Debug, PartialEq, Eq)]
+#[derive(Clone, Copy, PartialEq, Eq)]
 pub struct ElectricBounds {
     pub min_current: bool,
     pub max_current: bool,

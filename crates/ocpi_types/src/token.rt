@@ -6,7 +6,7 @@ use ocpi_json::objects::{FromNode, FromText};
 use ocpi_json::{Node, fields};
 
 /// The type of a token (OCPI 2.2.1, TokenType enum).
-#[derive(Clone, Copy, Debug, PartialEq, Eq, Hash)]
+#[derive(Clone, Copy, PartialEq, Eq, Hash)]
 pub enum TokenKind {
     AdHocUser,
     AppUser,

@@ -1,5 +1,5 @@
 /// Where an entry of a book or of an account stands.
-#[derive(Clone, Copy, Debug, PartialEq, Eq)]
+#[derive(Clone, Copy, PartialEq, Eq)]
 pub struct Place {
     /// The number of the operator or provider in the configuration, from 0.
     pub party: usize,
@@ -8,7 +8,7 @@ pub struct Place {
 }
 
 /// What the order keeps of an event.
-#[derive(Clone, Copy, Debug, PartialEq, Eq)]
+#[derive(Clone, Copy, PartialEq, Eq)]
 pub enum OrderEntry {
     InBook { book: Place },
     InAccount { account: Place },

@@ -116,7 +116,7 @@ pub struct Replied {
 }
 
 /// A refusal, and the number of events before it where the house refuses.
-#[derive(Clone, Copy, Debug, PartialEq, Eq)]
+#[derive(Clone, Copy, PartialEq, Eq)]
 pub struct Refused {
     pub at: Option<u64>,
     pub refusal: Refusal,

@@ -5,7 +5,7 @@ use ocpi_types::Cost;
 use std::marker::Model;
 
 /// The amount at which a CDR or a Credit CDR is booked: at most 10^12 ten-thousandths either way.
-#[derive(Clone, Copy, Debug, PartialEq, Eq)]
+#[derive(Clone, Copy, PartialEq, Eq)]
 pub struct BookedAmount {
     amount: Amount,
 }

@@ -9,7 +9,7 @@ pub struct Record {
 }
 
 /// A record that is not rated at what was booked.
-#[derive(Clone, Copy, Debug, PartialEq, Eq)]
+#[derive(Clone, Copy, PartialEq, Eq)]
 pub struct Difference {
     /// The record's place in the list, from 0.
     pub index: u64,

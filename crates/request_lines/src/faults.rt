@@ -1,5 +1,5 @@
 /// How a script ended before its reader did.
-#[derive(Clone, Copy, Debug, PartialEq, Eq)]
+#[derive(Clone, Copy, PartialEq, Eq)]
 pub enum ScriptFault {
     /// The reader failed, or still had bytes after the most read calls.
     Read,
@@ -14,12 +14,12 @@ pub enum ScriptFault {
 }
 
 /// The lines and bytes that a script has read to its end.
-#[derive(Clone, Copy, Debug, PartialEq, Eq)]
+#[derive(Clone, Copy, PartialEq, Eq)]
 pub struct Count {
     pub lines: u128,
     pub bytes: u128,
 }
 
 /// A read or write call has failed.
-#[derive(Clone, Copy, Debug, PartialEq, Eq)]
+#[derive(Clone, Copy, PartialEq, Eq)]
 pub struct Failed;

@@ -19,7 +19,7 @@ use ocpi_types::{Cdr, Refusal, Tariff, Token, TokenKind, members};
 use std::alloc::Global;
 
 /// The commands of request lines, as the member `do` names them.
-#[derive(Clone, Copy, Debug, PartialEq, Eq)]
+#[derive(Clone, Copy, PartialEq, Eq)]
 pub enum CommandName {
     PutTariff,
     PutToken,

@@ -19,7 +19,7 @@ use ocpi_json::{Node, ReadFault, Room};
 use std::alloc::Global;
 
 /// Why a configuration was not read.
-#[derive(Clone, Copy, Debug, PartialEq, Eq)]
+#[derive(Clone, Copy, PartialEq, Eq)]
 pub enum ConfigFault {
     /// It is no JSON, or longer than 1,048,576 bytes.
     Syntax,
