@@ -1,8 +1,11 @@
--- Laws of rounding and of splitting a volume of energy.
-use Rattle.std.specs.Prelude.{◌≡◌, ◌↔◌, ℕ, ◌+◌, ◌%◌, ◌<◌, ◌≤◌, List, [], ◌∷◌, ◌++◌}
+-- Laws of rounding, of splitting a volume of energy, and of CDRs that are the same.
+use Rattle.std.specs.Prelude.{◌≡◌, ◌↔◌, IsTrue, ℕ, ◌+◌, ◌%◌, ◌<◌, ◌≤◌, List, [], ◌∷◌, ◌++◌}
 use Rattle.exact_money.specs.Exact.{IsRoundedHalfUp}
+use Rattle.jiff.specs.Types.{TimeZone as PlainZone}
+use Rattle.ocpi_types.specs.declared.cdr.Cdr.{Cdr}
+use Rattle.ocpi_types.specs.SameCdr.{same_cdr}
 use Rattle.cdr_rating.specs.declared.tally.Priced.{Priced}
-use Rattle.cdr_rating.specs.Price.{up_to_step, energy_cost, rounded}
+use Rattle.cdr_rating.specs.Price.{up_to_step, energy_cost, price, rounded}
 
 -- with x more, the volume is a multiple of the step, and with less it is none
 pub record IsLeastUpTo (step volume x : ℕ) : Type 0 where
@@ -26,3 +29,7 @@ EnergySplitsAtNoCost =
     (before after : List Priced) (price step_size first second : ℕ)
     → energy_cost (before ++ (one_priced price step_size first ++ (one_priced price step_size second ++ after)))
     ≡ energy_cost (before ++ (one_priced price step_size (first + second) ++ after))
+
+-- CDRs with the same content cost the same
+abbrev pub SameCdrsCostTheSame : Type 0
+SameCdrsCostTheSame = (a b : Cdr) (zone : PlainZone) → IsTrue (same_cdr a b) → price a zone ≡ price b zone

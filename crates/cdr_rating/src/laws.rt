@@ -1,4 +1,6 @@
-ghost use Rattle.cdr_rating.specs.Law.{EnergySplitsAtNoCost, RoundedIsHalfUp, UpToStepIsLeast};
+ghost use Rattle.cdr_rating.specs.Law.{EnergySplitsAtNoCost, RoundedIsHalfUp, SameCdrsCostTheSame, UpToStepIsLeast};
+
+use ocpi_types::laws::same_cdrs_are_equal_folded;
 
 /// A law: a volume is rounded up to a step by the least that makes it a multiple of the step.
 pub fn up_to_step_is_least()
@@ -17,3 +19,10 @@ pub fn rounded_is_half_up()
 pub fn energy_splits_at_no_cost()
     ensures { EnergySplitsAtNoCost }
 {}
+
+/// A law: CDRs with the same content cost the same.
+pub fn same_cdrs_cost_the_same()
+    ensures { SameCdrsCostTheSame }
+{
+    same_cdrs_are_equal_folded();
+}

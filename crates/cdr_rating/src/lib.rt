@@ -9,7 +9,9 @@ mod pricing;
 mod tally;
 mod volumes;
 
-pub use laws::{energy_splits_at_no_cost, rounded_is_half_up, up_to_step_is_least};
+pub use laws::{
+    energy_splits_at_no_cost, rounded_is_half_up, same_cdrs_cost_the_same, up_to_step_is_least,
+};
 pub use ocpi_types::Zone;
 pub use price::rate;
 pub use pricing::lacks_tariff;
