@@ -1,5 +1,6 @@
 pub mod AmongLemmas
 pub mod BalanceLemmas
+pub mod BalancedLists
 pub mod ByOperator
 pub mod Capitals
 pub mod DifferentLemmas

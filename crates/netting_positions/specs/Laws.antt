@@ -7,7 +7,7 @@ use Rattle.ocpi_types.specs.Different.{all_different}
 use Rattle.ocpi_types.specs.Party.{same_party}
 use Rattle.ocpi_types.specs.declared.config.Config.{Config}
 use Rattle.ocpi_types.specs.declared.party.Party.{Party}
-use Rattle.netting_positions.specs.Netting.{are_among, is_among, is_configured, net_position, parties, total}
+use Rattle.netting_positions.specs.Netting.{IsBalanced, are_among, is_among, is_configured, net_position, net_positions, parties, total}
 use Rattle.netting_positions.specs.Statement.{key_of, key_order, keys_of, same_key, statement_rows}
 use Rattle.netting_positions.specs.declared.row.Key.{Key}
 use Rattle.netting_positions.specs.declared.obligation.Obligation.{Obligation}
@@ -18,6 +18,13 @@ PositionsBalance =
     (parties : List Party) (obligations : List Obligation) (currency : List ℕ)
     → all_different same_party parties ≡ true → are_among parties obligations ≡ true
     → total (map (λ party. net_position party currency obligations) parties) ≡ pos 0
+
+-- and the list of the net positions of all parties in some currencies is balanced
+abbrev pub NetPositionsAreBalanced : Type 0
+NetPositionsAreBalanced =
+    (parties : List Party) (currencies : List (List ℕ)) (obligations : List Obligation)
+    → all_different same_party parties ≡ true → are_among parties obligations ≡ true
+    → IsBalanced (net_positions parties currencies obligations)
 
 -- where no two operators and no two providers are the same party, no two of the parties are
 abbrev pub PartiesAreDifferent : Type 0

@@ -1,5 +1,5 @@
 -- Multilateral netting: what a party is to receive from all others less what it is to pay to them, by currency.
-use Rattle.std.specs.Prelude.{ℕ, ℤ, pos, ◌+ℤ◌, ◌-ℤ◌, unsigned_abs, List, [], ◌∷◌, ◌++◌, Bool, not, ◌&&◌, map, filter, flat_map, sum_by}
+use Rattle.std.specs.Prelude.{◌≡◌, ℕ, ℤ, pos, ◌+ℤ◌, ◌-ℤ◌, unsigned_abs, List, [], ◌∷◌, ◌++◌, Bool, not, ◌&&◌, map, filter, flat_map, sum_by}
 use Rattle.std.specs.List.{list_any, list_all}
 use Rattle.ocpi_types.specs.Config.{has_currency_among, is_operator}
 use Rattle.ocpi_types.specs.Currency.{same_currency}
@@ -76,3 +76,7 @@ position obligations currency party =
 abbrev pub net_positions : List Party → List (List ℕ) → List Obligation → List NetPosition
 net_positions parties currencies obligations =
     flat_map (λ currency. map (position obligations currency) parties) currencies
+
+-- in each currency the net positions of a list add up to 0
+abbrev pub IsBalanced : List NetPosition → Type 0
+IsBalanced rows = (currency : List ℕ) → total (map (λ row. row.net) (filter (λ row. same_currency row.currency currency) rows)) ≡ pos 0

@@ -1,11 +1,16 @@
 //! What follows from the definitions.
 
-ghost use Rattle.netting_positions.specs.Laws.{PartiesAreConfigured, PartiesAreDifferent, PositionsBalance, StatementsAreInOrder, StatementsAreShort};
+ghost use Rattle.netting_positions.specs.Laws.{NetPositionsAreBalanced, PartiesAreConfigured, PartiesAreDifferent, PositionsBalance, StatementsAreInOrder, StatementsAreShort};
 ghost use Rattle.netting_positions.specs.SameSums.{JoinedListsOweAlike, OperatorsOweAlike, SumsDecideNetPositions, SumsDecideStatements};
 
 /// In each currency the net positions of all parties add up to 0.
 pub fn positions_balance()
     ensures { PositionsBalance }
+{}
+
+/// In each currency the rows of a list of all parties' net positions add up to 0.
+pub fn net_positions_are_balanced()
+    ensures { NetPositionsAreBalanced }
 {}
 
 /// No two parties of a configuration are the same.

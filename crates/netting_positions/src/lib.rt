@@ -9,9 +9,9 @@ mod row;
 mod statement;
 
 pub use laws::{
-    joined_lists_owe_alike, operators_owe_alike, parties_are_configured, parties_are_different,
-    positions_balance, statements_are_in_order, statements_are_short, sums_decide_net_positions,
-    sums_decide_statements,
+    joined_lists_owe_alike, net_positions_are_balanced, operators_owe_alike,
+    parties_are_configured, parties_are_different, positions_balance, statements_are_in_order,
+    statements_are_short, sums_decide_net_positions, sums_decide_statements,
 };
 pub use obligation::Obligation;
 pub use positions::{NetPosition, Positions};

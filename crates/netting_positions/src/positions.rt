@@ -9,6 +9,7 @@ ghost use Rattle.netting_positions.specs.Netting.{net_positions, parties, positi
 ghost use Rattle.netting_positions.specs.Inner.Rows.{HasRoom, net_with, with_net};
 
 use super::history::History;
+use super::laws::net_positions_are_balanced;
 use super::obligation::Obligation;
 use exact_money::Amount;
 use ocpi_json::sequence::Sequence;
@@ -146,7 +147,9 @@ impl Model for Positions {
 
 impl Positions {
     ghost use Rattle.std.specs.Prelude.{◌≡◌, ◌+◌, ◌<◌, ◌^◌, [], ◌∷◌, ◌++◌, true, IfOk};
-    ghost use Rattle.netting_positions.specs.Netting.{is_configured, net_position, net_positions, parties, size, total_size};
+    ghost use Rattle.ocpi_types.specs.Different.{all_different};
+    ghost use Rattle.ocpi_types.specs.Party.{same_party};
+    ghost use Rattle.netting_positions.specs.Netting.{IsBalanced, are_among, is_configured, net_position, net_positions, parties, size, total_size};
 
     /// No obligations yet, of all parties of the configuration.
     pub fn new(alloc: Global, config: &Config) -> Result<Positions, AllocError>
@@ -189,8 +192,10 @@ impl Positions {
 
     /// All net positions, by currency and then by party, without taking memory.
     pub fn into_list(self) -> Sequence<NetPosition>
-        ensures { result ≡ net_positions self.parties self.currencies self.obligations }
+        ensures value { result ≡ net_positions self.parties self.currencies self.obligations }
+        ensures balanced { all_different same_party self.parties ≡ true → are_among self.parties self.obligations ≡ true → IsBalanced result }
     {
+        net_positions_are_balanced();
         Sequence::from_vec(self.rows)
     }
 }

@@ -4,19 +4,20 @@ use Rattle.std.specs.List.{list_all}
 use Rattle.ocpi_types.specs.declared.config.Config.{Config}
 use Rattle.ocpi_types.specs.Config.{has_currency_among}
 use Rattle.cdr_checks.specs.Law.{PostsAreChecked}
-use Rattle.netting_positions.specs.Laws.{PartiesAreDifferent, PositionsBalance}
+use Rattle.netting_positions.specs.Laws.{NetPositionsAreBalanced, PartiesAreDifferent, PositionsBalance}
 use Rattle.netting_positions.specs.Netting.{are_among, is_among, is_configured, parties}
 use Rattle.netting_positions.specs.declared.obligation.Obligation.{Obligation}
 use Rattle.plain_house.specs.declared.event.Event.{Event}
 use Rattle.plain_house.specs.declared.event.Event.TheVariants as event
 use Rattle.plain_house.specs.Booked.{booked}
 use Rattle.plain_house.specs.Entries.{book_entries, book_entries_from, book_entry, is_close, period_after, period_of}
-use Rattle.plain_house.specs.LegalLists.{LegalPositionsBalance}
+use Rattle.plain_house.specs.Legal.{IsLegal}
+use Rattle.plain_house.specs.LegalLists.{ClosedPositionsBalance, LegalPositionsBalance}
 use Rattle.plain_house.specs.Obligations.{ClosedPeriodsStay, obligation_of, obligations}
 use Rattle.plain_house.proofs.DatedLemmas.{entries_split}
 use Rattle.plain_house.proofs.NettingLemmas.{all_configured}
 use Rattle.plain_house.proofs.ObligationLemmas.{next_obligations, obligations-append}
-use Rattle.plain_house.proofs.SoundLemmas.{legal_sound}
+use Rattle.plain_house.proofs.ListEntryLemmas.{legal_sound}
 
 -- ---- closed periods
 
@@ -68,7 +69,16 @@ all_among config (o ∷ found) h =
     by true false c d rest g = absurd (cc)
     by false b c d rest g = absurd (cc)
 
+-- what is obliged to in a period is among the parties
+module _ (law : PostsAreChecked) (config : Config) (events : List Event) (period : ℕ) (legal : IsLegal config events) where
+  legal_among : are_among (parties config) (obligations period (book_entries events)) ≡ true
+  legal_among =
+      all_among config (obligations period (book_entries events)) (all_configured config period (booked (book_entries events)) (legal_sound law config events legal).each)
+
 pub balanced : PartiesAreDifferent → PositionsBalance → PostsAreChecked → LegalPositionsBalance
 balanced different balance law config events period currency operators providers legal =
-    balance (parties config) (obligations period (book_entries events)) currency (different config operators providers)
-    (all_among config (obligations period (book_entries events)) (all_configured config period (booked (book_entries events)) (legal_sound law config events legal).each))
+    balance (parties config) (obligations period (book_entries events)) currency (different config operators providers) (legal_among law config events period legal)
+
+pub closed_balanced : PartiesAreDifferent → NetPositionsAreBalanced → PostsAreChecked → ClosedPositionsBalance
+closed_balanced different balance law config events period operators providers legal =
+    balance (parties config) config.currencies (obligations period (book_entries events)) (different config operators providers) (legal_among law config events period legal)

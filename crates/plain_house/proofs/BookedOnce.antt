@@ -140,14 +140,14 @@ charge_has before cdr cost later unknown = (
 
 -- an original that is booked stays booked
 credit_has : (before : List Event) (cdr : Cdr) (amount : ℤ) (later : List Event) → IsBookable before (event.Credit cdr amount)
-    → HasCdr (book_entries (before ++ event.Credit cdr amount ∷ later)) (account.Credit (credit_of cdr (period_of before)))
+    → HasCdr (book_entries (before ++ event.Credit cdr amount ∷ later)) (account.Credit (credit_of cdr amount (period_of before)))
 credit_has before cdr amount later (original, named, same) = by cdr.credit refl named
   where
     more : List BookEntry
     more = book_entry (event.Credit cdr amount) (period_of before) ++ book_entries_from (period_of (before ++ event.Credit cdr amount ∷ [])) later
 
     by : (o : Option (List ℕ)) → cdr.credit ≡ o → option_and_then (λ id. booked_as cdr.operator id (book_entries before)) o ≡ Some original
-        → HasCdr (book_entries (before ++ event.Credit cdr amount ∷ later)) (account.Credit (credit_of cdr (period_of before)))
+        → HasCdr (book_entries (before ++ event.Credit cdr amount ∷ later)) (account.Credit (credit_of cdr amount (period_of before)))
     by None e g = absurd (cc)
     by (Some id) e g = (
       id,

@@ -1,3 +1,4 @@
+pub mod AddedLemmas
 pub mod BookedLemmas
 pub mod BookedOnce
 pub mod BookingLemmas
@@ -6,11 +7,15 @@ pub mod ChargeLemmas
 pub mod DatedLemmas
 pub mod DebtsLemmas
 pub mod EntriesLemmas
+pub mod EventLemmas
 pub mod ExposureLater
+pub mod GrownLemmas
 pub mod HoldsLemmas
 pub mod KeptLemmas
+pub mod LegalEntryLemmas
 pub mod LegalLemmas
 pub mod LimitsLemmas
+pub mod ListEntryLemmas
 pub mod NettingLemmas
 pub mod ObligationLemmas
 pub mod OwnAccount

@@ -1,4 +1,4 @@
--- The obligations of a legal list can be netted.
+-- The obligations of sound entries can be netted.
 use Rattle.std.proofs.Common.{◌≡◌, ◌≤◌, ◌^◌, ◌+◌, ◌*◌, ℕ, List, [], ◌∷◌, Bool, true, false, not, ◌&&◌, ◌||◌, cond, refl, sym, ap, ap₂, ◌∙◌, arith, Some, is_some, find, filter, map, length, count_by}
 use Rattle.std.specs.List.{AllByRecursion, list_all, list_any}
 use Rattle.std.specs.Prelude.{sum_by}
@@ -12,19 +12,17 @@ use Rattle.ocpi_types.specs.declared.config.Provider.{Provider}
 use Rattle.ocpi_types.specs.declared.party.Party.{Party}
 use Rattle.ocpi_types.specs.Config.{has_currency, has_currency_among, is_operator, is_provider, operator_among}
 use Rattle.ocpi_types.specs.Party.{same_party}
-use Rattle.cdr_checks.specs.Law.{PostsAreChecked}
 use Rattle.netting_positions.specs.Netting.{is_among, is_configured, parties, size, total_size}
 use Rattle.netting_positions.specs.declared.obligation.Obligation.{Obligation}
 use Rattle.plain_house.specs.declared.entry.BookEntry.{BookEntry}
 use Rattle.plain_house.specs.declared.entry.BookEntry.TheVariants as book
 use Rattle.plain_house.specs.Booked.{Booked, booked}
-use Rattle.plain_house.specs.Entries.{book_entries}
-use Rattle.plain_house.specs.LegalLists.{LegalListsCanBeNetted}
+use Rattle.plain_house.specs.LegalLists.{CanBeNetted}
 use Rattle.plain_house.specs.Obligations.{is_of_period, obligation_of}
 use Rattle.plain_house.specs.Room.{is_cdr_of}
 use Rattle.plain_house.proofs.SameScope.{FoldedParty, is_party_of, same_folded_party}
 use Rattle.plain_house.proofs.SettlementLemmas.{party_symm}
-use Rattle.plain_house.proofs.SoundLemmas.{IsSound, legal_sound}
+use Rattle.plain_house.proofs.SoundLemmas.{AreSound, IsSound}
 
 -- ---- configured parties
 
@@ -191,17 +189,17 @@ most_each entries most room (x ∷ operators) =
 product : (n k a b : ℕ) → n ≤ a → k ≤ b → n * k ≤ a * b
 product n k a b h g = omega (arith, mul-le-mul_right k h, mul-le-mul_left a g)
 
-pub can_be_netted : PostsAreChecked → LegalListsCanBeNetted
-can_be_netted law config events operators cdrs legal =
-    let sound = legal_sound law config events legal in
-    let count = counted config.operators (book_entries events) (known_operators config (booked (book_entries events)) sound.each) in
-    let each = most_each (book_entries events) config.limits.cdrs sound.room config.operators in
+pub can_be_netted : (config : Config) (entries : List BookEntry) → length config.operators ≤ 64 → config.limits.cdrs ≤ 100_000 → AreSound config entries
+    → CanBeNetted config entries
+can_be_netted config entries operators cdrs sound =
+    let count = counted config.operators entries (known_operators config (booked entries) sound.each) in
+    let each = most_each entries config.limits.cdrs sound.room config.operators in
     let most : length config.operators * config.limits.cdrs ≤ 64 * 100_000 = product (length config.operators) config.limits.cdrs 64 100_000 operators cdrs in
     record {
-      configured = λ period. all_configured config period (booked (book_entries events)) sound.each;
-      fits = λ period. omega (arith, sizes config period (booked (book_entries events)) sound.each, count, each, most);
+      configured = λ period. all_configured config period (booked entries) sound.each;
+      fits = λ period. omega (arith, sizes config period (booked entries) sound.each, count, each, most);
       providers = λ period.
           all_pass config (λ obligation. is_provider config obligation.provider && has_currency config obligation.currency)
-          (λ found sound. ap₂ ◌&&◌ sound.1 sound.2) period (booked (book_entries events)) sound.each;
-      operators = λ period. all_pass config (λ obligation. is_operator config obligation.operator) (λ found sound. sound.0) period (booked (book_entries events)) sound.each;
+          (λ found sound. ap₂ ◌&&◌ sound.1 sound.2) period (booked entries) sound.each;
+      operators = λ period. all_pass config (λ obligation. is_operator config obligation.operator) (λ found sound. sound.0) period (booked entries) sound.each;
     }

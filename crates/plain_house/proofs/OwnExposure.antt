@@ -16,7 +16,7 @@ use Rattle.plain_house.specs.LegalLists.{LegalCdrsAreCharged, LegalCreditsAreTak
 use Rattle.plain_house.specs.Posting.{meets_original}
 use Rattle.plain_house.proofs.BookedOnce.{AreBookable, IsBookable, are_ended_by_own}
 use Rattle.plain_house.proofs.ExposureLater.{entries_push}
-use Rattle.plain_house.proofs.LegalLemmas.{last_or_before}
+use Rattle.plain_house.proofs.GrownLemmas.{last_or_before}
 use Rattle.plain_house.proofs.OwnEntries.{debts_of_own, holds_of_own}
 use Rattle.plain_house.proofs.SameScope.{both_are}
 

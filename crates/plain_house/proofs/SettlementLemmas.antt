@@ -51,7 +51,7 @@ module _ (settlement : Settlement) (entries : List AccountEntry) where
       fewer (λ charge. ends_debt charge (account.Settlement settlement) && is_owed entries charge)
       (λ charge. charges_within (of_provider settlement.provider settlement.currency) charge && is_owed entries charge) within_both (charges entries)
 
-pub settled_limit : (config : Config) (events : List Event) (settlement : Settlement) → KeepsLimits config events
+pub settled_limit : (config : Config) (events : List Event) (settlement : Settlement) → KeepsLimits config (account_entries events)
     → settled_debt settlement (account_entries events) ≤ limit_of config settlement.provider settlement.currency
 settled_limit config events settlement keeps =
     omega (arith, settled_within settlement (account_entries events), keeps.provider settlement.provider settlement.currency)

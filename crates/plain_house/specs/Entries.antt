@@ -1,5 +1,5 @@
 -- The period in which each event stands, and what an operator's book and a provider's account keep of it.
-use Rattle.std.specs.Prelude.{◌≡◌, ℕ, ◌+◌, Bool, true, false, List, [], ◌∷◌, ◌++◌, count_by, flat_map, if◌then◌else◌}
+use Rattle.std.specs.Prelude.{◌≡◌, ℕ, ◌+◌, ℤ, Bool, true, false, List, [], ◌∷◌, ◌++◌, count_by, flat_map, if◌then◌else◌}
 use Rattle.ocpi_types.specs.declared.cdr.Cdr.{Cdr}
 use Rattle.plain_house.specs.declared.event.Event.{Event}
 use Rattle.plain_house.specs.declared.event.Event.TheVariants as event
@@ -72,12 +72,13 @@ charge_of cdr cost period = record {
   hold = cdr.authorization_reference;
 }
 
-abbrev pub credit_of : Cdr → ℕ → Credit
-credit_of cdr period = record {
+abbrev pub credit_of : Cdr → ℤ → ℕ → Credit
+credit_of cdr amount period = record {
   operator = cdr.operator;
   provider = cdr.cdr_token.provider;
   currency = cdr.currency;
   original = cdr.credit;
+  amount = amount;
   period = period;
 }
 
@@ -87,7 +88,7 @@ account_entry (event.Token token) period = account.Token token ∷ []
 account_entry (event.Authorised hold) period = account.Hold hold ∷ []
 account_entry (event.Released release) period = account.Release release ∷ []
 account_entry (event.Cdr cdr cost) period = account.Charge (charge_of cdr cost period) ∷ []
-account_entry (event.Credit cdr amount) period = account.Credit (credit_of cdr period) ∷ []
+account_entry (event.Credit cdr amount) period = account.Credit (credit_of cdr amount period) ∷ []
 account_entry (event.Settled settlement) period = account.Settlement settlement ∷ []
 account_entry (event.Closed closed) period = []
 

@@ -1,6 +1,10 @@
 -- What follows from the definitions of verdicts.
+use Rattle.std.specs.Prelude.{◌≡◌, Bool, true, false, is_some, Result, Ok, Err}
 use Rattle.ocpi_types.specs.declared.config.Config.{Config}
+use Rattle.ocpi_types.specs.declared.refusal.Refusal.{Refusal}
 use Rattle.cdr_checks.specs.declared.request.Command.{Command}
+use Rattle.plain_house.specs.declared.answer.Answer.{Answer}
+use Rattle.plain_house.specs.declared.answer.Answer.TheVariants as answer
 use Rattle.plain_house.specs.House.{verdict}
 use Rattle.plain_house.specs.Known.{Known}
 use Rattle.plain_house.specs.Replies.{IsTold}
@@ -8,3 +12,28 @@ use Rattle.plain_house.specs.Replies.{IsTold}
 -- no verdict is want of memory
 abbrev pub VerdictsAreTold : Type 0
 VerdictsAreTold = (config : Config) (known : Known) (command : Command) → IsTold (verdict config known command).reply
+
+-- what is answered where an event is added
+abbrev pub is_of_event : Answer → Bool
+is_of_event answer.Stored = true
+is_of_event answer.Unchanged = false
+is_of_event (answer.Allowed reference) = true
+is_of_event answer.Blocked = false
+is_of_event answer.NoCredit = false
+is_of_event (answer.Released amount) = true
+is_of_event (answer.Accepted amount period) = true
+is_of_event (answer.Repeated amount period) = false
+is_of_event (answer.Closed period positions) = true
+is_of_event (answer.Settled amount) = true
+is_of_event (answer.Exposure holds debts limit) = false
+is_of_event (answer.Found amount period credited) = false
+is_of_event (answer.Statement rows) = false
+
+abbrev pub tells_event : Result Answer Refusal → Bool
+tells_event (Ok told) = is_of_event told
+tells_event (Err refusal) = false
+
+-- a reply tells whether an event is added; where a command is refused, none is
+abbrev pub RepliesTellEvents : Type 0
+RepliesTellEvents =
+    (config : Config) (known : Known) (command : Command) → is_some (verdict config known command).event ≡ tells_event (verdict config known command).reply

@@ -4,13 +4,17 @@ use Rattle.ocpi_types.specs.declared.config.Config.{Config}
 use Rattle.cdr_checks.specs.declared.request.Command.{Command}
 use Rattle.cdr_checks.specs.Admission.{IsAdmitted}
 use Rattle.plain_house.specs.declared.event.Event.{Event}
-use Rattle.plain_house.specs.Known.{known}
+use Rattle.plain_house.specs.Known.{Known, known}
 use Rattle.plain_house.specs.House.{verdict, events_after}
 
--- the event is the one that some admitted command adds to these
+-- the event is the one that some admitted command adds by what is known
+abbrev pub IsGivenBy : Config → Known → Event → Type 0
+IsGivenBy config known event =
+    (command : Command) × IsAdmitted config command × ((verdict config known command).event ≡ Some event)
+
+-- by the events before it
 abbrev pub IsGiven : Config → List Event → Event → Type 0
-IsGiven config before event =
-    (command : Command) × IsAdmitted config command × ((verdict config (known before) command).event ≡ Some event)
+IsGiven config before event = IsGivenBy config (known before) event
 
 -- each event is given on those before it
 unfoldable pub IsLegal : Config → List Event → Type 0

@@ -6,6 +6,7 @@ pub mod Inner
 pub mod Known
 pub mod Laws
 pub mod Legal
+pub mod LegalEntries
 pub mod LegalLists
 pub mod Obligations
 pub mod Own

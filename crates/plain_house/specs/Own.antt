@@ -14,6 +14,7 @@ use Rattle.cdr_checks.specs.declared.request.Settlement.{Settlement}
 use Rattle.cdr_checks.specs.declared.request.Command.{Command}
 use Rattle.cdr_checks.specs.Parties.{operator_of_command, provider_of_command}
 use Rattle.plain_house.specs.declared.event.Event.{Event}
+use Rattle.plain_house.specs.declared.event.Event.TheVariants as event
 use Rattle.plain_house.specs.declared.scope.Scope.{Scope}
 use Rattle.plain_house.specs.declared.entry.AccountEntry.{AccountEntry}
 use Rattle.plain_house.specs.declared.entry.AccountEntry.TheVariants as account
@@ -129,3 +130,22 @@ abbrev pub VerdictsAreOfOwnEntries : Type 0
 VerdictsAreOfOwnEntries =
     (config : Config) (events : List Event) (command : Command) → IsLegal config events →
     verdict config (own_known command (known events)) command ≡ verdict config (known events) command
+
+-- ---- events
+
+-- the event is of the book and of the account that the command looks into, and of no other
+abbrev pub IsOfCommand : Command → Event → Type 0
+IsOfCommand command (event.Tariff tariff) = (operator_of_command command ≡ Some tariff.operator) × (provider_of_command command ≡ None)
+IsOfCommand command (event.Token token) = (operator_of_command command ≡ None) × (provider_of_command command ≡ Some token.provider)
+IsOfCommand command (event.Authorised hold) = (operator_of_command command ≡ None) × (provider_of_command command ≡ Some hold.provider)
+IsOfCommand command (event.Released release) = (operator_of_command command ≡ None) × (provider_of_command command ≡ Some release.provider)
+IsOfCommand command (event.Cdr cdr cost) = (operator_of_command command ≡ Some cdr.operator) × (provider_of_command command ≡ Some cdr.cdr_token.provider)
+IsOfCommand command (event.Credit cdr amount) = (operator_of_command command ≡ Some cdr.operator) × (provider_of_command command ≡ Some cdr.cdr_token.provider)
+IsOfCommand command (event.Settled settlement) = (operator_of_command command ≡ None) × (provider_of_command command ≡ Some settlement.provider)
+IsOfCommand command (event.Closed period) = (operator_of_command command ≡ None) × (provider_of_command command ≡ None)
+
+-- so is the event that a command adds
+abbrev pub EventsAreOfTheirCommand : Type 0
+EventsAreOfTheirCommand =
+    (config : Config) (known : Known) (command : Command) (event : Event) → (verdict config known command).event ≡ Some event →
+    IsOfCommand command event

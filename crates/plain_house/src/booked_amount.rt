@@ -23,7 +23,7 @@ impl Model for BookedAmount {
 }
 
 impl BookedAmount {
-    ghost use Rattle.std.specs.Prelude.{◌≡◌, ◌≤ℤ◌, ◌^◌, neg_ℤ, pos};
+    ghost use Rattle.std.specs.Prelude.{◌≡◌, ◌≤◌, ◌≤ℤ◌, ◌^◌, neg_ℤ, pos, unsigned_abs};
 
     /// What a session costs.
     pub fn of_cost(cost: Cost) -> BookedAmount
@@ -38,6 +38,14 @@ impl BookedAmount {
     {
         let amount = self.amount.negated();
         BookedAmount { amount }
+    }
+
+    /// How much it is, either way: at most 10^12.
+    pub fn magnitude(self) -> u64
+        ensures value { result ≡ unsigned_abs self }
+        ensures most { result ≤ 10 ^ 12 }
+    {
+        self.amount.ten_thousandths().unsigned_abs()
     }
 
     pub fn amount(self) -> Amount

@@ -43,6 +43,8 @@ pub struct Credit {
     pub provider: Party,
     pub currency: Currency,
     pub original: Option<CiText<39>>,
+    /// The amount at which the Credit CDR is booked.
+    pub amount: BookedAmount,
     pub period: u64,
 }
 
@@ -72,15 +74,16 @@ pub fn charge_of(cdr: &Cdr, cost: Cost, period: u64) -> Charge
     }
 }
 
-/// What a Credit CDR that is booked in this period takes from its provider's debts.
-pub fn credit_of(cdr: &Cdr, period: u64) -> Credit
-    ensures { result ≡ credit_of cdr.now period }
+/// What a Credit CDR of this amount, booked in this period, takes from its provider's debts.
+pub fn credit_of(cdr: &Cdr, amount: BookedAmount, period: u64) -> Credit
+    ensures { result ≡ credit_of cdr.now amount period }
 {
     Credit {
         operator: cdr.operator,
         provider: cdr.cdr_token.provider,
         currency: cdr.currency,
         original: cdr.credit,
+        amount,
         period,
     }
 }

@@ -1,4 +1,5 @@
 ghost use Rattle.std.specs.Prelude.{◌≡◌, ◌≤◌, [], length};
+ghost use Rattle.plain_house.specs.Entries.{account_entries, book_entries};
 ghost use Rattle.plain_house.specs.House.{Does};
 ghost use Rattle.plain_house.specs.LegalLists.{CanBeNetted, KeepsLimits};
 ghost use Rattle.plain_house.specs.Legal.{IsLegal};
@@ -26,8 +27,8 @@ mod settle;
 mod statement;
 
 fn reply(config: &Config, events: &mut Vec<Event>, command: Command) -> Result<Replied, Refused>
-    requires limits { KeepsLimits config.now events.old.items }
-    requires netting { CanBeNetted config.now events.old.items }
+    requires limits { KeepsLimits config.now (account_entries events.old.items) }
+    requires netting { CanBeNetted config.now (book_entries events.old.items) }
     ensures { Does config.now events.old.items command result events.new.items }
 {
     match command {
@@ -91,6 +92,14 @@ impl PlainHouse {
         ensures { result.now ≡ self.now.events }
     {
         self.events.as_slice()
+    }
+
+    /// What has happened, taken out of the house; it is legal under the configuration.
+    pub fn into_events(self) -> Vec<Event>
+        ensures events { result.items ≡ self.events }
+        ensures legal { IsLegal self.config result.items }
+    {
+        self.events
     }
 
     /// States that what has happened is legal under the configuration.

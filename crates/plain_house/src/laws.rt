@@ -2,15 +2,15 @@
 
 ghost use Rattle.plain_house.specs.Entries.{EntriesAreDated};
 ghost use Rattle.plain_house.specs.Exposure.{EntriesAddAtMost, ExposuresInAnySpelling};
-ghost use Rattle.plain_house.specs.Laws.{VerdictsAreTold};
+ghost use Rattle.plain_house.specs.Laws.{RepliesTellEvents, VerdictsAreTold};
 ghost use Rattle.plain_house.specs.Legal.{CommandsKeepListsLegal, EmptyListsAreLegal, LegalListsBeginLegally};
-ghost use Rattle.plain_house.specs.LegalLists.{LegalCdrsAreCharged, LegalCreditsAreTakenBack, LegalListsCanBeNetted, LegalListsKeepLimits, LegalPositionsBalance};
+ghost use Rattle.plain_house.specs.LegalLists.{ClosedPositionsBalance, LegalCdrsAreCharged, LegalCreditsAreTakenBack, LegalListsCanBeNetted, LegalListsKeepLimits, LegalPositionsBalance};
 ghost use Rattle.plain_house.specs.Obligations.{ClosedPeriodsStay};
-ghost use Rattle.plain_house.specs.Own.{AccountsAreOfOwnEntries, BooksAreOfOwnEntries, ExposureIsOfOwnEntries, ExposureWithChargeIsOfOwnEntries, VerdictsAreOfOwnEntries};
+ghost use Rattle.plain_house.specs.Own.{AccountsAreOfOwnEntries, BooksAreOfOwnEntries, EventsAreOfTheirCommand, ExposureIsOfOwnEntries, ExposureWithChargeIsOfOwnEntries, VerdictsAreOfOwnEntries};
 ghost use Rattle.plain_house.specs.Settlements.{SettlementsEndTheirDebts};
 
 use cdr_checks::posts_are_checked;
-use netting_positions::{parties_are_different, positions_balance};
+use netting_positions::{net_positions_are_balanced, parties_are_different, positions_balance};
 
 /// An admitted command makes a legal list of a legal list.
 pub fn commands_keep_lists_legal()
@@ -22,7 +22,7 @@ pub fn legal_lists_begin_legally()
     ensures { LegalListsBeginLegally }
 {}
 
-/// A legal list keeps every credit limit.
+/// Each beginning of a legal list keeps every credit limit.
 pub fn legal_lists_keep_limits()
     ensures { LegalListsKeepLimits }
 {}
@@ -44,7 +44,9 @@ pub fn legal_cdrs_are_charged()
 /// A Credit CDR of a legal list takes back one CDR, once, of the same provider and currency, within the credit window.
 pub fn legal_credits_are_taken_back()
     ensures { LegalCreditsAreTakenBack }
-{}
+{
+    posts_are_checked();
+}
 
 /// The exposure of a legal list is that of the entries of the provider's own account.
 pub fn exposure_is_of_own_entries()
@@ -101,9 +103,28 @@ pub fn legal_positions_balance()
     posts_are_checked();
 }
 
+/// The net positions that a close of a legal list answers add up to 0 in each currency.
+pub fn closed_positions_balance()
+    ensures { ClosedPositionsBalance }
+{
+    net_positions_are_balanced();
+    parties_are_different();
+    posts_are_checked();
+}
+
 /// No verdict is want of memory.
 pub fn verdicts_are_told()
     ensures { VerdictsAreTold }
+{}
+
+/// A reply tells whether an event is added; where a command is refused, none is.
+pub fn replies_tell_events()
+    ensures { RepliesTellEvents }
+{}
+
+/// The event that a command adds is of the book and of the account that the command looks into.
+pub fn events_are_of_their_command()
+    ensures { EventsAreOfTheirCommand }
 {}
 
 /// What the entries say of an operator is what its own book says.

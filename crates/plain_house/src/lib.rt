@@ -6,6 +6,7 @@ mod booked;
 mod booked_amount;
 mod debts;
 mod entry;
+mod entry_laws;
 mod event;
 mod hold_reference;
 mod holds;
@@ -14,6 +15,7 @@ mod laws;
 mod obligations;
 mod periods;
 mod posting;
+mod replies;
 mod scope;
 mod sequential;
 mod tariffs;
@@ -23,20 +25,29 @@ pub use answer::{Answer, Refused, Replied};
 pub use booked::BookedCdr;
 pub use booked_amount::BookedAmount;
 pub use entry::{AccountEntry, BookEntry, Charge, Credit, charge_of, credit_of};
+pub use entry_laws::{
+    empty_entries_are_legal, events_keep_accounts_legal, events_keep_books_legal,
+    legal_accounts_begin_legally, legal_accounts_have_room, legal_accounts_keep_limits,
+    legal_books_are_charged, legal_books_are_taken_back, legal_books_begin_legally,
+    legal_books_can_be_netted, legal_books_have_room, legal_lists_have_legal_entries,
+};
 pub use event::{Event, Hold};
 pub use hold_reference::reference;
 pub use holds::names;
 pub use house::PlainHouse;
 pub use laws::{
     accounts_are_of_own_entries, books_are_of_own_entries, closed_periods_stay,
-    commands_keep_lists_legal, empty_lists_are_legal, entries_add_at_most, entries_are_dated,
+    closed_positions_balance, commands_keep_lists_legal, empty_lists_are_legal,
+    entries_add_at_most, entries_are_dated, events_are_of_their_command,
     exposure_is_of_own_entries, exposure_with_charge_is_of_own_entries, exposures_in_any_spelling,
     legal_cdrs_are_charged, legal_credits_are_taken_back, legal_lists_begin_legally,
     legal_lists_can_be_netted, legal_lists_keep_limits, legal_positions_balance,
-    settlements_end_their_debts, verdicts_are_of_own_entries, verdicts_are_told,
+    replies_tell_events, settlements_end_their_debts, verdicts_are_of_own_entries,
+    verdicts_are_told,
 };
 pub use obligations::statement_rows;
 pub use periods::period_after;
 pub use posting::{above, reply_to_booked, taken_back};
+pub use replies::{out_of_memory, stamped};
 pub use scope::Scope;
 pub use sequential::Sequential;

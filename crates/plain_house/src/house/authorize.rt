@@ -61,7 +61,7 @@ fn next_reference(config: &Config, events: &[Event], provider: &Party) -> CiText
 
 // The hold would pass the provider's credit limit, or its limit with the operator.
 fn lacks_credit(config: &Config, events: &[Event], ask: &Authorize) -> bool
-    requires { KeepsLimits config.now events.now }
+    requires { KeepsLimits config.now (account_entries events.now) }
     ensures { result ≡ lacks_credit config.now ask.now (account_entries events.now) }
 {
     let hold = config.hold(&ask.provider, &ask.currency).get();
@@ -72,7 +72,7 @@ fn lacks_credit(config: &Config, events: &[Event], ask: &Authorize) -> bool
 }
 
 fn lacks_pair_credit(config: &Config, events: &[Event], ask: &Authorize, hold: u64) -> bool
-    requires limits { KeepsLimits config.now events.now }
+    requires limits { KeepsLimits config.now (account_entries events.now) }
     requires hold { hold ≤ 10 ^ 12 }
     ensures { result ≡ passes (pair_limit_of config.now ask.now.operator ask.now.provider ask.now.currency)
         (exposure_of (of_pair ask.now.operator ask.now.provider ask.now.currency) (account_entries events.now) + hold) }
@@ -102,7 +102,7 @@ fn hold_for(config: &Config, events: &[Event], ask: &Authorize) -> Hold
 
 // Authorises a valid token.
 fn grant(config: &Config, events: &mut Vec<Event>, ask: &Authorize) -> Result<Replied, Refused>
-    requires { KeepsLimits config.now events.old.items }
+    requires { KeepsLimits config.now (account_entries events.old.items) }
     ensures { Follows (unless (no_room_for config.now (known events.old.items) ask.now.provider
         ∷ unless_covered (lacks_credit config.now ask.now (account_entries events.old.items)) ∷ [])
         (allows (hold_for config.now ask.now (account_entries events.old.items)))) events.old.items result events.new.items }
@@ -128,7 +128,7 @@ pub fn authorize(
     events: &mut Vec<Event>,
     ask: Authorize,
 ) -> Result<Replied, Refused>
-    requires { KeepsLimits config.now events.old.items }
+    requires { KeepsLimits config.now (account_entries events.old.items) }
     ensures { Does config.now events.old.items (AuthorizeCommand ask) result events.new.items }
 {
     let at = events.len();

@@ -16,7 +16,7 @@ use exact_money::Amount;
 use ocpi_types::Config;
 
 pub fn exposure(config: &Config, events: &[Event], ask: ExposureOf) -> Replied
-    requires { KeepsLimits config.now events.now }
+    requires { KeepsLimits config.now (account_entries events.now) }
     ensures { result ≡ record { at = length events.now; answer = exposed config.now ask (account_entries events.now) } }
 {
     let scope = Scope::of_provider(ask.provider, ask.currency);

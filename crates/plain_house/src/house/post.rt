@@ -13,7 +13,7 @@ ghost use Rattle.plain_house.specs.Replies.{Follows, IsTold};
 ghost use Rattle.plain_house.specs.declared.entry.AccountEntry.TheVariants as account;
 
 use super::credit::credited_amount;
-use super::replies::{add, refused, stamped};
+use super::replies::{add, refused};
 use super::room::full_for_cdr;
 use crate::answer::{Answer, Refused, Replied};
 use crate::booked::booked_as;
@@ -23,6 +23,7 @@ use crate::entry::{Charge, charge_of};
 use crate::event::Event;
 use crate::periods::period_of;
 use crate::posting::{above, reply_to_booked};
+use crate::replies::stamped;
 use crate::scope::Scope;
 use crate::tariffs::lacks_registered;
 use cdr_checks::Checked;
@@ -81,7 +82,7 @@ fn above_with(
 }
 
 fn over_pair_limit(config: &Config, events: &[Event], charge: &Charge) -> Option<Refusal>
-    requires { KeepsLimits config.now events.now }
+    requires { KeepsLimits config.now (account_entries events.now) }
     ensures { result ≡ above_if_any (pair_limit_of config.now charge.now.operator charge.now.provider charge.now.currency)
         (exposure_of (of_pair charge.now.operator charge.now.provider charge.now.currency)
         (account_entries events.now ++ account.Charge charge.now ∷ [])) }
@@ -99,7 +100,7 @@ fn over_pair_limit(config: &Config, events: &[Event], charge: &Charge) -> Option
 
 // With the charge added, an exposure would be above its limit.
 fn over_limit(config: &Config, events: &[Event], charge: &Charge) -> Option<Refusal>
-    requires { KeepsLimits config.now events.now }
+    requires { KeepsLimits config.now (account_entries events.now) }
     ensures { result ≡ over_limit config.now charge.now (account_entries events.now) }
 {
     let limit = config.limit(&charge.provider, &charge.currency).get();
@@ -119,7 +120,7 @@ fn book_cdr(
     cdr: Cdr,
     cost: Cost,
 ) -> Result<Replied, Refused>
-    requires { KeepsLimits config.now events.old.items }
+    requires { KeepsLimits config.now (account_entries events.old.items) }
     ensures { Follows (cdr_judged config.now (known events.old.items) cdr cost (Ok (pos cost))) events.old.items result events.new.items }
 {
     let at = events.len();
@@ -145,12 +146,12 @@ fn post_cdr(
     cdr: Cdr,
     cost: Cost,
 ) -> Result<Replied, Refused>
-    requires { KeepsLimits config.now events.old.items }
+    requires { KeepsLimits config.now (account_entries events.old.items) }
     ensures { Follows (cdr_posted config.now (known events.old.items) cdr cost) events.old.items result events.new.items }
 {
     match judged_cdr(events.as_slice(), &cdr, cost) {
         Ok(_) => book_cdr(config, events, cdr, cost),
-        Err(reply) => stamped(events.len(), reply),
+        Err(reply) => stamped(events.len() as u64, reply),
     }
 }
 
@@ -184,12 +185,12 @@ fn post_credit(config: &Config, events: &mut Vec<Event>, credit: Cdr) -> Result<
 {
     match judged_credit(config, events.as_slice(), &credit) {
         Ok(amount) => book_credit(config, events, credit, amount),
-        Err(reply) => stamped(events.len(), reply),
+        Err(reply) => stamped(events.len() as u64, reply),
     }
 }
 
 pub fn post(config: &Config, events: &mut Vec<Event>, checked: Checked) -> Result<Replied, Refused>
-    requires { KeepsLimits config.now events.old.items }
+    requires { KeepsLimits config.now (account_entries events.old.items) }
     ensures { Does config.now events.old.items (Post checked) result events.new.items }
 {
     let cost = checked.cost();

@@ -1,11 +1,12 @@
 //! Replies, and the events that go with them.
 
 ghost use Rattle.std.specs.Prelude.{◌≡◌, Some, None};
-ghost use Rattle.plain_house.specs.Replies.{Follows, stamped};
+ghost use Rattle.plain_house.specs.Replies.{Follows};
 ghost use Rattle.plain_house.specs.Verdict.{accepts};
 
 use crate::answer::{Answer, Refused, Replied};
 use crate::event::Event;
+use crate::replies::out_of_memory;
 use ocpi_types::Refusal;
 
 /// The refusal of a house that has `at` events.
@@ -18,15 +19,6 @@ pub fn refused(at: usize, refusal: Refusal) -> Refused
     }
 }
 
-pub fn out_of_memory() -> Refused
-    ensures { result ≡ record { at = None; refusal = Refusal.NoMemory } }
-{
-    Refused {
-        at: None,
-        refusal: Refusal::NoMemory,
-    }
-}
-
 /// The answer of a house that has `at` events.
 pub fn replied(at: usize, answer: Answer) -> Replied
     ensures { result ≡ record { at = at; answer = answer } }
@@ -34,16 +26,6 @@ pub fn replied(at: usize, answer: Answer) -> Replied
     Replied {
         at: at as u64,
         answer,
-    }
-}
-
-/// The reply of a house that has `at` events.
-pub fn stamped(at: usize, reply: Result<Answer, Refusal>) -> Result<Replied, Refused>
-    ensures { result ≡ stamped at reply }
-{
-    match reply {
-        Ok(answer) => Ok(replied(at, answer)),
-        Err(refusal) => Err(refused(at, refusal)),
     }
 }
 

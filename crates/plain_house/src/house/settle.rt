@@ -20,7 +20,7 @@ use ocpi_types::{Config, Refusal};
 // What the settlement pays, in ten-thousandths.
 #[tactic(auto, using(crate::proofs::SettlementLemmas::settled_limit))]
 fn paid(config: &Config, events: &[Event], settlement: &Settlement) -> Amount
-    requires { KeepsLimits config.now events.now }
+    requires { KeepsLimits config.now (account_entries events.now) }
     ensures { result ≡ pos (settled_debt settlement.now (account_entries events.now)) }
 {
     let _limit = config
@@ -34,7 +34,7 @@ pub fn settle(
     events: &mut Vec<Event>,
     settlement: Settlement,
 ) -> Result<Replied, Refused>
-    requires { KeepsLimits config.now events.old.items }
+    requires { KeepsLimits config.now (account_entries events.old.items) }
     ensures { Does config.now events.old.items (Settle settlement) result events.new.items }
 {
     let at = events.len();

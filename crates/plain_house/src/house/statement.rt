@@ -1,16 +1,18 @@
 //! The statement of a party.
 
 ghost use Rattle.std.specs.Prelude.{◌≡◌};
+ghost use Rattle.plain_house.specs.Entries.{book_entries};
 ghost use Rattle.plain_house.specs.House.{stated};
 ghost use Rattle.plain_house.specs.Known.{known};
 ghost use Rattle.plain_house.specs.LegalLists.{CanBeNetted};
 ghost use Rattle.plain_house.specs.Replies.{Follows};
 
-use super::replies::{out_of_memory, refused, replied};
+use super::replies::{refused, replied};
 use crate::answer::{Answer, Refused, Replied};
 use crate::event::Event;
 use crate::obligations::statement_rows;
 use crate::periods::period_of;
+use crate::replies::out_of_memory;
 use cdr_checks::StatementOf;
 use ocpi_types::{Config, Refusal};
 use std::alloc::Global;
@@ -21,7 +23,7 @@ pub fn statement(
     events: &[Event],
     ask: StatementOf,
 ) -> Result<Replied, Refused>
-    requires { CanBeNetted config.now events.now }
+    requires { CanBeNetted config.now (book_entries events.now) }
     ensures { Follows (stated (known events.now) ask) events.now result events.now }
 {
     let at = events.len();

@@ -1,0 +1,5 @@
+use Rattle.plain_house.proofs.AddedLemmas.{tell_events}
+use Rattle.plain_house.proofs.laws.replies_tell_events.Goals as goal
+
+pub returns : goal.returns
+returns c = tell_events

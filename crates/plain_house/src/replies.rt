@@ -1,0 +1,30 @@
+//! Replies that every house gives.
+
+ghost use Rattle.std.specs.Prelude.{◌≡◌, Some, None};
+ghost use Rattle.plain_house.specs.Replies.{stamped};
+
+use super::answer::{Answer, Refused, Replied};
+use ocpi_types::Refusal;
+
+/// The refusal of a house that is refused memory: without a point, since nothing was decided.
+pub fn out_of_memory() -> Refused
+    ensures { result ≡ record { at = None; refusal = Refusal.NoMemory } }
+{
+    Refused {
+        at: None,
+        refusal: Refusal::NoMemory,
+    }
+}
+
+/// The reply with its point, the number of events before it.
+pub fn stamped(point: u64, reply: Result<Answer, Refusal>) -> Result<Replied, Refused>
+    ensures { result ≡ stamped point reply }
+{
+    match reply {
+        Ok(answer) => Ok(Replied { at: point, answer }),
+        Err(refusal) => Err(Refused {
+            at: Some(point),
+            refusal,
+        }),
+    }
+}
