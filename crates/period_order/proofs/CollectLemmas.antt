@@ -18,11 +18,12 @@ use Rattle.plain_house.specs.House.{verdict}
 use Rattle.plain_house.specs.Known.{known}
 use Rattle.plain_house.specs.Laws.{VerdictsAreTold}
 use Rattle.plain_house.specs.Legal.{CommandsKeepListsLegal}
-use Rattle.plain_house.specs.Own.{VerdictsAreOfOwnEntries, of_operator}
+use Rattle.plain_house.specs.Own.{EventsAreOfTheirCommand, VerdictsAreOfOwnEntries, of_operator}
 use Rattle.plain_house.specs.Replies.{Follows, Reply, stamped, with_event}
 use Rattle.period_order.specs.declared.decided.Outcome.{Outcome}
 use Rattle.period_order.specs.Decided.{Decides, event_of, order_with, verdict_with}
-use Rattle.period_order.specs.Inner.Kept.{Keeps, entries_of_accounts, entries_of_books, with_event_added}
+use Rattle.period_order.specs.Kept.{Keeps}
+use Rattle.period_order.specs.Inner.Kept.{entries_of_accounts, entries_of_books, with_event_added}
 use Rattle.period_order.specs.Order.{PlainOrder, current_of}
 use Rattle.period_order.specs.Places.{operator_number, provider_number}
 use Rattle.period_order.proofs.PerformLemmas.{follows, keeps_put, the_account, the_book}
@@ -54,12 +55,12 @@ module _ (config : Config) (books : List PlainBook) (accounts : List PlainAccoun
       (subst (λ x. Decides config None x order told outcome) no_account given)
 
   -- books and accounts are kept as they are
-  pub keeps_all : (now : PlainOrder) → CommandsKeepListsLegal → IsAdmitted config told
+  pub keeps_all : (now : PlainOrder) → EventsAreOfTheirCommand → CommandsKeepListsLegal → IsAdmitted config told
       → all_different alike_operators config.operators ≡ true → all_different alike_providers config.providers ≡ true
       → now ≡ order_with config None None order outcome
       → Keeps config (entries_of_books books) (entries_of_accounts accounts) now.entries (with_event events (event_of outcome))
-  keeps_all now legal admitted operators providers is =
-      keeps_put config books accounts order events keeps told parties outcome decides laws (entries_of_books books) (entries_of_accounts accounts) now legal admitted operators providers
+  keeps_all now their legal admitted operators providers is =
+      keeps_put config books accounts order events keeps told parties outcome decides laws (entries_of_books books) (entries_of_accounts accounts) now their legal admitted operators providers
       (untouched (entries_of_books books) (λ e. book_entry e (current_of order)) (event_of outcome)
       ∙ sym (ap (λ o. with_event_added (entries_of_books books) (option_map (operator_number config) o) (λ e. book_entry e (current_of order)) (event_of outcome)) no_operator))
       (untouched (entries_of_accounts accounts) (λ e. account_entry e (current_of order)) (event_of outcome)

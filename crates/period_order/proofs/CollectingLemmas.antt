@@ -10,7 +10,8 @@ use Rattle.netting_positions.specs.Netting.{is_configured, parties, size, total_
 use Rattle.netting_positions.specs.SameSums.{JoinedListsOweAlike, OweAlike}
 use Rattle.operator_book.specs.Due.{due, is_of_provider}
 use Rattle.operator_book.specs.State.{PlainBook}
-use Rattle.period_order.specs.Inner.Collected.{CanBeCollected, IsCollecting, dues}
+use Rattle.period_order.specs.Dues.{CanBeCollected, dues}
+use Rattle.period_order.specs.Inner.Collected.{IsCollecting}
 use Rattle.period_order.specs.Inner.Kept.{entries_of_books}
 use Rattle.period_order.proofs.PartyLemmas.{both_are}
 

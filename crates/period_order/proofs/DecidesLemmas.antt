@@ -10,8 +10,7 @@ use Rattle.provider_account.specs.State.{PlainAccount}
 use Rattle.plain_house.specs.declared.event.Event.{Event}
 use Rattle.plain_house.specs.House.{post_of}
 use Rattle.period_order.specs.declared.decided.Outcome.{Outcome}
-use Rattle.period_order.specs.Decided.{AccountTakesAny, BookTakes, BookTakesAny, Collects, Decides, event_of, order_with, seen, verdict_with}
-use Rattle.period_order.specs.Inner.Outcomes.{outcome_of}
+use Rattle.period_order.specs.Decided.{AccountTakesAny, BookTakes, BookTakesAny, Collects, Decides, event_of, order_with, replied_by, seen}
 use Rattle.period_order.specs.Order.{PlainOrder, current_of}
 use Rattle.period_order.proofs.GivenLemmas.{event_has}
 
@@ -32,22 +31,21 @@ module _ (config : Config) (book one : Option PlainBook) (account other : Option
 
 -- a post, by the CDR and its cost
 pub post_decides : (config : Config) (book : PlainBook) (account : PlainAccount) (order : PlainOrder) (checked : Checked) (cdr : Cdr) (cost : Option ℕ) (outcome : Outcome)
-    → cdr ≡ checked.cdr → checked.cost ≡ cost → outcome ≡ outcome_of (post_of config (seen book.entries account.entries order) cdr cost)
+    → cdr ≡ checked.cdr → checked.cost ≡ cost → outcome ≡ replied_by (post_of config (seen book.entries account.entries order) cdr cost)
     → AccountTakesAny (Some account) (current_of order) (event_of outcome)
     → Decides config (Some book) (Some account) order (command.Post checked) outcome
 post_decides config book account order checked cdr cost outcome c k h takes =
     record {
-      verdict_is = λ entries others e f.
-          ap₂ (λ l m. post_of config (seen l m order) checked.cdr checked.cost) e f ∙ sym (ap (verdict_with config entries) result);
+      outcome_is = λ entries others e f. result ∙ sym (ap₂ (λ l m. replied_by (post_of config (seen l m order) checked.cdr checked.cost)) e f);
       collects = subst (λ (x : Outcome). Collects (command.Post checked) x) (sym result) tt;
       in_book = by (post_of config (seen book.entries account.entries order) checked.cdr checked.cost).event refl;
       in_account = takes;
     }
   where
-    result : outcome ≡ outcome_of (post_of config (seen book.entries account.entries order) checked.cdr checked.cost)
+    result : outcome ≡ replied_by (post_of config (seen book.entries account.entries order) checked.cdr checked.cost)
     result =
-        h ∙ ap (λ (x : Cdr). outcome_of (post_of config (seen book.entries account.entries order) x cost)) c
-        ∙ ap (λ (x : Option ℕ). outcome_of (post_of config (seen book.entries account.entries order) checked.cdr x)) (sym k)
+        h ∙ ap (λ (x : Cdr). replied_by (post_of config (seen book.entries account.entries order) x cost)) c
+        ∙ ap (λ (x : Option ℕ). replied_by (post_of config (seen book.entries account.entries order) checked.cdr x)) (sym k)
 
     by : (o : Option Event) → (post_of config (seen book.entries account.entries order) checked.cdr checked.cost).event ≡ o → BookTakesAny (Some book) (event_of outcome)
     by None e = subst (λ (x : Option Event). BookTakesAny (Some book) x) (sym (ap event_of result ∙ e)) tt

@@ -22,7 +22,7 @@ use Rattle.plain_house.specs.Entries.{book_entries}
 use Rattle.plain_house.specs.LegalLists.{CanBeNetted}
 use Rattle.plain_house.specs.Obligations.{is_of_period, obligation_of, obligations}
 use Rattle.plain_house.specs.Own.{own_book}
-use Rattle.period_order.specs.Inner.Collected.{AreCollectable, CanBeCollected, dues}
+use Rattle.period_order.specs.Dues.{AreCollectable, CanBeCollected, dues}
 use Rattle.period_order.specs.Resolved.{books_of}
 use Rattle.period_order.proofs.PartyLemmas.{both_are, party_along, party_symmetric}
 
@@ -174,7 +174,7 @@ all_agree p q same (o ∷ os) = ap₂ ◌&&◌ (same o) (all_agree p q same os)
 
 -- ---- all books
 
-module _ (config : Config) (events : List Event) (different : all_different alike_operators config.operators ≡ true) (netted : CanBeNetted config events) where
+module _ (config : Config) (events : List Event) (different : all_different alike_operators config.operators ≡ true) (netted : CanBeNetted config (book_entries events)) where
   abbrev obliged : ℕ → List Obligation
   obliged period = obligations period (book_entries events)
 

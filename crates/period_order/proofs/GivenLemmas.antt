@@ -9,7 +9,7 @@ use Rattle.cdr_checks.specs.declared.request.Command.{Command}
 use Rattle.cdr_checks.specs.declared.request.Command.TheVariants as command
 use Rattle.cdr_checks.specs.declared.request.Find.{Find}
 use Rattle.cdr_checks.specs.declared.request.Release.{Release}
-use Rattle.cdr_checks.specs.Parties.{HasParties, operator_of_command, provider_of_command}
+use Rattle.cdr_checks.specs.Parties.{HasParties}
 use Rattle.plain_house.specs.declared.answer.Answer.TheVariants as answer
 use Rattle.plain_house.specs.declared.event.Event.{Event}
 use Rattle.plain_house.specs.declared.event.Event.TheVariants as event
@@ -162,31 +162,3 @@ module _ (config : Config) (known : Known) where
 
   pub has_parties : (e : Event) (told : Command) → HasParties config told → (verdict config known told).event ≡ Some e → HasEventParties config known.period e
   has_parties e told parties h = event_has config known (HasEventParties config known.period) e told (gives_parties told parties) h
-
--- ---- the event's command
-
--- the event is of the book and of the account that the command looks into
-abbrev pub IsOfCommand : Command → Event → Type 0
-IsOfCommand told (event.Tariff tariff) = (operator_of_command told ≡ Some tariff.operator) × (provider_of_command told ≡ None)
-IsOfCommand told (event.Token token) = (operator_of_command told ≡ None) × (provider_of_command told ≡ Some token.provider)
-IsOfCommand told (event.Authorised hold) = (operator_of_command told ≡ None) × (provider_of_command told ≡ Some hold.provider)
-IsOfCommand told (event.Released release) = (operator_of_command told ≡ None) × (provider_of_command told ≡ Some release.provider)
-IsOfCommand told (event.Cdr cdr cost) = (operator_of_command told ≡ Some cdr.operator) × (provider_of_command told ≡ Some cdr.cdr_token.provider)
-IsOfCommand told (event.Credit cdr amount) = (operator_of_command told ≡ Some cdr.operator) × (provider_of_command told ≡ Some cdr.cdr_token.provider)
-IsOfCommand told (event.Settled settlement) = (operator_of_command told ≡ None) × (provider_of_command told ≡ Some settlement.provider)
-IsOfCommand told (event.Closed period) = (operator_of_command told ≡ None) × (provider_of_command told ≡ None)
-
-gives_own : (config : Config) (known : Known) (told : Command) → Gives config known (IsOfCommand told) told
-gives_own config known (command.PutTariff tariff) = (refl, refl)
-gives_own config known (command.PutToken token) = (refl, refl)
-gives_own config known (command.Authorize ask) = (refl, refl)
-gives_own config known (command.Release release) = (refl, refl)
-gives_own config known (command.Post checked) = ((λ cost. (refl, refl)), (λ amount. (refl, refl)))
-gives_own config known (command.Close close) = λ h. (refl, refl)
-gives_own config known (command.Settle settlement) = (refl, refl)
-gives_own config known (command.Exposure ask) = tt
-gives_own config known (command.Find find) = tt
-gives_own config known (command.Statement ask) = tt
-
-pub is_of_command : (config : Config) (known : Known) (e : Event) (told : Command) → (verdict config known told).event ≡ Some e → IsOfCommand told e
-is_of_command config known e told h = event_has config known (IsOfCommand told) e told (gives_own config known told) h

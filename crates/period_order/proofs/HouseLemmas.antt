@@ -13,12 +13,11 @@ use Rattle.plain_house.specs.declared.entry.BookEntry.TheVariants as book
 use Rattle.plain_house.specs.declared.event.Event.{Event}
 use Rattle.plain_house.specs.declared.event.Event.TheVariants as event
 use Rattle.plain_house.specs.Entries.{account_entry, book_entries, book_entry, charge_of, credit_of, period_of}
-use Rattle.plain_house.specs.Own.{own_account, own_book}
-use Rattle.period_order.specs.Inner.Kept.{with_added}
+use Rattle.plain_house.specs.Own.{IsOfCommand, own_account, own_book}
+use Rattle.period_order.specs.Kept.{account_number, book_number, with_added}
 use Rattle.period_order.specs.Places.{account_size, book_size, operator_number, order_entry, provider_number}
 use Rattle.period_order.specs.Resolved.{accounts_of, books_of}
 use Rattle.period_order.proofs.BooksLemmas.{account_at, accounts_with, accounts_without, book_at, books_with, books_without}
-use Rattle.period_order.proofs.GivenLemmas.{IsOfCommand}
 
 -- ---- one entry more
 
@@ -28,32 +27,26 @@ added_at : {X : Type 0} (lists : List (List X)) (number : ℕ) (own added : List
 added_at lists number own added h = ap (λ found. slice_set lists number (unwrap_or found [] ++ added)) h
 
 module _ (config : Config) (events : List Event) (told : Command) (parties : HasParties config told) where
-  abbrev pub book_number : Option ℕ
-  book_number = option_map (operator_number config) (operator_of_command told)
-
-  abbrev pub account_number : Option ℕ
-  account_number = option_map (provider_number config) (provider_of_command told)
-
   -- ---- books
 
   module _ (different : all_different alike_operators config.operators ≡ true) where
     -- the command's book with the event's entry
     in_book : (operator : Party) (e : Event) (entry : BookEntry) → operator_of_command told ≡ Some operator → book_entry e (period_of events) ≡ entry ∷ []
         → books_of config (events ++ e ∷ []) ≡ slice_set (books_of config events) (operator_number config operator) (own_book operator (book_entries events) ++ entry ∷ [])
-        → with_added (books_of config events) book_number (book_entry e (period_of events)) ≡ books_of config (events ++ e ∷ [])
+        → with_added (books_of config events) (book_number config told) (book_entry e (period_of events)) ≡ books_of config (events ++ e ∷ [])
     in_book operator e entry own one pushed =
         ap₂ (λ (o : Option Party) (l : List BookEntry). with_added (books_of config events) (option_map (operator_number config) o) l) own one
         ∙ added_at (books_of config events) (operator_number config operator) (own_book operator (book_entries events)) (entry ∷ []) (book_at config events operator (parties.operator operator own))
         ∙ sym pushed
 
     in_no_book : (e : Event) → operator_of_command told ≡ None → book_entry e (period_of events) ≡ []
-        → with_added (books_of config events) book_number (book_entry e (period_of events)) ≡ books_of config (events ++ e ∷ [])
+        → with_added (books_of config events) (book_number config told) (book_entry e (period_of events)) ≡ books_of config (events ++ e ∷ [])
     in_no_book e none empty =
         ap (λ (o : Option Party). with_added (books_of config events) (option_map (operator_number config) o) (book_entry e (period_of events))) none
         ∙ sym (books_without config events e empty)
 
     pub books_added : (e : Event) → IsOfCommand told e
-        → with_added (books_of config events) book_number (book_entry e (period_of events)) ≡ books_of config (events ++ e ∷ [])
+        → with_added (books_of config events) (book_number config told) (book_entry e (period_of events)) ≡ books_of config (events ++ e ∷ [])
     books_added (event.Tariff tariff) own =
         in_book tariff.operator (event.Tariff tariff) (book.Tariff tariff) own.0 refl (books_with config events (event.Tariff tariff) (book.Tariff tariff) refl different)
     books_added (event.Token token) own = in_no_book (event.Token token) own.0 refl
@@ -73,20 +66,20 @@ module _ (config : Config) (events : List Event) (told : Command) (parties : Has
   module _ (different : all_different alike_providers config.providers ≡ true) where
     in_account : (provider : Party) (e : Event) (entry : AccountEntry) → provider_of_command told ≡ Some provider → account_entry e (period_of events) ≡ entry ∷ []
         → accounts_of config (events ++ e ∷ []) ≡ slice_set (accounts_of config events) (provider_number config provider) (own_account provider events ++ entry ∷ [])
-        → with_added (accounts_of config events) account_number (account_entry e (period_of events)) ≡ accounts_of config (events ++ e ∷ [])
+        → with_added (accounts_of config events) (account_number config told) (account_entry e (period_of events)) ≡ accounts_of config (events ++ e ∷ [])
     in_account provider e entry own one pushed =
         ap₂ (λ (o : Option Party) (l : List AccountEntry). with_added (accounts_of config events) (option_map (provider_number config) o) l) own one
         ∙ added_at (accounts_of config events) (provider_number config provider) (own_account provider events) (entry ∷ []) (account_at config events provider (parties.provider provider own))
         ∙ sym pushed
 
     in_no_account : (e : Event) → provider_of_command told ≡ None → account_entry e (period_of events) ≡ []
-        → with_added (accounts_of config events) account_number (account_entry e (period_of events)) ≡ accounts_of config (events ++ e ∷ [])
+        → with_added (accounts_of config events) (account_number config told) (account_entry e (period_of events)) ≡ accounts_of config (events ++ e ∷ [])
     in_no_account e none empty =
         ap (λ (o : Option Party). with_added (accounts_of config events) (option_map (provider_number config) o) (account_entry e (period_of events))) none
         ∙ sym (accounts_without config events e empty)
 
     pub accounts_added : (e : Event) → IsOfCommand told e
-        → with_added (accounts_of config events) account_number (account_entry e (period_of events)) ≡ accounts_of config (events ++ e ∷ [])
+        → with_added (accounts_of config events) (account_number config told) (account_entry e (period_of events)) ≡ accounts_of config (events ++ e ∷ [])
     accounts_added (event.Tariff tariff) own = in_no_account (event.Tariff tariff) own.1 refl
     accounts_added (event.Token token) own =
         in_account token.provider (event.Token token) (account.Token token) own.1 refl (accounts_with config events (event.Token token) (account.Token token) refl different)
@@ -98,8 +91,8 @@ module _ (config : Config) (events : List Event) (told : Command) (parties : Has
         in_account cdr.cdr_token.provider (event.Cdr cdr cost) (account.Charge (charge_of cdr cost (period_of events))) own.1 refl
         (accounts_with config events (event.Cdr cdr cost) (account.Charge (charge_of cdr cost (period_of events))) refl different)
     accounts_added (event.Credit cdr amount) own =
-        in_account cdr.cdr_token.provider (event.Credit cdr amount) (account.Credit (credit_of cdr (period_of events))) own.1 refl
-        (accounts_with config events (event.Credit cdr amount) (account.Credit (credit_of cdr (period_of events))) refl different)
+        in_account cdr.cdr_token.provider (event.Credit cdr amount) (account.Credit (credit_of cdr amount (period_of events))) own.1 refl
+        (accounts_with config events (event.Credit cdr amount) (account.Credit (credit_of cdr amount (period_of events))) refl different)
     accounts_added (event.Settled settlement) own =
         in_account settlement.provider (event.Settled settlement) (account.Settlement settlement) own.1 refl
         (accounts_with config events (event.Settled settlement) (account.Settlement settlement) refl different)

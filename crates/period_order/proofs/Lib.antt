@@ -7,8 +7,10 @@ pub mod EntriesLemmas
 pub mod GivenLemmas
 pub mod HouseLemmas
 pub mod KeptLemmas
+pub mod LawLemmas
 pub mod NumberLemmas
 pub mod OrderLemmas
+pub mod OutcomeLemmas
 pub mod PartyLemmas
 pub mod PerformLemmas
 pub mod ResolvedLemmas

@@ -16,26 +16,27 @@ use Rattle.plain_house.specs.Entries.{account_entries, account_entry, book_entri
 use Rattle.plain_house.specs.House.{verdict}
 use Rattle.plain_house.specs.Known.{known}
 use Rattle.plain_house.specs.Legal.{CommandsKeepListsLegal, IsLegal}
-use Rattle.plain_house.specs.Own.{VerdictsAreOfOwnEntries, of_account, of_operator, own_account, own_book}
+use Rattle.plain_house.specs.Own.{EventsAreOfTheirCommand, VerdictsAreOfOwnEntries, of_account, of_operator, own_account, own_book}
 use Rattle.operator_book.specs.State.{PlainBook}
 use Rattle.provider_account.specs.State.{PlainAccount}
 use Rattle.period_order.specs.declared.decided.Outcome.{Outcome}
 use Rattle.period_order.specs.declared.decided.Outcome.TheVariants as outcome
-use Rattle.period_order.specs.Decided.{AreOfAccount, AreOfBook, Decides, account_length, book_length, event_of, order_with, verdict_with, with_entry}
+use Rattle.period_order.specs.Decided.{AreOfAccount, AreOfBook, Decides, OutcomesAreVerdicts, account_length, book_length, event_of, order_with, outcome_of, seen, verdict_with, with_entry}
 use Rattle.ocpi_types.specs.declared.refusal.Refusal.{Refusal}
 use Rattle.plain_house.specs.declared.answer.Answer.{Answer}
 use Rattle.plain_house.specs.Laws.{VerdictsAreTold}
 use Rattle.plain_house.specs.Replies.{Follows, Reply, is_no_memory, no_memory, stamped, with_event}
 use Rattle.plain_house.specs.Verdict.{Verdict}
 use Rattle.period_order.specs.declared.order_entry.OrderEntry.{OrderEntry}
-use Rattle.period_order.specs.Inner.Kept.{Keeps, entries_of_accounts, entries_of_books, with_added, with_event_added}
+use Rattle.period_order.specs.Kept.{Keeps, account_number, book_number, with_added}
+use Rattle.period_order.specs.Inner.Kept.{entries_of_accounts, entries_of_books, with_event_added}
 use Rattle.period_order.specs.Order.{PlainOrder, current_of, is_close}
 use Rattle.period_order.specs.Places.{operator_number, order_entry, order_of, provider_number}
 use Rattle.period_order.specs.Resolved.{OrdersAreResolved, books_of, resolved}
 use Rattle.period_order.proofs.BooksLemmas.{account_at, book_at}
-use Rattle.period_order.proofs.GivenLemmas.{is_of_command}
-use Rattle.period_order.proofs.HouseLemmas.{account_number, accounts_added, book_number, books_added, entry_is}
+use Rattle.period_order.proofs.HouseLemmas.{accounts_added, books_added, entry_is}
 use Rattle.period_order.proofs.OrderLemmas.{current_is, order_push, point_is}
+use Rattle.period_order.proofs.OutcomeLemmas.{are_verdicts}
 
 module _ (config : Config) (books : List (List BookEntry)) (accounts : List (List AccountEntry)) (order : List OrderEntry) where
   -- what is kept is resolved
@@ -54,24 +55,24 @@ module _ (config : Config) (books : List (List BookEntry)) (accounts : List (Lis
 
     -- with the event of the command's verdict
     pub keeps_event : (e : Event) (book account : ℕ)
-        → CommandsKeepListsLegal → IsAdmitted config told → (verdict config (known events) told).event ≡ Some e
+        → EventsAreOfTheirCommand → CommandsKeepListsLegal → IsAdmitted config told → (verdict config (known events) told).event ≡ Some e
         → all_different alike_operators config.operators ≡ true → all_different alike_providers config.providers ≡ true
         → ((operator : Party) → operator_of_command told ≡ Some operator → book ≡ length (own_book operator (book_entries events)))
         → ((provider : Party) → provider_of_command told ≡ Some provider → account ≡ length (own_account provider events))
         → Keeps config
-        (with_added books (book_number config events told parties) (book_entry e (count_by is_close order)))
-        (with_added accounts (account_number config events told parties) (account_entry e (count_by is_close order)))
+        (with_added books (book_number config told) (book_entry e (count_by is_close order)))
+        (with_added accounts (account_number config told) (account_entry e (count_by is_close order)))
         (order ++ order_entry config book account e ∷ [])
         (events ++ e ∷ [])
-    keeps_event e book account laws admitted added operators providers in_book in_account =
-        let own = is_of_command config (known events) e told added in
+    keeps_event e book account their laws admitted added operators providers in_book in_account =
+        let own = their config (known events) told e added in
         record {
           legal = subst (IsLegal config) (ap (with_event events) added) (laws config events told keeps.legal admitted);
           books_are =
-              ap₂ (λ b n. with_added b (book_number config events told parties) (book_entry e n)) keeps.books_are period_kept
+              ap₂ (λ b n. with_added b (book_number config told) (book_entry e n)) keeps.books_are period_kept
               ∙ books_added config events told parties operators e own;
           accounts_are =
-              ap₂ (λ a n. with_added a (account_number config events told parties) (account_entry e n)) keeps.accounts_are period_kept
+              ap₂ (λ a n. with_added a (account_number config told) (account_entry e n)) keeps.accounts_are period_kept
               ∙ accounts_added config events told parties providers e own;
           order_is =
               ap₂ (λ o x. o ++ x ∷ []) keeps.order_is (entry_is config events told parties book account e own in_book in_account)
@@ -149,6 +150,11 @@ module _ (config : Config) (books : List PlainBook) (accounts : List PlainAccoun
       by None e = refl
       by (Some provider) e = ap is_some (account_given provider e).1
 
+  -- the verdict on what is known of the book and the account is that of the outcome
+  given_verdict : OutcomesAreVerdicts → (outcome : Outcome) (entries : List BookEntry) (others : List AccountEntry) → outcome ≡ outcome_of told (verdict config (seen entries others order) told)
+      → verdict config (seen entries others order) told ≡ verdict_with config entries outcome
+  given_verdict law outcome entries others is = sym (ap (verdict_with config entries) is ∙ law config (seen entries others order) told)
+
   -- the verdict on the list is that of what is given
   pub verdict_is : VerdictsAreOfOwnEntries → (outcome : Outcome) → Decides config the_book the_account order told outcome
       → verdict config (known events) told ≡ verdict_with config (of_operator (operator_of_command told) (book_entries events)) outcome
@@ -157,7 +163,8 @@ module _ (config : Config) (books : List PlainBook) (accounts : List PlainAccoun
       ∙ ap₂ (λ (point period : ℕ). verdict config (record { book = of_operator (operator_of_command told) (book_entries events); account = of_account (provider_of_command told) (account_entries events); point = point; period = period }) told)
       (sym (point_kept config (entries_of_books books) (entries_of_accounts accounts) order.entries events keeps told parties))
       (sym (period_kept config (entries_of_books books) (entries_of_accounts accounts) order.entries events keeps told parties))
-      ∙ decides.verdict_is (of_operator (operator_of_command told) (book_entries events)) (of_account (provider_of_command told) (account_entries events)) are_of_book are_of_account
+      ∙ given_verdict are_verdicts outcome (of_operator (operator_of_command told) (book_entries events)) (of_account (provider_of_command told) (account_entries events))
+      (decides.outcome_is (of_operator (operator_of_command told) (book_entries events)) (of_account (provider_of_command told) (account_entries events)) are_of_book are_of_account)
 
   -- ---- what stands at the command's numbers
 
@@ -197,13 +204,13 @@ module _ (config : Config) (books : List PlainBook) (accounts : List PlainAccoun
     event_reached = ap (λ (v : Verdict). v.event) verdict_reached ∙ event_is config (of_operator (operator_of_command told) (book_entries events)) outcome
 
     pub keeps_put : (now_books : List (List BookEntry)) (now_accounts : List (List AccountEntry)) (now : PlainOrder)
-        → CommandsKeepListsLegal → IsAdmitted config told
+        → EventsAreOfTheirCommand → CommandsKeepListsLegal → IsAdmitted config told
         → all_different alike_operators config.operators ≡ true → all_different alike_providers config.providers ≡ true
         → now_books ≡ with_event_added (entries_of_books books) (option_map (operator_number config) (operator_of_command told)) (λ e. book_entry e (current_of order)) (event_of outcome)
         → now_accounts ≡ with_event_added (entries_of_accounts accounts) (option_map (provider_number config) (provider_of_command told)) (λ e. account_entry e (current_of order)) (event_of outcome)
         → now ≡ order_with config the_book the_account order outcome
         → Keeps config now_books now_accounts now.entries (with_event events (event_of outcome))
-    keeps_put now_books now_accounts now legal admitted operators providers b a o =
+    keeps_put now_books now_accounts now their legal admitted operators providers b a o =
         subst (λ x. Keeps config x now_accounts now.entries (with_event events (event_of outcome))) (sym b)
         (subst (λ x. Keeps config (with_event_added (entries_of_books books) (option_map (operator_number config) (operator_of_command told)) (λ e. book_entry e (current_of order)) (event_of outcome)) x now.entries (with_event events (event_of outcome))) (sym a)
         (subst (λ (x : PlainOrder). Keeps config (with_event_added (entries_of_books books) (option_map (operator_number config) (operator_of_command told)) (λ e. book_entry e (current_of order)) (event_of outcome))
@@ -217,7 +224,7 @@ module _ (config : Config) (books : List PlainBook) (accounts : List PlainAccoun
         by None e = keeps
         by (Some added) e =
             keeps_event config (entries_of_books books) (entries_of_accounts accounts) order.entries events keeps told parties added
-            (book_length the_book) (account_length the_account) legal admitted (event_reached ∙ e) operators providers book_size_is account_size_is
+            (book_length the_book) (account_length the_account) their legal admitted (event_reached ∙ e) operators providers book_size_is account_size_is
 
     -- and the house follows the verdict
     pub follows : (result : Reply) (point : ℕ) (reply : Result Answer Refusal) (now : List Event) → VerdictsAreTold → result ≡ stamped point reply → point ≡ length order.entries

@@ -1,12 +1,15 @@
 -- What a command comes to at its place in the order.
-use Rattle.std.specs.Prelude.{◌≡◌, ◌≤◌, ◌^◌, ◌+◌, ℕ, Bool, true, false, List, [], ◌∷◌, ◌++◌, count_by, length, Option, Some, None, option_map, Ok}
+use Rattle.std.specs.Prelude.{◌≡◌, ◌≤◌, ◌^◌, ◌+◌, ℕ, Bool, true, false, List, [], ◌∷◌, ◌++◌, count_by, length, Option, Some, None, option_map, Result, Ok, Err}
 use Rattle.ocpi_json.specs.Folded.{same_folded}
 use Rattle.ocpi_types.specs.declared.config.Config.{Config}
+use Rattle.ocpi_types.specs.declared.refusal.Refusal.{Refusal}
 use Rattle.cdr_checks.specs.declared.request.Command.{Command}
 use Rattle.cdr_checks.specs.declared.request.Command.TheVariants as command
+use Rattle.cdr_checks.specs.declared.request.StatementOf.{StatementOf}
 use Rattle.netting_positions.specs.Statement.{statement_rows}
 use Rattle.operator_book.specs.State.{PlainBook}
 use Rattle.provider_account.specs.State.{PlainAccount}
+use Rattle.plain_house.specs.declared.answer.Answer.{Answer}
 use Rattle.plain_house.specs.declared.answer.Answer.TheVariants as answer
 use Rattle.plain_house.specs.declared.entry.AccountEntry.{AccountEntry}
 use Rattle.plain_house.specs.declared.entry.AccountEntry.TheVariants as account
@@ -42,6 +45,33 @@ AreOfAccount None entries = Unit {0}
 AreOfAccount (Some account) entries = entries ≡ account.entries
 
 -- ---- outcomes
+
+-- nothing is left to be collected
+abbrev pub replied_by : Verdict → Outcome
+replied_by verdict = outcome.Replied verdict.reply verdict.event
+
+-- net positions are left to be collected, where the period is closed
+abbrev pub closed_by : ℕ → Result Answer Refusal → Outcome
+closed_by period (Ok answer) = outcome.Closed period
+closed_by period (Err refusal) = outcome.Replied (Err refusal) None
+
+-- rows are left to be collected, where the statement is given
+abbrev pub stated_by : StatementOf → Result Answer Refusal → Outcome
+stated_by ask (Ok answer) = outcome.Stated ask
+stated_by ask (Err refusal) = outcome.Replied (Err refusal) None
+
+-- what a command comes to, by its verdict
+abbrev pub outcome_of : Command → Verdict → Outcome
+outcome_of (command.PutTariff tariff) verdict = replied_by verdict
+outcome_of (command.PutToken token) verdict = replied_by verdict
+outcome_of (command.Authorize ask) verdict = replied_by verdict
+outcome_of (command.Release release) verdict = replied_by verdict
+outcome_of (command.Post checked) verdict = replied_by verdict
+outcome_of (command.Close close) verdict = closed_by close.period verdict.reply
+outcome_of (command.Settle settlement) verdict = replied_by verdict
+outcome_of (command.Exposure ask) verdict = replied_by verdict
+outcome_of (command.Find find) verdict = replied_by verdict
+outcome_of (command.Statement ask) verdict = stated_by ask verdict.reply
 
 -- the verdict, once what is to be collected from books of these entries has been
 abbrev pub verdict_with : Config → List BookEntry → Outcome → Verdict
@@ -140,9 +170,15 @@ Collects command (outcome.Replied reply event) = Unit {0}
 Collects command (outcome.Closed period) = is_close_command command ≡ true
 Collects command (outcome.Stated ask) = is_statement_command command ≡ true
 
+-- with what is collected from books of these entries, what a command comes to is its verdict
+abbrev pub OutcomesAreVerdicts : Type 0
+OutcomesAreVerdicts =
+    (config : Config) (known : Known) (command : Command) →
+    verdict_with config known.book (outcome_of command (verdict config known command)) ≡ verdict config known command
+
 -- the outcome is that of the verdict, and the book and the account take its event
 pub record Decides (config : Config) (book : Option PlainBook) (account : Option PlainAccount) (order : PlainOrder) (command : Command) (outcome : Outcome) : Type 0 where
-  pub verdict_is : (entries : List BookEntry) (others : List AccountEntry) → AreOfBook book entries → AreOfAccount account others → verdict config (seen entries others order) command ≡ verdict_with config entries outcome
+  pub outcome_is : (entries : List BookEntry) (others : List AccountEntry) → AreOfBook book entries → AreOfAccount account others → outcome ≡ outcome_of command (verdict config (seen entries others order) command)
   pub collects : Collects command outcome
   pub in_book : BookTakesAny book (event_of outcome)
   pub in_account : AccountTakesAny account (current_of order) (event_of outcome)

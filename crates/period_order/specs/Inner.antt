@@ -1,4 +1,3 @@
 -- Words that only private contracts and proofs use.
 pub mod Collected
 pub mod Kept
-pub mod Outcomes

@@ -1,15 +1,16 @@
 -- Where the entries of events stand.
-use Rattle.std.specs.Prelude.{ℕ, List, [], ◌∷◌, ◌++◌, length, position, unwrap_or}
+use Rattle.std.specs.Prelude.{◌≡◌, ℕ, List, [], ◌∷◌, ◌++◌, length, count_by, position, unwrap_or}
 use Rattle.ocpi_types.specs.declared.config.Config.{Config}
 use Rattle.ocpi_types.specs.declared.party.Party.{Party}
 use Rattle.ocpi_types.specs.Party.{same_party}
 use Rattle.plain_house.specs.declared.event.Event.{Event}
 use Rattle.plain_house.specs.declared.event.Event.TheVariants as event
-use Rattle.plain_house.specs.Entries.{book_entries}
+use Rattle.plain_house.specs.Entries.{book_entries, period_of}
 use Rattle.plain_house.specs.Own.{own_account, own_book}
 use Rattle.period_order.specs.declared.order_entry.OrderEntry.{OrderEntry}
 use Rattle.period_order.specs.declared.order_entry.OrderEntry.TheVariants as entry
 use Rattle.period_order.specs.declared.order_entry.Place.{Place}
+use Rattle.period_order.specs.Order.{is_close}
 
 -- the number of an operator in the configuration, from 0; where it is not configured, the number of operators
 abbrev pub operator_number : Config → Party → ℕ
@@ -73,3 +74,11 @@ order_after config before (event ∷ later) =
 
 abbrev pub order_of : Config → List Event → List OrderEntry
 order_of config events = order_after config [] events
+
+-- the order has an entry for each event, and a close for each period that is closed
+pub record IsCounted (config : Config) (events : List Event) : Type 0 where
+  pub entries : length (order_of config events) ≡ length events
+  pub closes : count_by is_close (order_of config events) ≡ period_of events
+
+abbrev pub OrdersAreCounted : Type 0
+OrdersAreCounted = (config : Config) (events : List Event) → IsCounted config events

@@ -1,7 +1,9 @@
 -- The events that an order names, found in books and accounts.
-use Rattle.std.specs.Prelude.{◌≡◌, ℕ, ◌+◌, List, [], ◌∷◌, ◌++◌, Option, Some, None, option_map, option_and_then, slice_get, map}
+use Rattle.std.specs.Prelude.{◌≡◌, ℕ, ◌+◌, true, List, [], ◌∷◌, ◌++◌, Option, Some, None, option_map, option_and_then, slice_get, map}
 use Rattle.std.specs.Option.{option_to_list}
 use Rattle.ocpi_types.specs.declared.config.Config.{Config}
+use Rattle.ocpi_types.specs.declared.party.Party.{Party}
+use Rattle.ocpi_types.specs.Config.{is_operator, is_provider}
 use Rattle.plain_house.specs.declared.entry.AccountEntry.{AccountEntry}
 use Rattle.plain_house.specs.declared.entry.AccountEntry.TheVariants as account
 use Rattle.plain_house.specs.declared.entry.BookEntry.{BookEntry}
@@ -14,7 +16,7 @@ use Rattle.plain_house.specs.Own.{own_account, own_book}
 use Rattle.period_order.specs.declared.order_entry.OrderEntry.{OrderEntry}
 use Rattle.period_order.specs.declared.order_entry.OrderEntry.TheVariants as entry
 use Rattle.period_order.specs.declared.order_entry.Place.{Place}
-use Rattle.period_order.specs.Places.{order_of}
+use Rattle.period_order.specs.Places.{operator_number, order_of, provider_number}
 
 -- the entry at a place
 abbrev pub entry_at : {X : Type 0} → List (List X) → Place → Option X
@@ -70,3 +72,11 @@ abbrev pub OrdersAreResolved : Type 0
 OrdersAreResolved =
     (config : Config) (events : List Event) → IsLegal config events →
     resolved (books_of config events) (accounts_of config events) (order_of config events) ≡ events
+
+-- at the number of a configured operator stands its own book, and at that of a provider its own account
+pub record StandAtTheirNumbers (config : Config) (events : List Event) : Type 0 where
+  pub operator : (party : Party) → is_operator config party ≡ true → slice_get (books_of config events) (operator_number config party) ≡ Some (own_book party (book_entries events))
+  pub provider : (party : Party) → is_provider config party ≡ true → slice_get (accounts_of config events) (provider_number config party) ≡ Some (own_account party events)
+
+abbrev pub PartiesStandAtTheirNumbers : Type 0
+PartiesStandAtTheirNumbers = (config : Config) (events : List Event) → StandAtTheirNumbers config events

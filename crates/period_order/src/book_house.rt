@@ -15,7 +15,6 @@ mod books;
 mod close;
 mod collectable;
 mod perform;
-mod replies;
 mod statement;
 
 /// A house that keeps a book for each operator, an account for each provider, and the order of events.

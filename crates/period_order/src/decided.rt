@@ -7,6 +7,8 @@ use plain_house::{Answer, Event};
 pub struct Decided {
     /// The number of events before it.
     pub point: u64,
+    /// The period that is current there: the number of closes before it.
+    pub period: u64,
     pub outcome: Outcome,
 }
 

@@ -4,7 +4,7 @@ ghost use Rattle.std.specs.Prelude.{◌≡◌, true, false, is_some, Some, None}
 ghost use Rattle.std.specs.Option.{option_copied};
 ghost use Rattle.cdr_checks.specs.Parties.{operator_of_command, provider_of_command};
 ghost use Rattle.period_order.specs.Decided.{Decides, order_with};
-ghost use Rattle.period_order.specs.Order.{point_of};
+ghost use Rattle.period_order.specs.Order.{current_of, point_of};
 
 use super::decided::{Decided, Outcome};
 use super::order::Order;
@@ -39,12 +39,18 @@ pub fn decide(
     requires account { is_some account ≡ is_some (provider_of_command command) }
     requires room { order.old.has_room ≡ true }
     ensures point { result.point ≡ point_of order.old }
+    ensures period { result.period ≡ current_of order.old }
     ensures outcome { Decides config.now (option_copied book.entry) (option_copied account.entry) order.old command result.outcome }
     ensures order { order.new ≡ order_with config.now (option_copied book.entry) (option_copied account.entry) order.old result.outcome }
 {
     let point = order.point();
+    let period = order.current();
     let outcome = outcome(config, command, book, account, order);
-    Decided { point, outcome }
+    Decided {
+        point,
+        period,
+        outcome,
+    }
 }
 
 fn the_book(book: Option<&Book>) -> &Book

@@ -1,12 +1,54 @@
 //! What follows from the definitions.
 
-ghost use Rattle.period_order.specs.Resolved.{OrdersAreResolved};
+ghost use Rattle.period_order.specs.Decided.{OutcomesAreVerdicts};
+ghost use Rattle.period_order.specs.Dues.{BooksAreCollectable};
+ghost use Rattle.period_order.specs.Kept.{EventsAreKept};
+ghost use Rattle.period_order.specs.Places.{OrdersAreCounted};
+ghost use Rattle.period_order.specs.Resolved.{OrdersAreResolved, PartiesStandAtTheirNumbers};
 
 use cdr_checks::commands_have_parties;
+use netting_positions::operators_owe_alike;
+use plain_house::{
+    commands_keep_lists_legal, events_are_of_their_command, legal_lists_can_be_netted,
+};
 
 /// The order of a legal list, resolved in its books and accounts, is the list.
 pub fn orders_are_resolved()
     ensures { OrdersAreResolved }
 {
     commands_have_parties();
+}
+
+/// The order of a list has an entry for each event, and a close for each period that is closed.
+pub fn orders_are_counted()
+    ensures { OrdersAreCounted }
+{}
+
+/// What a command comes to is its verdict, with what is collected where it closes a period or gives a statement.
+pub fn outcomes_are_verdicts()
+    ensures { OutcomesAreVerdicts }
+{}
+
+/// At the number of a configured operator stands its own book, and at that of a provider its own account.
+pub fn parties_stand_at_their_numbers()
+    ensures { PartiesStandAtTheirNumbers }
+{}
+
+/// Books, accounts and order that keep a list, with the entries of the event that an admitted command adds, keep the list with
+/// the event.
+pub fn events_are_kept()
+    ensures { EventsAreKept }
+{
+    commands_have_parties();
+    commands_keep_lists_legal();
+    events_are_of_their_command();
+}
+
+/// What the operators of a legal list are owed of a period can be collected book by book, and they owe alike with what the list
+/// obliges to.
+pub fn books_are_collectable()
+    ensures { BooksAreCollectable }
+{
+    legal_lists_can_be_netted();
+    operators_owe_alike();
 }

@@ -3,7 +3,7 @@
 ghost use Rattle.std.specs.Prelude.{◌≡◌};
 
 use super::order_entry::OrderEntry;
-use ocpi_types::{Config, Refusal};
+use ocpi_types::{Config, Refusal, Store};
 use std::alloc::{AllocError, Global};
 use std::marker::Model;
 
@@ -29,9 +29,9 @@ impl Model for Order {
 
 impl Order {
     ghost use Rattle.std.specs.Prelude.{◌≡◌, [], ◌∷◌, ◌++◌, true, false, OnOk, OnErr};
-    ghost use Rattle.period_order.specs.Order.{current_of, is_close, point_of};
-    ghost use Rattle.plain_house.specs.Room.{are_periods_full, is_order_full};
-    ghost use Rattle.period_order.specs.declared.order_entry.OrderEntry.TheVariants as entry;
+    ghost use Rattle.ocpi_types.specs.declared.refusal.Store.TheVariants as store;
+    ghost use Rattle.period_order.specs.Order.{current_of, cut, is_close, order_cut, point_of};
+    ghost use Rattle.plain_house.specs.Room.{are_periods_full, first_full, is_order_full};
 
     /// An order without entries.
     pub fn new(alloc: Global) -> Order
@@ -49,6 +49,13 @@ impl Order {
         ensures { result.now ≡ self.now.entries }
     {
         self.entries.as_slice()
+    }
+
+    /// The same, taken out of the order.
+    pub fn into_entries(self) -> Vec<OrderEntry>
+        ensures { result.items ≡ self.entries }
+    {
+        self.entries
     }
 
     /// The number of events so far.
@@ -99,13 +106,40 @@ impl Order {
         self.has_room = false;
     }
 
-    /// Closes the current period, without taking memory.
-    pub fn close(&mut self)
-        requires { self.old.has_room ≡ true }
-        ensures { self.new ≡ record { entries = self.old.entries ++ entry.Close ∷ []; has_room = false } }
+    // The store that is full, the order first, where a period cannot be closed.
+    fn full_for_close(&self, config: &Config) -> Option<Store>
+        ensures { result ≡ first_full ((store.Order, is_order_full config.now (point_of self.now))
+            ∷ (store.Periods, are_periods_full config.now (current_of self.now)) ∷ []) }
     {
+        if self.is_full(config) {
+            return Some(Store::Order);
+        }
+        if self.are_periods_full(config) {
+            return Some(Store::Periods);
+        }
+        None
+    }
+
+    /// Closes the period, without taking memory, and gives the number of events before its end.
+    ///
+    /// `NotCurrent` where it is not the current one, `Full` where there are as many events, or as many closed periods, as
+    /// the configuration allows; the order is then as before.
+    pub fn cut(&mut self, config: &Config, period: u64) -> Result<u64, Refusal>
+        requires { self.old.has_room ≡ true }
+        ensures point { result ≡ cut config.now period self.old }
+        ensures order { self.new ≡ order_cut self.old (cut config.now period self.old) }
+    {
+        let current = self.current();
+        if period != current {
+            return Err(Refusal::NotCurrent { current });
+        }
+        if let Some(what) = self.full_for_close(config) {
+            return Err(Refusal::Full { what });
+        }
+        let point = self.point();
         let _ = self.entries.push(OrderEntry::Close);
         self.period += 1;
         self.has_room = false;
+        Ok(point)
     }
 }

@@ -19,7 +19,7 @@ pub fn put_in_account(account: &mut Account, event: &Event, period: u64)
         Event::Authorised(hold) => account.hold(*hold),
         Event::Released(release) => account.release(*release),
         Event::Cdr { cdr, cost } => account.bill(charge_of(cdr, *cost, period)),
-        Event::Credit { cdr, .. } => account.credit(credit_of(cdr, period)),
+        Event::Credit { cdr, amount } => account.credit(credit_of(cdr, *amount, period)),
         Event::Settled(settlement) => account.settle(*settlement),
         Event::Tariff(_) | Event::Closed { .. } => {}
     }

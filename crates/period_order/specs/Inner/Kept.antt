@@ -1,30 +1,21 @@
--- What a house of books, accounts and an order keeps of its list of events.
-use Rattle.std.specs.Prelude.{◌≡◌, ℕ, true, List, [], ◌++◌, Option, Some, None, map, slice_get, slice_set, unwrap_or}
+-- What a house of books, accounts and an order has, and what it can put.
+use Rattle.std.specs.Prelude.{◌≡◌, ℕ, true, List, Option, Some, None, map, slice_get}
 use Rattle.ocpi_types.specs.declared.config.Config.{Config}
 use Rattle.operator_book.specs.State.{PlainBook}
 use Rattle.provider_account.specs.State.{PlainAccount}
 use Rattle.plain_house.specs.declared.entry.AccountEntry.{AccountEntry}
 use Rattle.plain_house.specs.declared.entry.BookEntry.{BookEntry}
 use Rattle.plain_house.specs.declared.event.Event.{Event}
-use Rattle.plain_house.specs.Legal.{IsLegal}
 use Rattle.period_order.specs.Decided.{AccountTakes, BookTakes}
-use Rattle.period_order.specs.declared.order_entry.OrderEntry.{OrderEntry}
+use Rattle.period_order.specs.Kept.{Keeps, with_added}
 use Rattle.period_order.specs.Order.{PlainOrder}
-use Rattle.period_order.specs.Places.{order_of}
-use Rattle.period_order.specs.Resolved.{accounts_of, books_of, resolved}
+use Rattle.period_order.specs.Resolved.{resolved}
 
 abbrev pub entries_of_books : List PlainBook → List (List BookEntry)
 entries_of_books books = map (λ book. book.entries) books
 
 abbrev pub entries_of_accounts : List PlainAccount → List (List AccountEntry)
 entries_of_accounts accounts = map (λ account. account.entries) accounts
-
--- books, accounts and order are those of a legal list
-pub record Keeps (config : Config) (books : List (List BookEntry)) (accounts : List (List AccountEntry)) (order : List OrderEntry) (events : List Event) : Type 0 where
-  pub legal : IsLegal config events
-  pub books_are : books ≡ books_of config events
-  pub accounts_are : accounts ≡ accounts_of config events
-  pub order_is : order ≡ order_of config events
 
 -- the events of a house
 abbrev pub kept_events : List PlainBook → List PlainAccount → PlainOrder → List Event
@@ -36,12 +27,7 @@ IsKept config books accounts order =
 
 -- ---- one entry more
 
--- the list of that number, with these behind it
-abbrev pub with_added : {X : Type 0} → List (List X) → Option ℕ → List X → List (List X)
-with_added lists None added = lists
-with_added lists (Some number) added = slice_set lists number (unwrap_or (slice_get lists number) [] ++ added)
-
--- the same with what an event adds, if there is one
+-- the list of that number, with what an event adds behind it, if there is one
 abbrev pub with_event_added : {X : Type 0} → List (List X) → Option ℕ → (Event → List X) → Option Event → List (List X)
 with_event_added lists number added None = lists
 with_event_added lists number added (Some event) = with_added lists number (added event)

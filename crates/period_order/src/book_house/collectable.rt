@@ -3,15 +3,13 @@
 ghost use Rattle.std.specs.Prelude.{◌≡◌, ◌≤◌, length, true};
 ghost use Rattle.ocpi_types.specs.Config.{alike_operators, alike_providers};
 ghost use Rattle.ocpi_types.specs.Different.{all_different};
-ghost use Rattle.period_order.specs.Inner.Collected.{AreCollectable};
+ghost use Rattle.period_order.specs.Dues.{AreCollectable};
 ghost use Rattle.period_order.specs.Inner.Kept.{IsKept, entries_of_books, kept_events};
 
-use crate::laws::orders_are_resolved;
+use crate::laws::books_are_collectable;
 use crate::order::Order;
-use netting_positions::operators_owe_alike;
 use ocpi_types::Config;
 use operator_book::Book;
-use plain_house::legal_lists_can_be_netted;
 use provider_account::Account;
 
 /// States that no two operators and no two providers are the same.
@@ -33,13 +31,16 @@ fn is_bounded(config: &Config)
 }
 
 /// States that what is owed of a period can be collected book by book.
-pub fn books_are_collectable(config: &Config, books: &[Book], accounts: &[Account], order: &Order)
+pub fn kept_books_are_collectable(
+    config: &Config,
+    books: &[Book],
+    accounts: &[Account],
+    order: &Order,
+)
     requires { IsKept config.now books.now accounts.now order.now }
     ensures { AreCollectable config.now (entries_of_books books.now) (kept_events books.now accounts.now order.now) }
 {
-    orders_are_resolved();
-    legal_lists_can_be_netted();
-    operators_owe_alike();
+    books_are_collectable();
     parties_are_distinct(config);
     is_bounded(config);
     let _ = books;

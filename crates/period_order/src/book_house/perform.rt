@@ -1,17 +1,15 @@
 //! Commands that look into one book, one account, or both.
 
-ghost use Rattle.std.specs.Prelude.{◌≡◌, ◌<◌, true, false, option_map, length, IfSome, OnOk};
+ghost use Rattle.std.specs.Prelude.{◌≡◌, ◌<◌, true, false, length, IfSome, OnOk};
 ghost use Rattle.cdr_checks.specs.Admission.{IsAdmitted};
-ghost use Rattle.cdr_checks.specs.Parties.{operator_of_command, provider_of_command};
 ghost use Rattle.plain_house.specs.Entries.{account_entry, book_entry};
 ghost use Rattle.plain_house.specs.House.{Does};
 ghost use Rattle.period_order.specs.Decided.{is_close_command, is_statement_command};
-ghost use Rattle.period_order.specs.Inner.Kept.{AccountHasRoom, AccountTakesAt, BookHasRoom, BookTakesAt, IsKept, entries_of_accounts, entries_of_books, kept_events, with_added, with_event_added};
-ghost use Rattle.period_order.specs.Places.{operator_number, provider_number};
+ghost use Rattle.period_order.specs.Kept.{account_number, book_number, with_added};
+ghost use Rattle.period_order.specs.Inner.Kept.{AccountHasRoom, AccountTakesAt, BookHasRoom, BookTakesAt, IsKept, entries_of_accounts, entries_of_books, kept_events, with_event_added};
 
 use super::books::{account_at, book_at, reserve_account, reserve_book};
 use super::collectable::parties_are_distinct;
-use super::replies::{out_of_memory, stamped};
 use crate::decided::{Decided, Outcome};
 use crate::decision::decide;
 use crate::laws::orders_are_resolved;
@@ -22,21 +20,21 @@ use cdr_checks::{Command, commands_have_parties};
 use ocpi_types::Config;
 use operator_book::Book;
 use plain_house::{
-    Event, Refused, Replied, commands_keep_lists_legal, verdicts_are_of_own_entries,
-    verdicts_are_told,
+    Event, Refused, Replied, commands_keep_lists_legal, events_are_of_their_command, out_of_memory,
+    stamped, verdicts_are_of_own_entries, verdicts_are_told,
 };
 use provider_account::Account;
 use std::alloc::AllocError;
 
 fn book_number(config: &Config, command: &Command) -> Option<usize>
-    ensures { result ≡ option_map (operator_number config.now) (operator_of_command command.now) }
+    ensures { result ≡ book_number config.now command.now }
 {
     let operator = command.operator()?;
     Some(operator_number(config, &operator))
 }
 
 fn account_number(config: &Config, command: &Command) -> Option<usize>
-    ensures { result ≡ option_map (provider_number config.now) (provider_of_command command.now) }
+    ensures { result ≡ account_number config.now command.now }
 {
     let provider = command.provider()?;
     Some(provider_number(config, &provider))
@@ -132,6 +130,7 @@ pub fn perform(
     orders_are_resolved();
     commands_have_parties();
     commands_keep_lists_legal();
+    events_are_of_their_command();
     verdicts_are_of_own_entries();
     verdicts_are_told();
     parties_are_distinct(config);
@@ -140,10 +139,13 @@ pub fn perform(
     if reserve(books, book, accounts, account, order).is_err() {
         return Err(out_of_memory());
     }
-    let period = order.current();
     let given_book = book_at(books.as_slice(), book);
     let given_account = account_at(accounts.as_slice(), account);
-    let Decided { point, outcome } = decide(config, command, given_book, given_account, order);
+    let Decided {
+        point,
+        period,
+        outcome,
+    } = decide(config, command, given_book, given_account, order);
     match outcome {
         Outcome::Replied { reply, event } => {
             put(books, book, accounts, account, event, period);

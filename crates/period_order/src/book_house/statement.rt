@@ -6,11 +6,10 @@ ghost use Rattle.cdr_checks.specs.declared.request.Command.TheVariants.{Statemen
 ghost use Rattle.netting_positions.specs.Statement.{statement_rows};
 ghost use Rattle.netting_positions.specs.SameSums.{OweAlike};
 ghost use Rattle.plain_house.specs.House.{Does};
-ghost use Rattle.period_order.specs.Inner.Collected.{CanBeCollected, dues};
+ghost use Rattle.period_order.specs.Dues.{CanBeCollected, dues};
 ghost use Rattle.period_order.specs.Inner.Kept.{IsKept, entries_of_books, kept_events};
 
-use super::collectable::{books_are_collectable, parties_are_distinct};
-use super::replies::{out_of_memory, stamped};
+use super::collectable::{kept_books_are_collectable, parties_are_distinct};
 use crate::decided::{Decided, Outcome};
 use crate::decision::decide;
 use crate::laws::orders_are_resolved;
@@ -23,8 +22,8 @@ use ocpi_json::sequence::Sequence;
 use ocpi_types::Config;
 use operator_book::Book;
 use plain_house::{
-    Answer, Refused, Replied, commands_keep_lists_legal, verdicts_are_of_own_entries,
-    verdicts_are_told,
+    Answer, Refused, Replied, commands_keep_lists_legal, events_are_of_their_command,
+    out_of_memory, stamped, verdicts_are_of_own_entries, verdicts_are_told,
 };
 use provider_account::Account;
 use std::alloc::{AllocError, Global};
@@ -89,15 +88,16 @@ pub fn statement(
     orders_are_resolved();
     commands_have_parties();
     commands_keep_lists_legal();
+    events_are_of_their_command();
     verdicts_are_of_own_entries();
     verdicts_are_told();
     sums_decide_statements();
     parties_are_distinct(config);
-    books_are_collectable(config, books, accounts, order);
+    kept_books_are_collectable(config, books, accounts, order);
     if order.reserve().is_err() {
         return Err(out_of_memory());
     }
-    let Decided { point, outcome } = decide(config, Command::Statement(ask), None, None, order);
+    let Decided { point, outcome, .. } = decide(config, Command::Statement(ask), None, None, order);
     match outcome {
         Outcome::Replied { reply, .. } => stamped(point, reply),
         Outcome::Stated { ask } => {

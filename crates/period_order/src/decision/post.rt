@@ -7,8 +7,7 @@ ghost use Rattle.plain_house.specs.Exposure.{exposure_of, of_provider};
 ghost use Rattle.plain_house.specs.Posting.{over_limit};
 ghost use Rattle.plain_house.specs.House.{cdr_judged, cdr_posted, credit_judged, credit_posted};
 ghost use Rattle.period_order.specs.declared.order_entry.OrderEntry.TheVariants as entry;
-ghost use Rattle.period_order.specs.Decided.{AccountTakesAny, Decides, event_of, order_with, seen};
-ghost use Rattle.period_order.specs.Inner.Outcomes.{outcome_of};
+ghost use Rattle.period_order.specs.Decided.{AccountTakesAny, Decides, event_of, order_with, replied_by, seen};
 ghost use Rattle.period_order.specs.Order.{current_of};
 ghost use Rattle.period_order.specs.Places.{in_account, in_book};
 
@@ -55,7 +54,7 @@ fn take_cdr(
     order: &mut Order,
 ) -> Outcome
     requires { order.old.has_room ≡ true }
-    ensures outcome { result ≡ outcome_of (cdr_judged config.now (seen book.now.entries account.now.entries order.old) cdr cost (Ok (pos cost))) }
+    ensures outcome { result ≡ replied_by (cdr_judged config.now (seen book.now.entries account.now.entries order.old) cdr cost (Ok (pos cost))) }
     ensures takes { AccountTakesAny (Some account.now) (current_of order.old) (event_of result) }
     ensures order { order.new ≡ order_with config.now (Some book.now) (Some account.now) order.old result }
 {
@@ -85,7 +84,7 @@ fn take_credit(
     order: &mut Order,
 ) -> Outcome
     requires { order.old.has_room ≡ true }
-    ensures outcome { result ≡ outcome_of (credit_judged config.now (seen book.now.entries account.now.entries order.old) credit (Ok booked)) }
+    ensures outcome { result ≡ replied_by (credit_judged config.now (seen book.now.entries account.now.entries order.old) credit (Ok booked)) }
     ensures takes { AccountTakesAny (Some account.now) (current_of order.old) (event_of result) }
     ensures order { order.new ≡ order_with config.now (Some book.now) (Some account.now) order.old result }
 {
@@ -111,7 +110,7 @@ fn post_cdr(
     order: &mut Order,
 ) -> Outcome
     requires { order.old.has_room ≡ true }
-    ensures outcome { result ≡ outcome_of (cdr_posted config.now (seen book.now.entries account.now.entries order.old) cdr cost) }
+    ensures outcome { result ≡ replied_by (cdr_posted config.now (seen book.now.entries account.now.entries order.old) cdr cost) }
     ensures takes { AccountTakesAny (Some account.now) (current_of order.old) (event_of result) }
     ensures order { order.new ≡ order_with config.now (Some book.now) (Some account.now) order.old result }
 {
@@ -129,7 +128,7 @@ fn post_credit(
     order: &mut Order,
 ) -> Outcome
     requires { order.old.has_room ≡ true }
-    ensures outcome { result ≡ outcome_of (credit_posted config.now (seen book.now.entries account.now.entries order.old) credit) }
+    ensures outcome { result ≡ replied_by (credit_posted config.now (seen book.now.entries account.now.entries order.old) credit) }
     ensures takes { AccountTakesAny (Some account.now) (current_of order.old) (event_of result) }
     ensures order { order.new ≡ order_with config.now (Some book.now) (Some account.now) order.old result }
 {

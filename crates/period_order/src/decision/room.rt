@@ -2,8 +2,8 @@
 
 ghost use Rattle.std.specs.Prelude.{◌≡◌, [], ◌∷◌};
 ghost use Rattle.ocpi_types.specs.declared.refusal.Store.TheVariants as store;
-ghost use Rattle.plain_house.specs.Room.{are_cdrs_full, are_periods_full, are_versions_full, first_full, is_account_full, is_order_full};
-ghost use Rattle.period_order.specs.Order.{current_of, point_of};
+ghost use Rattle.plain_house.specs.Room.{are_cdrs_full, are_versions_full, first_full, is_account_full, is_order_full};
+ghost use Rattle.period_order.specs.Order.{point_of};
 
 use crate::order::Order;
 use ocpi_types::{Cdr, Config, Party, Store};
@@ -15,20 +15,6 @@ fn full_order(config: &Config, order: &Order) -> Option<Store>
 {
     if order.is_full(config) {
         return Some(Store::Order);
-    }
-    None
-}
-
-/// The store that is full, the order first, where a period cannot be closed.
-pub fn full_for_close(config: &Config, order: &Order) -> Option<Store>
-    ensures { result ≡ first_full ((store.Order, is_order_full config.now (point_of order.now))
-        ∷ (store.Periods, are_periods_full config.now (current_of order.now)) ∷ []) }
-{
-    if order.is_full(config) {
-        return Some(Store::Order);
-    }
-    if order.are_periods_full(config) {
-        return Some(Store::Periods);
     }
     None
 }

@@ -6,8 +6,9 @@ use Rattle.plain_house.specs.Entries.{book_entries}
 use Rattle.plain_house.specs.Obligations.{obligations}
 use Rattle.period_order.specs.declared.decided.Outcome.TheVariants as outcome
 use Rattle.period_order.specs.Decided.{Decides, order_with}
-use Rattle.period_order.specs.Inner.Collected.{dues}
-use Rattle.period_order.specs.Inner.Kept.{Keeps, entries_of_accounts, entries_of_books, kept_events}
+use Rattle.period_order.specs.Dues.{dues}
+use Rattle.period_order.specs.Kept.{Keeps}
+use Rattle.period_order.specs.Inner.Kept.{entries_of_accounts, entries_of_books, kept_events}
 use Rattle.period_order.proofs.CollectLemmas.{follows_all, keeps_all, still_ordered}
 use Rattle.period_order.proofs.PerformLemmas.{kept_is, kept_still}
 use Rattle.period_order.proofs.book_house.close.close.Goals as goal
@@ -24,7 +25,7 @@ returns-in-Replied-clause-kept c =
     let known = c.commands_have_parties.ensures config told c.requires.admitted in
     let decides = subst (Decides config None None order told) c.in-Replied.is c.decide-point.ensures.outcome in
     let kept = keeps_all config books accounts order _ keeps told known refl refl reached decides c.verdicts_are_of_own_entries.ensures c.decide-point.new.order
-    c.commands_keep_lists_legal.ensures c.requires.admitted c.parties_are_distinct.ensures.operators c.parties_are_distinct.ensures.providers
+    c.events_are_of_their_command.ensures c.commands_keep_lists_legal.ensures c.requires.admitted c.parties_are_distinct.ensures.operators c.parties_are_distinct.ensures.providers
     (c.decide-point.ensures.order ∙ ap (order_with config None None order) c.in-Replied.is) in
     let is = kept_is config _ _ _ _ c.orders_are_resolved.ensures kept in
     subst (Keeps config (entries_of_books books) (entries_of_accounts accounts) c.decide-point.new.order.entries) (sym is) kept
@@ -41,7 +42,7 @@ returns-in-Replied-clause-does c =
     let known = c.commands_have_parties.ensures config told c.requires.admitted in
     let decides = subst (Decides config None None order told) c.in-Replied.is c.decide-point.ensures.outcome in
     let kept = keeps_all config books accounts order _ keeps told known refl refl reached decides c.verdicts_are_of_own_entries.ensures c.decide-point.new.order
-    c.commands_keep_lists_legal.ensures c.requires.admitted c.parties_are_distinct.ensures.operators c.parties_are_distinct.ensures.providers
+    c.events_are_of_their_command.ensures c.commands_keep_lists_legal.ensures c.requires.admitted c.parties_are_distinct.ensures.operators c.parties_are_distinct.ensures.providers
     (c.decide-point.ensures.order ∙ ap (order_with config None None order) c.in-Replied.is) in
     let is = kept_is config _ _ _ _ c.orders_are_resolved.ensures kept in
     follows_all config books accounts order _ keeps told known refl refl reached decides c.verdicts_are_of_own_entries.ensures
@@ -60,7 +61,7 @@ returns-in-Closed-clause-kept c =
     let known = c.commands_have_parties.ensures config told c.requires.admitted in
     let decides = subst (Decides config None None order told) c.in-Closed.is c.decide-point.ensures.outcome in
     let kept = keeps_all config books accounts order _ keeps told known refl refl reached decides c.verdicts_are_of_own_entries.ensures c.decide-point.new.order
-    c.commands_keep_lists_legal.ensures c.requires.admitted c.parties_are_distinct.ensures.operators c.parties_are_distinct.ensures.providers
+    c.events_are_of_their_command.ensures c.commands_keep_lists_legal.ensures c.requires.admitted c.parties_are_distinct.ensures.operators c.parties_are_distinct.ensures.providers
     (c.decide-point.ensures.order ∙ ap (order_with config None None order) c.in-Closed.is) in
     let is = kept_is config _ _ _ _ c.orders_are_resolved.ensures kept in
     subst (Keeps config (entries_of_books books) (entries_of_accounts accounts) c.decide-point.new.order.entries) (sym is) kept
@@ -77,7 +78,7 @@ returns-in-Closed-clause-does c =
     let known = c.commands_have_parties.ensures config told c.requires.admitted in
     let decides = subst (Decides config None None order told) c.in-Closed.is c.decide-point.ensures.outcome in
     let kept = keeps_all config books accounts order _ keeps told known refl refl reached decides c.verdicts_are_of_own_entries.ensures c.decide-point.new.order
-    c.commands_keep_lists_legal.ensures c.requires.admitted c.parties_are_distinct.ensures.operators c.parties_are_distinct.ensures.providers
+    c.events_are_of_their_command.ensures c.commands_keep_lists_legal.ensures c.requires.admitted c.parties_are_distinct.ensures.operators c.parties_are_distinct.ensures.providers
     (c.decide-point.ensures.order ∙ ap (order_with config None None order) c.in-Closed.is) in
     let is = kept_is config _ _ _ _ c.orders_are_resolved.ensures kept in
     follows_all config books accounts order _ keeps told known refl refl reached decides c.verdicts_are_of_own_entries.ensures
@@ -85,4 +86,4 @@ returns-in-Closed-clause-does c =
     (ap (λ positions. Ok (answer.Closed c.in-Closed.period positions))
     (c.netted-positions.ensures
     ∙ c.sums_decide_net_positions.ensures (parties config) config.currencies (dues config.operators c.in-Closed.period (entries_of_books books)) (obligations c.in-Closed.period (book_entries (kept_events books accounts c.args.order.now)))
-    (c.books_are_collectable.ensures.alike c.in-Closed.period))) is
+    (c.kept_books_are_collectable.ensures.alike c.in-Closed.period))) is

@@ -1,6 +1,7 @@
 use Rattle.std.proofs.Common.{◌≡◌, length}
 use Rattle.netting_positions.specs.Netting.{parties}
-use Rattle.period_order.specs.Inner.Collected.{IsCollecting, dues}
+use Rattle.period_order.specs.Dues.{dues}
+use Rattle.period_order.specs.Inner.Collected.{IsCollecting}
 use Rattle.period_order.specs.Inner.Kept.{entries_of_books}
 use Rattle.period_order.proofs.book_house.close.collect.Given as goal
 

@@ -1,7 +1,8 @@
 use Rattle.std.specs.Option.{option_and_then}
 use Rattle.std.proofs.Common.{slice_get, ◌<◌, ℕ, Option, IfSome, is_some, length, refl, ap, ap₂, sym, subst, ◌∙◌}
 use Rattle.plain_house.specs.Entries.{account_entry, book_entry}
-use Rattle.period_order.specs.Inner.Kept.{Keeps, entries_of_accounts, entries_of_books, with_event_added}
+use Rattle.period_order.specs.Kept.{Keeps}
+use Rattle.period_order.specs.Inner.Kept.{entries_of_accounts, entries_of_books, with_event_added}
 use Rattle.period_order.specs.declared.decided.Outcome.TheVariants as outcome
 use Rattle.period_order.proofs.PerformLemmas.{account_within, book_within, follows, is_given_account, decides_given, is_given_book, keeps_put, kept_is, kept_still, ordered_given, some_copied}
 use Rattle.period_order.proofs.book_house.perform.perform.Goals as goal
@@ -61,10 +62,10 @@ returns-clause-kept c =
     let account_is = c.account_at-given_account.ensures ∙ ap₂ (λ l (o : Option ℕ). option_and_then (slice_get l) o) c.as_slice-2.ensures.value c.account_number-account.ensures in
     let decides = decides_given config books accounts order told _ _ _ _ book_is account_is c.in-Replied.is c.decide-point.ensures.outcome in
     let ordered = ordered_given config books accounts order told _ _ _ _ _ book_is account_is c.in-Replied.is c.decide-point.ensures.order in
-    let now_books = c.put.ensures.books ∙ ap₂ (λ (o : Option ℕ) n. with_event_added (entries_of_books books) o (λ e. book_entry e n) c.in-Replied.event) c.book_number-book.ensures c.current-period.ensures in
-    let now_accounts = c.put.ensures.accounts ∙ ap₂ (λ (o : Option ℕ) n. with_event_added (entries_of_accounts accounts) o (λ e. account_entry e n) c.in-Replied.event) c.account_number-account.ensures c.current-period.ensures in
+    let now_books = c.put.ensures.books ∙ ap₂ (λ (o : Option ℕ) n. with_event_added (entries_of_books books) o (λ e. book_entry e n) c.in-Replied.event) c.book_number-book.ensures c.decide-point.ensures.period in
+    let now_accounts = c.put.ensures.accounts ∙ ap₂ (λ (o : Option ℕ) n. with_event_added (entries_of_accounts accounts) o (λ e. account_entry e n) c.in-Replied.event) c.account_number-account.ensures c.decide-point.ensures.period in
     let kept = keeps_put config books accounts order _ keeps told parties (outcome.Replied c.in-Replied.reply c.in-Replied.event) decides c.verdicts_are_of_own_entries.ensures _ _ _
-    c.commands_keep_lists_legal.ensures c.requires.admitted c.parties_are_distinct.ensures.operators c.parties_are_distinct.ensures.providers now_books now_accounts ordered in
+    c.events_are_of_their_command.ensures c.commands_keep_lists_legal.ensures c.requires.admitted c.parties_are_distinct.ensures.operators c.parties_are_distinct.ensures.providers now_books now_accounts ordered in
     let is = kept_is config _ _ _ _ c.orders_are_resolved.ensures kept in
     subst (Keeps config (entries_of_books c.put.new.books.items) (entries_of_accounts c.put.new.accounts.items) c.decide-point.new.order.entries) (sym is) kept
 
@@ -81,10 +82,10 @@ returns-clause-does c =
     let account_is = c.account_at-given_account.ensures ∙ ap₂ (λ l (o : Option ℕ). option_and_then (slice_get l) o) c.as_slice-2.ensures.value c.account_number-account.ensures in
     let decides = decides_given config books accounts order told _ _ _ _ book_is account_is c.in-Replied.is c.decide-point.ensures.outcome in
     let ordered = ordered_given config books accounts order told _ _ _ _ _ book_is account_is c.in-Replied.is c.decide-point.ensures.order in
-    let now_books = c.put.ensures.books ∙ ap₂ (λ (o : Option ℕ) n. with_event_added (entries_of_books books) o (λ e. book_entry e n) c.in-Replied.event) c.book_number-book.ensures c.current-period.ensures in
-    let now_accounts = c.put.ensures.accounts ∙ ap₂ (λ (o : Option ℕ) n. with_event_added (entries_of_accounts accounts) o (λ e. account_entry e n) c.in-Replied.event) c.account_number-account.ensures c.current-period.ensures in
+    let now_books = c.put.ensures.books ∙ ap₂ (λ (o : Option ℕ) n. with_event_added (entries_of_books books) o (λ e. book_entry e n) c.in-Replied.event) c.book_number-book.ensures c.decide-point.ensures.period in
+    let now_accounts = c.put.ensures.accounts ∙ ap₂ (λ (o : Option ℕ) n. with_event_added (entries_of_accounts accounts) o (λ e. account_entry e n) c.in-Replied.event) c.account_number-account.ensures c.decide-point.ensures.period in
     let kept = keeps_put config books accounts order _ keeps told parties (outcome.Replied c.in-Replied.reply c.in-Replied.event) decides c.verdicts_are_of_own_entries.ensures _ _ _
-    c.commands_keep_lists_legal.ensures c.requires.admitted c.parties_are_distinct.ensures.operators c.parties_are_distinct.ensures.providers now_books now_accounts ordered in
+    c.events_are_of_their_command.ensures c.commands_keep_lists_legal.ensures c.requires.admitted c.parties_are_distinct.ensures.operators c.parties_are_distinct.ensures.providers now_books now_accounts ordered in
     let is = kept_is config _ _ _ _ c.orders_are_resolved.ensures kept in
     follows config books accounts order _ keeps told parties (outcome.Replied c.in-Replied.reply c.in-Replied.event) decides c.verdicts_are_of_own_entries.ensures
     c.stamped.result c.decide-point.result.point c.in-Replied.reply _ c.verdicts_are_told.ensures c.stamped.ensures c.decide-point.ensures.point refl is

@@ -1,6 +1,7 @@
 use Rattle.std.proofs.Common.{◌≡◌, ◌<◌, ℕ, Option, IfSome, length, sym, subst, slice_set}
 use Rattle.plain_house.specs.Entries.{account_entry}
-use Rattle.period_order.specs.Inner.Kept.{AccountHasRoom, AccountTakesAt, entries_of_accounts, with_added}
+use Rattle.period_order.specs.Kept.{with_added}
+use Rattle.period_order.specs.Inner.Kept.{AccountHasRoom, AccountTakesAt, entries_of_accounts}
 use Rattle.period_order.proofs.KeptLemmas.{borrowed, longer}
 use Rattle.period_order.proofs.book_house.perform.put_in_accounts.Goals as goal
 

@@ -1,5 +1,6 @@
 use Rattle.std.proofs.Common.{◌≡◌, length}
-use Rattle.period_order.specs.Inner.Collected.{IsCollecting, dues}
+use Rattle.period_order.specs.Dues.{dues}
+use Rattle.period_order.specs.Inner.Collected.{IsCollecting}
 use Rattle.period_order.specs.Inner.Kept.{entries_of_books}
 use Rattle.period_order.proofs.book_house.statement.collect.Given as goal
 
