@@ -1,4 +1,3 @@
-pub mod AddedLemmas
 pub mod BookedLemmas
 pub mod BookedOnce
 pub mod BookingLemmas
@@ -25,6 +24,7 @@ pub mod OwnExposure
 pub mod OwnVerdict
 pub mod PeriodsLemmas
 pub mod PrintableLemmas
+pub mod ReplyLemmas
 pub mod SameScope
 pub mod SettlementLemmas
 pub mod SoundLemmas

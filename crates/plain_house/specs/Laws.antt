@@ -1,12 +1,14 @@
 -- What follows from the definitions of verdicts.
-use Rattle.std.specs.Prelude.{◌≡◌, Bool, true, false, is_some, Result, Ok, Err}
+use Rattle.std.specs.Prelude.{◌≡◌, ◌≤◌, ◌*◌, ℕ, Bool, true, false, is_some, length, Result, Ok, Err}
 use Rattle.ocpi_types.specs.declared.config.Config.{Config}
 use Rattle.ocpi_types.specs.declared.refusal.Refusal.{Refusal}
 use Rattle.cdr_checks.specs.declared.request.Command.{Command}
+use Rattle.netting_positions.specs.Netting.{parties}
 use Rattle.plain_house.specs.declared.answer.Answer.{Answer}
 use Rattle.plain_house.specs.declared.answer.Answer.TheVariants as answer
 use Rattle.plain_house.specs.House.{verdict}
 use Rattle.plain_house.specs.Known.{Known}
+use Rattle.plain_house.specs.LegalLists.{CanBeNetted}
 use Rattle.plain_house.specs.Replies.{IsTold}
 
 -- no verdict is want of memory
@@ -37,3 +39,29 @@ tells_event (Err refusal) = false
 abbrev pub RepliesTellEvents : Type 0
 RepliesTellEvents =
     (config : Config) (known : Known) (command : Command) → is_some (verdict config known command).event ≡ tells_event (verdict config known command).reply
+
+-- how many rows an answer has
+abbrev pub rows_in : Answer → ℕ
+rows_in answer.Stored = 0
+rows_in answer.Unchanged = 0
+rows_in (answer.Allowed reference) = 0
+rows_in answer.Blocked = 0
+rows_in answer.NoCredit = 0
+rows_in (answer.Released amount) = 0
+rows_in (answer.Accepted amount period) = 0
+rows_in (answer.Repeated amount period) = 0
+rows_in (answer.Closed period positions) = length positions
+rows_in (answer.Settled amount) = 0
+rows_in (answer.Exposure holds debts limit) = 0
+rows_in (answer.Found amount period credited) = 0
+rows_in (answer.Statement rows) = length rows
+
+abbrev pub rows_of : Result Answer Refusal → ℕ
+rows_of (Ok told) = rows_in told
+rows_of (Err refusal) = 0
+
+-- a reply has at most one row for each currency and party, where what the book obliges to can be netted
+abbrev pub RepliesAreShort : Type 0
+RepliesAreShort =
+    (config : Config) (known : Known) (command : Command) → CanBeNetted config known.book →
+    rows_of (verdict config known command).reply ≤ length config.currencies * length (parties config)

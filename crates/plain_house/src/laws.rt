@@ -2,7 +2,7 @@
 
 ghost use Rattle.plain_house.specs.Entries.{EntriesAreDated};
 ghost use Rattle.plain_house.specs.Exposure.{EntriesAddAtMost, ExposuresInAnySpelling};
-ghost use Rattle.plain_house.specs.Laws.{RepliesTellEvents, VerdictsAreTold};
+ghost use Rattle.plain_house.specs.Laws.{RepliesAreShort, RepliesTellEvents, VerdictsAreTold};
 ghost use Rattle.plain_house.specs.Legal.{CommandsKeepListsLegal, EmptyListsAreLegal, LegalListsBeginLegally};
 ghost use Rattle.plain_house.specs.LegalLists.{ClosedPositionsBalance, LegalCdrsAreCharged, LegalCreditsAreTakenBack, LegalListsCanBeNetted, LegalListsKeepLimits, LegalPositionsBalance};
 ghost use Rattle.plain_house.specs.Obligations.{ClosedPeriodsStay};
@@ -10,7 +10,9 @@ ghost use Rattle.plain_house.specs.Own.{AccountsAreOfOwnEntries, BooksAreOfOwnEn
 ghost use Rattle.plain_house.specs.Settlements.{SettlementsEndTheirDebts};
 
 use cdr_checks::posts_are_checked;
-use netting_positions::{net_positions_are_balanced, parties_are_different, positions_balance};
+use netting_positions::{
+    net_positions_are_balanced, parties_are_different, positions_balance, statements_are_short,
+};
 
 /// An admitted command makes a legal list of a legal list.
 pub fn commands_keep_lists_legal()
@@ -121,6 +123,13 @@ pub fn verdicts_are_told()
 pub fn replies_tell_events()
     ensures { RepliesTellEvents }
 {}
+
+/// A reply has at most one row for each currency and party.
+pub fn replies_are_short()
+    ensures { RepliesAreShort }
+{
+    statements_are_short();
+}
 
 /// The event that a command adds is of the book and of the account that the command looks into.
 pub fn events_are_of_their_command()

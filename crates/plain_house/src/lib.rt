@@ -41,7 +41,7 @@ pub use laws::{
     entries_add_at_most, entries_are_dated, events_are_of_their_command,
     exposure_is_of_own_entries, exposure_with_charge_is_of_own_entries, exposures_in_any_spelling,
     legal_cdrs_are_charged, legal_credits_are_taken_back, legal_lists_begin_legally,
-    legal_lists_can_be_netted, legal_lists_keep_limits, legal_positions_balance,
+    legal_lists_can_be_netted, legal_lists_keep_limits, legal_positions_balance, replies_are_short,
     replies_tell_events, settlements_end_their_debts, verdicts_are_of_own_entries,
     verdicts_are_told,
 };
