@@ -11,11 +11,16 @@ use Rattle.period_order.specs.Places.{OrdersAreCounted}
 use Rattle.period_order.specs.Resolved.{PartiesStandAtTheirNumbers, books_of}
 use Rattle.period_order.proofs.BooksLemmas.{account_at, book_at}
 use Rattle.period_order.proofs.DuesLemmas.{are_collectable}
-use Rattle.period_order.proofs.OrderLemmas.{current_is, point_is}
+use Rattle.period_order.proofs.OrderLemmas.{accounts_named, books_named, current_is, point_is}
 use Rattle.period_order.proofs.PerformLemmas.{keeps_event}
 
 pub are_counted : OrdersAreCounted
-are_counted config events = record { entries = point_is config events; closes = current_is config events }
+are_counted config events = record {
+  entries = point_is config events;
+  closes = current_is config events;
+  in_books = books_named config events;
+  in_accounts = accounts_named config events;
+}
 
 pub stand_at_numbers : PartiesStandAtTheirNumbers
 stand_at_numbers config events = record { operator = book_at config events; provider = account_at config events }

@@ -1,13 +1,13 @@
 -- The order of a list of events with one more.
-use Rattle.std.proofs.Common.{◌≡◌, ℕ, ◌+◌, suc, List, [], ◌∷◌, ◌++◌, Bool, cond, refl, sym, ap, ap₂, ◌∙◌, append_assoc, append-nil, length, count_by}
+use Rattle.std.proofs.Common.{◌≡◌, ℕ, ◌+◌, suc, List, [], ◌∷◌, ◌++◌, Bool, cond, refl, sym, ap, ap₂, ◌∙◌, append_assoc, append-nil, arith, length, count_by, flat_map}
 use Rattle.std.proofs.lemmas.List.Sums.{sum_by-cons}
 use Rattle.ocpi_types.specs.declared.config.Config.{Config}
 use Rattle.plain_house.specs.declared.event.Event.{Event}
 use Rattle.plain_house.specs.declared.event.Event.TheVariants as event
-use Rattle.plain_house.specs.Entries.{period_of}
+use Rattle.plain_house.specs.Entries.{Dated, account_entries, account_entry, book_entries, book_entry, dated_from, period_after, period_of}
 use Rattle.plain_house.specs.Entries.{is_close as closes}
 use Rattle.period_order.specs.declared.order_entry.OrderEntry.{OrderEntry}
-use Rattle.period_order.specs.Order.{is_close}
+use Rattle.period_order.specs.Order.{is_close, names_account, names_book}
 use Rattle.period_order.specs.Places.{account_size, book_size, order_after, order_entry, order_of}
 
 -- what the order keeps of an event behind these
@@ -54,3 +54,47 @@ length_after config before (e ∷ later) = ap suc (length_after config (before +
 
 pub point_is : (config : Config) (events : List Event) → length (order_of config events) ≡ length events
 point_is config events = length_after config [] events
+
+-- ---- how many entries it names
+
+length_joined : {X : Type 0} (xs ys : List X) → length (xs ++ ys) ≡ length xs + length ys
+length_joined [] ys = omega arith
+length_joined (x ∷ xs) ys = omega (arith, length_joined xs ys)
+
+-- a test of what the order keeps of an event tells how many entries the event has
+module _ {X : Type 0} (names : OrderEntry → Bool) (kept : Event → ℕ → List X) (config : Config)
+    (one : (book account period : ℕ) (e : Event) → cond {A = ℕ} (names (order_entry config book account e)) 1 0 ≡ length (kept e period)) where
+  named_after : (before later : List Event) (period : ℕ) → count_by names (order_after config before later) ≡ length (flat_map (λ dated. kept dated.event dated.period) (dated_from period later))
+  named_after before [] period = refl
+  named_after before (e ∷ later) period =
+      let rest = order_after config (before ++ e ∷ []) later in
+      let others = flat_map (λ (dated : Dated). kept dated.event dated.period) (dated_from (period_after period e) later) in
+      sum_by-cons (λ x. cond (names x) 1 0) (entry_behind config before e) rest
+      ∙ ap₂ (λ (a b : ℕ). a + b) (one (book_size before e) (account_size before e) period e) (named_after (before ++ e ∷ []) later (period_after period e))
+      ∙ sym (length_joined (kept e period) others)
+
+names_one_book : (config : Config) (book account period : ℕ) (e : Event) → cond {A = ℕ} (names_book (order_entry config book account e)) 1 0 ≡ length (book_entry e period)
+names_one_book config book account period (event.Tariff tariff) = refl
+names_one_book config book account period (event.Token token) = refl
+names_one_book config book account period (event.Authorised hold) = refl
+names_one_book config book account period (event.Released release) = refl
+names_one_book config book account period (event.Cdr cdr cost) = refl
+names_one_book config book account period (event.Credit cdr amount) = refl
+names_one_book config book account period (event.Settled settlement) = refl
+names_one_book config book account period (event.Closed closed) = refl
+
+names_one_account : (config : Config) (book account period : ℕ) (e : Event) → cond {A = ℕ} (names_account (order_entry config book account e)) 1 0 ≡ length (account_entry e period)
+names_one_account config book account period (event.Tariff tariff) = refl
+names_one_account config book account period (event.Token token) = refl
+names_one_account config book account period (event.Authorised hold) = refl
+names_one_account config book account period (event.Released release) = refl
+names_one_account config book account period (event.Cdr cdr cost) = refl
+names_one_account config book account period (event.Credit cdr amount) = refl
+names_one_account config book account period (event.Settled settlement) = refl
+names_one_account config book account period (event.Closed closed) = refl
+
+pub books_named : (config : Config) (events : List Event) → count_by names_book (order_of config events) ≡ length (book_entries events)
+books_named config events = named_after names_book book_entry config (names_one_book config) [] events 0
+
+pub accounts_named : (config : Config) (events : List Event) → count_by names_account (order_of config events) ≡ length (account_entries events)
+accounts_named config events = named_after names_account account_entry config (names_one_account config) [] events 0

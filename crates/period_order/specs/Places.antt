@@ -5,12 +5,12 @@ use Rattle.ocpi_types.specs.declared.party.Party.{Party}
 use Rattle.ocpi_types.specs.Party.{same_party}
 use Rattle.plain_house.specs.declared.event.Event.{Event}
 use Rattle.plain_house.specs.declared.event.Event.TheVariants as event
-use Rattle.plain_house.specs.Entries.{book_entries, period_of}
+use Rattle.plain_house.specs.Entries.{account_entries, book_entries, period_of}
 use Rattle.plain_house.specs.Own.{own_account, own_book}
 use Rattle.period_order.specs.declared.order_entry.OrderEntry.{OrderEntry}
 use Rattle.period_order.specs.declared.order_entry.OrderEntry.TheVariants as entry
 use Rattle.period_order.specs.declared.order_entry.Place.{Place}
-use Rattle.period_order.specs.Order.{is_close}
+use Rattle.period_order.specs.Order.{is_close, names_account, names_book}
 
 -- the number of an operator in the configuration, from 0; where it is not configured, the number of operators
 abbrev pub operator_number : Config → Party → ℕ
@@ -75,10 +75,13 @@ order_after config before (event ∷ later) =
 abbrev pub order_of : Config → List Event → List OrderEntry
 order_of config events = order_after config [] events
 
--- the order has an entry for each event, and a close for each period that is closed
+-- the order has an entry for each event, a close for each period that is closed, and names a book, or an account, once for each
+-- entry of all books, or of all accounts
 pub record IsCounted (config : Config) (events : List Event) : Type 0 where
   pub entries : length (order_of config events) ≡ length events
   pub closes : count_by is_close (order_of config events) ≡ period_of events
+  pub in_books : count_by names_book (order_of config events) ≡ length (book_entries events)
+  pub in_accounts : count_by names_account (order_of config events) ≡ length (account_entries events)
 
 abbrev pub OrdersAreCounted : Type 0
 OrdersAreCounted = (config : Config) (events : List Event) → IsCounted config events

@@ -19,7 +19,7 @@ pub fn orders_are_resolved()
     commands_have_parties();
 }
 
-/// The order of a list has an entry for each event, and a close for each period that is closed.
+/// The order of a list has an entry for each event, a close for each closed period, and names each entry of books and accounts.
 pub fn orders_are_counted()
     ensures { OrdersAreCounted }
 {}

@@ -85,13 +85,14 @@ LegalListsCanBeNetted =
     (config : Config) (events : List Event) → length config.operators ≤ 64 → config.limits.cdrs ≤ 100_000 → IsLegal config events →
     CanBeNetted config (book_entries events)
 
--- in a legal list the net positions of all parties add up to 0, in each period and currency; so do those that a close answers
+-- in a legal list the net positions of all parties add up to 0, in each period and currency
 abbrev pub LegalPositionsBalance : Type 0
 LegalPositionsBalance =
     (config : Config) (events : List Event) (period : ℕ) (currency : List ℕ) →
     all_different alike_operators config.operators ≡ true → all_different alike_providers config.providers ≡ true → IsLegal config events →
     total (map (λ party. net_position party currency (obligations period (book_entries events))) (parties config)) ≡ pos 0
 
+-- and so do those that a close answers
 abbrev pub ClosedPositionsBalance : Type 0
 ClosedPositionsBalance =
     (config : Config) (events : List Event) (period : ℕ) →
