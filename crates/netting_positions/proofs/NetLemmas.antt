@@ -1,7 +1,7 @@
 -- Net positions with one more obligation.
 use Rattle.std.proofs.Common.{◌≡◌, ℕ, ◌+◌, ◌^◌, ◌<◌, ◌≤◌, ℤ, Bool, true, false, ◌&&◌, List, [], ◌∷◌, ◌++◌, map, refl, sym, ap, ◌∙◌, arith}
 use Rattle.std.specs.Prelude.{◌+ℤ◌, ◌-ℤ◌, unsigned_abs}
-use Rattle.std.specs.List.{All}
+use Rattle.std.specs.List.{All, list_all}
 use Rattle.std.proofs.lemmas.Int.{ints}
 use Rattle.std.proofs.lemmas.List.{map-append}
 use Rattle.std.proofs.lemmas.List.Elements.{All-append, All-cons, All-nil, All-same}
@@ -73,12 +73,16 @@ alone : (b : Bool) → b ≡ true → (b && true) ≡ true
 alone true h = refl
 alone false h = h
 
+pub configured-push : (ps : List Party) (cs : List (List ℕ)) (os : List Obligation) (o : Obligation)
+    → list_all (is_configured ps cs) os ≡ true → is_configured ps cs o ≡ true → list_all (is_configured ps cs) (os ++ o ∷ []) ≡ true
+configured-push ps cs os o all one = both _ _ _ (list_all-append (is_configured ps cs) os (o ∷ [])) all (alone _ one)
+
 -- what the table keeps, with one more obligation
 pub netted-push : (rows rows' : List NetPosition) (ps : List Party) (cs : List (List ℕ)) (os : List Obligation) (o : Obligation)
     → IsNetted rows ps cs os → rows' ≡ map (with_net o) rows → is_configured ps cs o ≡ true → total_size os + size o < 2 ^ 63
     → IsNetted rows' ps cs (os ++ o ∷ [])
 netted-push rows rows' ps cs os o was e configured fits = record {
   rows_are = e ∙ ap (map (with_net o)) was.rows_are ∙ net_positions-push o ps cs os;
-  configured = both _ _ _ (list_all-append (is_configured ps cs) os (o ∷ [])) was.configured (alone _ configured);
+  configured = configured-push ps cs os o was.configured configured;
   fits = omega (arith, total_size-push os o);
 }

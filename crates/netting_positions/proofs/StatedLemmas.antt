@@ -1,5 +1,5 @@
 -- The rows of a statement with one more obligation.
-use Rattle.std.proofs.Common.{◌≡◌, ℕ, ◌+◌, ◌^◌, ◌<◌, ℤ, pos, Bool, true, false, cond, ◌&&◌, ◌||◌, List, [], ◌∷◌, ◌++◌, map, None, Some, refl, sym, ap, subst, ◌∙◌, arith}
+use Rattle.std.proofs.Common.{◌≡◌, ℕ, ◌+◌, ◌^◌, ◌<◌, ◌≤◌, length, ℤ, pos, Bool, true, false, cond, ◌&&◌, ◌||◌, List, [], ◌∷◌, ◌++◌, map, None, Some, refl, sym, ap, subst, ◌∙◌, arith}
 use Rattle.std.specs.Prelude.{◌+ℤ◌, ◌-ℤ◌, filter_map}
 use Rattle.std.specs.List.{All, AllByRecursion, cons_option, fold, list_any}
 use Rattle.std.specs.List.Sorted.{IsStrictlySortedBy}
@@ -16,12 +16,14 @@ use Rattle.ocpi_types.specs.Party.{same_party}
 use Rattle.netting_positions.specs.declared.obligation.Obligation.{Obligation}
 use Rattle.netting_positions.specs.declared.row.Key.{Key}
 use Rattle.netting_positions.specs.declared.row.StatementRow.{StatementRow}
-use Rattle.netting_positions.specs.Netting.{is_payable, is_receivable, size, total_size}
+use Rattle.netting_positions.specs.Netting.{is_configured, is_payable, is_receivable, size, total_size}
 use Rattle.netting_positions.specs.Statement.{in_capitals, in_order, inserted, is_payable_of, is_receivable_of, key_of, key_order, keys_of, payable_of, placed, receivable_of, row_of, statement_rows}
+use Rattle.netting_positions.specs.Laws.{StatementsAreShort}
 use Rattle.netting_positions.specs.Inner.Rows.{counted}
 use Rattle.netting_positions.specs.Inner.StatedRows.{HasRoomIn, IsStated, row_key, row_with, rows_with, rows_with_at, zero_row}
 use Rattle.netting_positions.proofs.Capitals.{same_in_capitals}
 use Rattle.netting_positions.proofs.KeyOrder.{any_in_order, below, key_order_total, sorted_keys, tie_back, tie_is}
+use Rattle.netting_positions.proofs.NetLemmas.{configured-push}
 use Rattle.netting_positions.proofs.SameParties.{same_party_equiv}
 use Rattle.netting_positions.proofs.Sums.{counted_cases, difference_small, sum_of-cons, sum_of-push, sum_of_small}
 
@@ -323,16 +325,34 @@ pub total_size-push : (os : List Obligation) (o : Obligation) → total_size (os
 total_size-push os o = omega (arith, sum_by-append size os (o ∷ []))
 
 -- what the table keeps, with one more obligation
-pub stated_of_key : (rows rows' : List StatementRow) (party : Party) (o : Obligation) (key : Key) (os : List Obligation) → IsStated rows party os
-    → key_of party o ≡ Some key → rows' ≡ rows_with party o key rows → total_size os + size o < 2 ^ 63 → IsStated rows' party (os ++ o ∷ [])
-stated_of_key rows rows' party o key os was keyed e fits = record {
+pub stated_of_key : (rows rows' : List StatementRow) (n n' : ℕ) (party : Party) (ps : List Party) (cs : List (List ℕ)) (o : Obligation) (key : Key) (os : List Obligation)
+    → IsStated rows n party ps cs os → key_of party o ≡ Some key → rows' ≡ rows_with party o key rows → n ≤ n'
+    → is_configured ps cs o ≡ true → total_size os + size o < 2 ^ 63 → IsStated rows' n' party ps cs (os ++ o ∷ [])
+stated_of_key rows rows' n n' party ps cs o key os was keyed e more configured fits = record {
   rows_are = e ∙ ap (rows_with party o key) was.rows_are ∙ stated_with party o key os keyed;
+  configured = configured-push ps cs os o was.configured configured;
   fits = omega (arith, total_size-push os o);
+  room = omega (arith, was.room);
 }
 
-pub stated_of_others : (rows : List StatementRow) (party : Party) (o : Obligation) (os : List Obligation) → IsStated rows party os
-    → key_of party o ≡ None → total_size os + size o < 2 ^ 63 → IsStated rows party (os ++ o ∷ [])
-stated_of_others rows party o os was e fits = record {
+pub stated_of_others : (rows : List StatementRow) (n : ℕ) (party : Party) (ps : List Party) (cs : List (List ℕ)) (o : Obligation) (os : List Obligation)
+    → IsStated rows n party ps cs os → key_of party o ≡ None
+    → is_configured ps cs o ≡ true → total_size os + size o < 2 ^ 63 → IsStated rows n party ps cs (os ++ o ∷ [])
+stated_of_others rows n party ps cs o os was e configured fits = record {
   rows_are = was.rows_are ∙ stated_without party o os e;
+  configured = configured-push ps cs os o was.configured configured;
   fits = omega (arith, total_size-push os o);
+  room = was.room;
 }
+
+-- there is a place for one more row, where one is needed
+pub has_place : (rows : List StatementRow) (n : ℕ) (party : Party) (ps : List Party) (cs : List (List ℕ)) (o : Obligation) (key : Key) (os : List Obligation)
+    → StatementsAreShort → IsStated rows n party ps cs os → key_of party o ≡ Some key → is_configured ps cs o ≡ true
+    → length (rows_with party o key rows) ≤ n
+has_place rows n party ps cs o key os short was keyed configured =
+    omega (
+      arith,
+      was.room,
+      short ps cs (os ++ o ∷ []) party (configured-push ps cs os o was.configured configured),
+      ap length (ap (rows_with party o key) was.rows_are ∙ stated_with party o key os keyed),
+    )

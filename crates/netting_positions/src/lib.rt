@@ -7,6 +7,7 @@ mod obligation;
 mod positions;
 mod row;
 mod statement;
+mod table;
 
 pub use laws::{
     joined_lists_owe_alike, net_positions_are_balanced, operators_owe_alike,
@@ -17,3 +18,4 @@ pub use obligation::Obligation;
 pub use positions::{NetPosition, Positions};
 pub use row::StatementRow;
 pub use statement::StatementTable;
+pub use table::ObligationTable;

@@ -11,6 +11,7 @@ ghost use Rattle.netting_positions.specs.Inner.Rows.{HasRoom, net_with, with_net
 use super::history::History;
 use super::laws::net_positions_are_balanced;
 use super::obligation::Obligation;
+use super::table::ObligationTable;
 use exact_money::Amount;
 use ocpi_json::sequence::Sequence;
 use ocpi_types::{Config, Currency, Party};
@@ -80,7 +81,8 @@ fn add_providers(parties: &mut Vec<Party>, config: &Config) -> Result<(), AllocE
     Ok(())
 }
 
-fn parties_of(alloc: Global, config: &Config) -> Result<Vec<Party>, AllocError>
+/// The operators, and then the providers that are no operators.
+pub(crate) fn parties_of(alloc: Global, config: &Config) -> Result<Vec<Party>, AllocError>
     ensures { IfOk result (λ found. found.items ≡ parties config.now) }
 {
     let mut parties = Vec::new(alloc);
@@ -146,10 +148,10 @@ impl Model for Positions {
 }
 
 impl Positions {
-    ghost use Rattle.std.specs.Prelude.{◌≡◌, ◌+◌, ◌<◌, ◌^◌, [], ◌∷◌, ◌++◌, true, IfOk};
+    ghost use Rattle.std.specs.Prelude.{◌≡◌, [], true, IfOk};
     ghost use Rattle.ocpi_types.specs.Different.{all_different};
     ghost use Rattle.ocpi_types.specs.Party.{same_party};
-    ghost use Rattle.netting_positions.specs.Netting.{IsBalanced, are_among, is_configured, net_position, net_positions, parties, size, total_size};
+    ghost use Rattle.netting_positions.specs.Netting.{IsBalanced, are_among, net_position, net_positions, parties};
 
     /// No obligations yet, of all parties of the configuration.
     pub fn new(alloc: Global, config: &Config) -> Result<Positions, AllocError>
@@ -164,20 +166,6 @@ impl Positions {
             rows,
             history: History::new(),
         })
-    }
-
-    /// Adds an obligation of configured parties in a configured currency, without taking memory.
-    pub fn add(&mut self, obligation: &Obligation)
-        requires configured { is_configured self.old.parties self.old.currencies obligation.now ≡ true }
-        requires fits { total_size self.old.obligations + size obligation.now < 2 ^ 63 }
-        ensures { self.new ≡ record {
-          parties = self.old.parties;
-          currencies = self.old.currencies;
-          obligations = self.old.obligations ++ obligation.now ∷ [];
-        } }
-    {
-        add_to_rows(&mut self.rows, obligation);
-        self.history = self.history.and(obligation);
     }
 
     /// The net position of a party in a currency, 0 where one of them is not configured.
@@ -197,5 +185,18 @@ impl Positions {
     {
         net_positions_are_balanced();
         Sequence::from_vec(self.rows)
+    }
+}
+
+impl ObligationTable for Positions {
+    ghost use Rattle.netting_positions.specs.State.{scope_of_positions};
+
+    ghost scope = { scope_of_positions };
+
+    ghost obligations = { λ table. table.obligations };
+
+    fn add(&mut self, obligation: &Obligation) {
+        add_to_rows(&mut self.rows, obligation);
+        self.history = self.history.and(obligation);
     }
 }

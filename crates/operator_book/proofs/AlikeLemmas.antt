@@ -1,11 +1,11 @@
 -- Obligations put together owe alike.
-use Rattle.std.proofs.Common.{◌≡◌, ◌∙◌, ◌≤◌, ◌&&◌, ◌||◌, ℕ, ℤ, List, [], ◌∷◌, ◌++◌, Bool, true, false, cond, Some, None, refl, sym, ap, ap₂, filter, find, flat_map, pos, arith}
-use Rattle.std.specs.Prelude.{◌+ℤ◌, is_some, unsigned_abs}
+use Rattle.std.proofs.Common.{◌≡◌, ◌∙◌, ◌≤◌, ◌&&◌, ◌||◌, ℕ, ℤ, List, [], ◌∷◌, Bool, true, false, cond, Some, None, refl, sym, ap, ap₂, filter, find, flat_map, pos, arith}
+use Rattle.std.specs.Prelude.{is_some, unsigned_abs}
 use Rattle.std.specs.List.{list_all, list_any}
 use Rattle.std.specs.Option.{option_to_list}
 use Rattle.std.proofs.Math.IntN.{+ℤ_idr}
 use Rattle.std.proofs.lemmas.Int.{ints}
-use Rattle.std.proofs.lemmas.List.Folds.{list_all-append, list_any-append}
+use Rattle.std.proofs.lemmas.List.Folds.{list_all-append}
 use Rattle.std.proofs.lemmas.List.Sums.{sum_by-cons}
 use Rattle.std.proofs.lemmas.Slice.Eq.{bytes_eq-Decides}
 use Rattle.ocpi_types.specs.declared.config.Config.{Config}
@@ -18,9 +18,9 @@ use Rattle.ocpi_types.specs.Party.{same_party}
 use Rattle.netting_positions.specs.Netting.{amounts, is_configured, size, total, total_size}
 use Rattle.netting_positions.specs.SameSums.{OweAlike, is_between}
 use Rattle.netting_positions.specs.declared.obligation.Obligation.{Obligation}
-use Rattle.operator_book.proofs.AmountLemmas.{sum_of, sum_of-append}
+use Rattle.operator_book.proofs.AmountLemmas.{sum_of}
 use Rattle.operator_book.specs.Due.{is_of_provider}
-use Rattle.operator_book.specs.Inner.Together.{owed_by, owed_by_all, together}
+use Rattle.operator_book.specs.Together.{owed_by, owed_by_all, together}
 use Rattle.operator_book.proofs.KeyLemmas.{both_are, folded_alike, is_folded, party_laws}
 use Rattle.operator_book.proofs.OnceLemmas.{any_once, kept_least, or_and, sizes_once, sum_once}
 use Rattle.operator_book.proofs.SumsLemmas.{between_alike, none_owed}
@@ -235,25 +235,18 @@ any_or_none : (row any : Bool) → (row ≡ false → any ≡ false) → (row &&
 any_or_none true any none = refl
 any_or_none false any none = sym (none refl)
 
--- behind other obligations
-pub rows_owe_alike : (config : Config) (operator : Party) (before os : List Obligation) → all_different same_currency config.currencies ≡ true
+pub rows_owe_alike : (config : Config) (operator : Party) (os : List Obligation) → all_different same_currency config.currencies ≡ true
     → all_different alike_providers config.providers ≡ true → list_all (λ (o : Obligation). same_party o.operator operator) os ≡ true → list_all (is_of_provider config) os ≡ true
-    → OweAlike (before ++ owed_by_all operator os config.currencies config.providers) (before ++ os)
-rows_owe_alike config operator before os different apart its known = record {
+    → OweAlike (owed_by_all operator os config.currencies config.providers) os
+rows_owe_alike config operator os different apart its known = record {
   owed = λ asked other coin.
       let t = is_between asked other coin in
-      let rows = owed_by_all operator os config.currencies config.providers in
-      sum_of-append t before rows
-      ∙ ap (λ z. sum_of t before +ℤ z) (all_sum operator os asked other coin config.currencies config.providers different apart
-      ∙ sum_or_none t os (is_any_of_all operator asked other coin config.currencies config.providers) (none_without_row config operator asked other coin os its known))
-      ∙ sym (sum_of-append t before os);
+      all_sum operator os asked other coin config.currencies config.providers different apart
+      ∙ sum_or_none t os (is_any_of_all operator asked other coin config.currencies config.providers) (none_without_row config operator asked other coin os its known);
   between = λ asked other coin.
       let t = is_between asked other coin in
-      let rows = owed_by_all operator os config.currencies config.providers in
-      list_any-append t before rows
-      ∙ ap (λ b. list_any t before || b) (all_any operator os asked other coin config.currencies config.providers
-      ∙ any_or_none (is_any_of_all operator asked other coin config.currencies config.providers) (list_any t os) (none_without_row config operator asked other coin os its known))
-      ∙ sym (list_any-append t before os);
+      all_any operator os asked other coin config.currencies config.providers
+      ∙ any_or_none (is_any_of_all operator asked other coin config.currencies config.providers) (list_any t os) (none_without_row config operator asked other coin os its known);
 }
 
 -- ---- they are no larger

@@ -11,7 +11,7 @@ use Rattle.netting_positions.specs.declared.obligation.Obligation.{Obligation}
 use Rattle.plain_house.specs.Obligations.{obligations}
 use Rattle.plain_house.specs.declared.entry.BookEntry.{BookEntry}
 use Rattle.operator_book.specs.Due.{due}
-use Rattle.operator_book.specs.Inner.Together.{together}
+use Rattle.operator_book.specs.Together.{together}
 use Rattle.operator_book.proofs.AmountLemmas.{sum_of, sum_of_small}
 use Rattle.operator_book.proofs.SumsLemmas.{sum_or_zero, sum_with}
 

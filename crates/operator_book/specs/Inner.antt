@@ -5,5 +5,4 @@ pub mod FirstPlaces
 pub mod Ids
 pub mod Indexed
 pub mod Sums
-pub mod Together
 pub mod Versions

@@ -1,3 +1,5 @@
 pub mod Due
 pub mod Inner
+pub mod Laws
 pub mod State
+pub mod Together

@@ -1,8 +1,8 @@
 use crate::index::Index;
 use crate::keys::SumKey;
-use crate::owed::{net_providers, state_providers};
+use crate::owed::add_providers;
 use cdr_checks::Find;
-use netting_positions::{Obligation, Positions, StatementTable};
+use netting_positions::{Obligation, ObligationTable};
 use ocpi_json::ci_text::CiText;
 use ocpi_types::{Cdr, Config, Cost, Currency, Party, Refusal, Tariff, same_tariff};
 use plain_house::{Answer, BookEntry, BookedAmount, BookedCdr, reply_to_booked, taken_back};
@@ -34,9 +34,8 @@ impl Book {
     ghost use Rattle.std.specs.Prelude.{◌≡◌, ◌+◌, ◌<◌, ◌≤◌, ◌^◌, [], ◌∷◌, ◌++◌, true, false, None, OnOk, OnErr, option_copied, option_map};
     ghost use Rattle.std.specs.List.{list_all};
     ghost use Rattle.netting_positions.specs.Netting.{is_configured, total_size};
-    ghost use Rattle.netting_positions.specs.SameSums.{OweAlike};
-    ghost use Rattle.operator_book.specs.Due.{due, is_of_provider};
-    ghost use Rattle.operator_book.specs.Inner.Together.{together};
+    ghost use Rattle.operator_book.specs.Due.{due};
+    ghost use Rattle.operator_book.specs.Together.{owed_by_all, together};
     ghost use Rattle.operator_book.specs.Inner.Versions.{IsNewVersion};
     ghost use Rattle.plain_house.specs.Booked.{booked_as, is_credited, shown_booked};
     ghost use Rattle.plain_house.specs.House.{found_of, stored_already};
@@ -209,43 +208,22 @@ impl Book {
     }
 
     /// Adds what the operator is owed of the period, summed by provider and currency, without taking memory.
-    pub fn period_sums(
+    pub fn period_sums<T: ObligationTable>(
         &self,
         config: &Config,
         operator: &Party,
         period: u64,
-        positions: &mut Positions,
+        table: &mut T,
     )
-        requires providers { list_all (is_of_provider config.now) (due operator.now period self.now.entries) ≡ true }
-        requires configured { list_all (is_configured positions.old.parties positions.old.currencies) (due operator.now period self.now.entries) ≡ true }
-        requires fits { total_size positions.old.obligations + total_size (due operator.now period self.now.entries) < 2 ^ 63 }
-        ensures parties { positions.new.parties ≡ positions.old.parties }
-        ensures currencies { positions.new.currencies ≡ positions.old.currencies }
-        ensures sums { OweAlike positions.new.obligations (positions.old.obligations ++ due operator.now period self.now.entries) }
-        ensures size { total_size positions.new.obligations ≤ total_size positions.old.obligations + total_size (due operator.now period self.now.entries) }
+        requires configured { list_all (is_configured (T.scope table.old).parties (T.scope table.old).currencies) (due operator.now period self.now.entries) ≡ true }
+        requires fits { total_size (T.obligations table.old) + total_size (due operator.now period self.now.entries) < 2 ^ 63 }
+        ensures scope { T.scope table.new ≡ T.scope table.old }
+        ensures obligations { T.obligations table.new ≡ T.obligations table.old
+            ++ owed_by_all operator.now (due operator.now period self.now.entries) config.now.currencies config.now.providers }
     {
         let providers = config.providers.as_slice();
         let currencies = config.currencies.as_slice();
-        net_providers(self, operator, period, providers, currencies, positions);
-    }
-
-    /// Adds the same to a statement. Where memory is refused, the statement has a part of it.
-    pub fn party_rows(
-        &self,
-        config: &Config,
-        operator: &Party,
-        period: u64,
-        table: &mut StatementTable,
-    ) -> Result<(), AllocError>
-        requires providers { list_all (is_of_provider config.now) (due operator.now period self.now.entries) ≡ true }
-        requires fits { total_size table.old.obligations + total_size (due operator.now period self.now.entries) < 2 ^ 63 }
-        ensures party { table.new.party ≡ table.old.party }
-        ensures sums { OnOk result (OweAlike table.new.obligations (table.old.obligations ++ due operator.now period self.now.entries)) }
-        ensures size { OnOk result (total_size table.new.obligations ≤ total_size table.old.obligations + total_size (due operator.now period self.now.entries)) }
-    {
-        let providers = config.providers.as_slice();
-        let currencies = config.currencies.as_slice();
-        state_providers(self, operator, period, providers, currencies, table)
+        add_providers(self, operator, period, providers, currencies, table);
     }
 
     /// Makes room for one more entry. Where memory is refused, the book is as before.

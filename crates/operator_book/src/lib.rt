@@ -7,6 +7,7 @@ mod credited;
 mod ids;
 mod index;
 mod keys;
+mod laws;
 mod owed;
 mod places;
 mod sum;
@@ -14,3 +15,4 @@ mod sums;
 mod versions;
 
 pub use book::Book;
+pub use laws::{sums_are_no_larger, sums_owe_alike};

@@ -1,78 +1,87 @@
 -- Books collected one after another.
-use Rattle.std.proofs.Common.{◌≡◌, ◌≤◌, ◌<◌, ◌+◌, ◌^◌, ℕ, Bool, true, List, [], ◌∷◌, ◌++◌, refl, sym, ap₂, subst, ◌∙◌, arith, append_assoc, append-nil}
+use Rattle.std.proofs.Common.{◌≡◌, ◌≤◌, ℕ, Bool, true, List, [], ◌∷◌, ◌++◌, refl, sym, ap, subst, ◌∙◌, arith, append_assoc}
 use Rattle.std.specs.List.{list_all}
 use Rattle.std.proofs.lemmas.List.Folds.{list_all-append}
 use Rattle.std.proofs.lemmas.List.Sums.{sum_by-append}
 use Rattle.ocpi_types.specs.declared.config.Config.{Config}
 use Rattle.ocpi_types.specs.declared.config.Operator.{Operator}
+use Rattle.ocpi_types.specs.Config.{alike_providers}
+use Rattle.ocpi_types.specs.Currency.{same_currency}
+use Rattle.ocpi_types.specs.Different.{all_different}
 use Rattle.netting_positions.specs.declared.obligation.Obligation.{Obligation}
 use Rattle.netting_positions.specs.Netting.{is_configured, parties, size, total_size}
 use Rattle.netting_positions.specs.SameSums.{JoinedListsOweAlike, OweAlike}
 use Rattle.operator_book.specs.Due.{due, is_of_provider}
+use Rattle.operator_book.specs.Laws.{SumsOweAlike}
 use Rattle.operator_book.specs.State.{PlainBook}
-use Rattle.period_order.specs.Dues.{CanBeCollected, dues}
+use Rattle.operator_book.specs.Together.{owed_by_all}
+use Rattle.plain_house.specs.declared.entry.BookEntry.{BookEntry}
+use Rattle.period_order.specs.Dues.{CollectedOwesAlike, dues, sums}
 use Rattle.period_order.specs.Inner.Collected.{IsCollecting}
 use Rattle.period_order.specs.Inner.Kept.{entries_of_books}
 use Rattle.period_order.proofs.PartyLemmas.{both_are}
 
-pub owe_itself : (os : List Obligation) → OweAlike os os
+-- what holds of all of them holds of those before and of those behind
+before_pass : (p : Obligation → Bool) (first later : List Obligation) → list_all p (first ++ later) ≡ true → list_all p first ≡ true
+before_pass p first later h = (both_are (list_all p first) (list_all p later) (sym (list_all-append p first later) ∙ h)).0
+
+later_pass : (p : Obligation → Bool) (first later : List Obligation) → list_all p (first ++ later) ≡ true → list_all p later ≡ true
+later_pass p first later h = (both_are (list_all p first) (list_all p later) (sym (list_all-append p first later) ∙ h)).1
+
+-- one book more
+module _ (config : Config) (period : ℕ) (found : List Obligation) (operator : Operator) (others : List Operator) (book : List BookEntry) (later all : List (List BookEntry))
+    (is : IsCollecting config period found (operator ∷ others) (book ∷ later) all) where
+  abbrev first : List Obligation
+  first = due operator.party period book
+
+  abbrev rest : List Obligation
+  rest = dues others period later
+
+  pub one_collected : (now : List Obligation) → now ≡ found ++ owed_by_all operator.party first config.currencies config.providers
+      → total_size (owed_by_all operator.party first config.currencies config.providers) ≤ total_size first
+      → IsCollecting config period now others later all
+  one_collected now e small = record {
+    known = record {
+      providers = later_pass (is_of_provider config) first rest is.known.providers;
+      configured = later_pass (is_configured (parties config) config.currencies) first rest is.known.configured;
+    };
+    fits =
+        let fits = is.fits in
+        omega (arith, ap total_size e, sum_by-append size found (owed_by_all operator.party first config.currencies config.providers), sum_by-append size first rest, fits, small);
+    added =
+        ap (λ l. l ++ sums config others period later) e
+        ∙ append_assoc found (owed_by_all operator.party first config.currencies config.providers) (sums config others period later)
+        ∙ is.added;
+  }
+
+-- the first of the operators and its book
+pub at_first : (config : Config) (period : ℕ) (found : List Obligation) (operators : List Operator) (operator : Operator) (others : List Operator) (books : List PlainBook) (book : PlainBook) (later : List PlainBook)
+    (all : List (List BookEntry)) → operators ≡ operator ∷ others → books ≡ book ∷ later
+    → IsCollecting config period found operators (entries_of_books books) all
+    → IsCollecting config period found (operator ∷ others) (book.entries ∷ entries_of_books later) all
+at_first config period found operators operator others books book later all o b is =
+    subst (λ l. IsCollecting config period found l (book.entries ∷ entries_of_books later) all) o
+    (subst (λ l. IsCollecting config period found operators (entries_of_books l) all) b is)
+
+-- ---- what is collected owes alike
+
+owe_itself : (os : List Obligation) → OweAlike os os
 owe_itself os = record {
   owed = λ operator provider currency. refl;
   between = λ operator provider currency. refl;
 }
 
-pub owe_along : (os ps qs : List Obligation) → OweAlike os ps → OweAlike ps qs → OweAlike os qs
-owe_along os ps qs first next = record {
-  owed = λ operator provider currency. first.owed operator provider currency ∙ next.owed operator provider currency;
-  between = λ operator provider currency. first.between operator provider currency ∙ next.between operator provider currency;
-}
+sums_alike : JoinedListsOweAlike → SumsOweAlike → (config : Config) (period : ℕ) → all_different same_currency config.currencies ≡ true → all_different alike_providers config.providers ≡ true
+    → (operators : List Operator) (books : List (List BookEntry)) → list_all (is_of_provider config) (dues operators period books) ≡ true
+    → OweAlike (sums config operators period books) (dues operators period books)
+sums_alike joined alone config period different apart [] books known = owe_itself []
+sums_alike joined alone config period different apart (operator ∷ operators) [] known = owe_itself []
+sums_alike joined alone config period different apart (operator ∷ operators) (book ∷ books) known =
+    let first = due operator.party period book in
+    let rest = dues operators period books in
+    joined (owed_by_all operator.party first config.currencies config.providers) first (sums config operators period books) rest
+    (alone config operator.party period book different apart (before_pass (is_of_provider config) first rest known))
+    (sums_alike joined alone config period different apart operators books (later_pass (is_of_provider config) first rest known))
 
--- before the first book
-pub none_collected : (config : Config) (all : List Obligation) → CanBeCollected config all → IsCollecting config [] all all
-none_collected config all can = record {
-  known = can.known;
-  fits = let fits = can.fits in omega (arith, fits);
-  owed = owe_itself all;
-}
-
--- nothing is left
-pub all_collected : (config : Config) (collected all : List Obligation) → IsCollecting config collected [] all → OweAlike collected all
-all_collected config collected all is = subst (λ l. OweAlike l all) (append-nil collected) is.owed
-
-module _ (config : Config) (collected first later all : List Obligation) (is : IsCollecting config collected (first ++ later) all) where
-  before_passes : (p : Obligation → Bool) → list_all p (first ++ later) ≡ true → list_all p first ≡ true
-  before_passes p h = (both_are (list_all p first) (list_all p later) (sym (list_all-append p first later) ∙ h)).0
-
-  later_passes : (p : Obligation → Bool) → list_all p (first ++ later) ≡ true → list_all p later ≡ true
-  later_passes p h = (both_are (list_all p first) (list_all p later) (sym (list_all-append p first later) ∙ h)).1
-
-  pub first_of_providers : list_all (is_of_provider config) first ≡ true
-  first_of_providers = before_passes (is_of_provider config) is.known.providers
-
-  pub first_configured : list_all (is_configured (parties config) config.currencies) first ≡ true
-  first_configured = before_passes (is_configured (parties config) config.currencies) is.known.configured
-
-  pub first_fits : total_size collected + total_size first < 2 ^ 63
-  first_fits = let fits = is.fits in omega (arith, sum_by-append size first later, fits)
-
-  -- one book more
-  pub one_collected : JoinedListsOweAlike → (now : List Obligation) → OweAlike now (collected ++ first) → total_size now ≤ total_size collected + total_size first
-      → IsCollecting config now later all
-  one_collected joined now owed small = record {
-    known = record {
-      providers = later_passes (is_of_provider config) is.known.providers;
-      configured = later_passes (is_configured (parties config) config.currencies) is.known.configured;
-    };
-    fits = let fits = is.fits in omega (arith, sum_by-append size first later, fits, small);
-    owed = owe_along (now ++ later) ((collected ++ first) ++ later) all
-        (joined now (collected ++ first) later later owed (owe_itself later))
-        (subst (λ l. OweAlike l all) (sym (append_assoc collected first later)) is.owed);
-  }
-
--- the first of the operators and its book
-pub at_first : (config : Config) (operators : List Operator) (operator : Operator) (others : List Operator) (books : List PlainBook) (book : PlainBook) (later : List PlainBook)
-    (period : ℕ) (collected all : List Obligation) → operators ≡ operator ∷ others → books ≡ book ∷ later
-    → IsCollecting config collected (dues operators period (entries_of_books books)) all
-    → IsCollecting config collected (due operator.party period book.entries ++ dues others period (entries_of_books later)) all
-at_first config operators operator others books book later period collected all o b is =
-    subst (λ l. IsCollecting config collected l all) (ap₂ (λ x y. dues x period (entries_of_books y)) o b) is
+pub owes_alike : JoinedListsOweAlike → SumsOweAlike → CollectedOwesAlike
+owes_alike joined alone config period books different apart can = sums_alike joined alone config period different apart config.operators books can.known.providers

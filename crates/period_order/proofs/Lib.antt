@@ -1,10 +1,8 @@
 pub mod BooksLemmas
-pub mod CollectLemmas
 pub mod CollectingLemmas
 pub mod DecidesLemmas
 pub mod DuesLemmas
 pub mod EntriesLemmas
-pub mod GivenLemmas
 pub mod HouseLemmas
 pub mod KeptLemmas
 pub mod LawLemmas
@@ -13,5 +11,6 @@ pub mod OrderLemmas
 pub mod OutcomeLemmas
 pub mod PartyLemmas
 pub mod PerformLemmas
+pub mod ReachedLemmas
 pub mod ResolvedLemmas
 pub mod TakesLemmas

@@ -1,5 +1,5 @@
 -- A house after a command that looks into one book, one account, or both.
-use Rattle.std.proofs.Common.{◌≡◌, ◌<◌, ℕ, List, [], ◌∷◌, ◌++◌, true, false, refl, sym, ap, ap₂, subst, ◌∙◌, length, slice_get, count_by, Option, None, Some, is_some, map, option_map, IfSome, Result, true≢false, Bor}
+use Rattle.std.proofs.Common.{◌≡◌, ◌<◌, ℕ, List, [], ◌∷◌, ◌++◌, true, refl, sym, ap, ap₂, subst, ◌∙◌, length, slice_get, count_by, Option, None, Some, is_some, map, option_map, IfSome, Bor}
 use Rattle.std.specs.Option.{option_and_then, option_copied}
 use Rattle.std.proofs.lemmas.Option.{slice_get-map, slice_get_within}
 use Rattle.ocpi_types.specs.declared.config.Config.{Config}
@@ -22,10 +22,7 @@ use Rattle.provider_account.specs.State.{PlainAccount}
 use Rattle.period_order.specs.declared.decided.Outcome.{Outcome}
 use Rattle.period_order.specs.declared.decided.Outcome.TheVariants as outcome
 use Rattle.period_order.specs.Decided.{AreOfAccount, AreOfBook, Decides, OutcomesAreVerdicts, account_length, book_length, event_of, order_with, outcome_of, seen, verdict_with, with_entry}
-use Rattle.ocpi_types.specs.declared.refusal.Refusal.{Refusal}
-use Rattle.plain_house.specs.declared.answer.Answer.{Answer}
-use Rattle.plain_house.specs.Laws.{VerdictsAreTold}
-use Rattle.plain_house.specs.Replies.{Follows, Reply, is_no_memory, no_memory, stamped, with_event}
+use Rattle.plain_house.specs.Replies.{with_event}
 use Rattle.plain_house.specs.Verdict.{Verdict}
 use Rattle.period_order.specs.declared.order_entry.OrderEntry.{OrderEntry}
 use Rattle.period_order.specs.Kept.{Keeps, account_number, book_number, with_added}
@@ -225,34 +222,6 @@ module _ (config : Config) (books : List PlainBook) (accounts : List PlainAccoun
         by (Some added) e =
             keeps_event config (entries_of_books books) (entries_of_accounts accounts) order.entries events keeps told parties added
             (book_length the_book) (account_length the_account) their legal admitted (event_reached ∙ e) operators providers book_size_is account_size_is
-
-    -- and the house follows the verdict
-    pub follows : (result : Reply) (point : ℕ) (reply : Result Answer Refusal) (now : List Event) → VerdictsAreTold → result ≡ stamped point reply → point ≡ length order.entries
-        → reply ≡ (verdict_with config (of_operator (operator_of_command told) (book_entries events)) outcome).reply
-        → now ≡ with_event events (event_of outcome) → Follows (verdict config (known events) told) events result now
-    follows result point reply now told_law is at is_reply is_now =
-        let stamp : result ≡ stamped (length events) (verdict config (known events) told).reply =
-        is ∙ ap₂ (λ (n : ℕ) (r : Result Answer Refusal). stamped n r)
-        (at ∙ point_kept config (entries_of_books books) (entries_of_accounts accounts) order.entries events keeps told parties)
-        (is_reply ∙ sym (ap (λ (v : Verdict). v.reply) verdict_reached)) in
-        let found : is_no_memory result ≡ false = ap is_no_memory stamp ∙ told_law config (known events) told (length events) in
-        record {
-          reply_is = λ h. stamp;
-          events_are = λ h. is_now ∙ ap (with_event events) (sym event_reached);
-          refused_is = λ h. absurd (true≢false (sym h ∙ found));
-          unchanged = λ h. absurd (true≢false (sym h ∙ found));
-        }
-
--- want of memory leaves the house as it was
-pub refused : (verdict : Verdict) (events now : List Event) (result : Reply) → result ≡ no_memory → now ≡ events → Follows verdict events result now
-refused verdict events now result is same =
-    let found : is_no_memory result ≡ true = ap is_no_memory is in
-    record {
-      reply_is = λ h. absurd (true≢false (sym found ∙ h));
-      events_are = λ h. absurd (true≢false (sym found ∙ h));
-      refused_is = λ h. is;
-      unchanged = λ h. same;
-    }
 
 -- ---- what is seen as before
 

@@ -3,7 +3,6 @@ use Rattle.std.proofs.Common.{◌≡◌, ℕ, List, [], ◌∷◌, ◌++◌, Boo
 use Rattle.ocpi_types.specs.declared.config.Config.{Config}
 use Rattle.ocpi_types.specs.declared.party.Party.{Party}
 use Rattle.ocpi_types.specs.Config.{is_operator, is_provider}
-use Rattle.cdr_checks.specs.Parties.{CommandsHaveParties}
 use Rattle.plain_house.specs.declared.event.Event.{Event}
 use Rattle.plain_house.specs.declared.event.Event.TheVariants as event
 use Rattle.plain_house.specs.declared.entry.AccountEntry.{AccountEntry}
@@ -12,14 +11,13 @@ use Rattle.plain_house.specs.declared.entry.BookEntry.{BookEntry}
 use Rattle.plain_house.specs.declared.entry.BookEntry.TheVariants as book
 use Rattle.plain_house.specs.Entries.{account_entries_from, account_entry, book_entries, book_entries_from, book_entry, period_after, period_of}
 use Rattle.plain_house.specs.Known.{known}
-use Rattle.plain_house.specs.Legal.{IsLegal}
+use Rattle.plain_house.specs.Legal.{EventsAreOfConfigured, IsLegal, IsOfConfigured}
 use Rattle.plain_house.specs.Own.{is_in_book_of, own_account, own_book}
 use Rattle.plain_house.specs.Room.{is_entry_of, own_entries}
 use Rattle.period_order.specs.Places.{account_size, book_size, in_account, in_book, order_after, order_entry}
 use Rattle.period_order.specs.Resolved.{OrdersAreResolved, accounts_of, account_event, book_event, books_of, entry_at, named_event, period_behind, resolved_from}
 use Rattle.period_order.proofs.BooksLemmas.{account_at, book_at}
 use Rattle.period_order.proofs.EntriesLemmas.{own_account_split, own_book_split, period_push}
-use Rattle.period_order.proofs.GivenLemmas.{HasEventParties, has_parties}
 use Rattle.period_order.proofs.PartyLemmas.{party_itself}
 
 seam : {X : Type 0} (xs : List X) (x : X) (ys : List X) → slice_get (xs ++ x ∷ ys) (length xs) ≡ Some x
@@ -63,7 +61,7 @@ module _ (config : Config) (before : List Event) (e : Event) (later : List Event
       rest = account_entries_from (period_after (period_of before) e) later
 
 -- what the order keeps of an event names it
-named : (config : Config) (before : List Event) (e : Event) (later : List Event) → HasEventParties config (period_of before) e
+named : (config : Config) (before : List Event) (e : Event) (later : List Event) → IsOfConfigured config (period_of before) e
     → named_event (books_of config (before ++ e ∷ later)) (accounts_of config (before ++ e ∷ later)) (period_of before) (order_entry config (book_size before e) (account_size before e) e) ≡ Some e
 named config before (event.Tariff tariff) later has =
     ap (option_map book_event) (book_found config before (event.Tariff tariff) later tariff.operator (book.Tariff tariff) refl has (party_itself tariff.operator))
@@ -93,19 +91,17 @@ behind_is config period book account (event.Credit cdr amount) = refl
 behind_is config period book account (event.Settled settlement) = refl
 behind_is config period book account (event.Closed closed) = refl
 
-given_has : CommandsHaveParties → (config : Config) (events before : List Event) (e : Event) (later : List Event) → IsLegal config events → events ≡ before ++ e ∷ later
-    → HasEventParties config (period_of before) e
+given_has : EventsAreOfConfigured → (config : Config) (events before : List Event) (e : Event) (later : List Event) → IsLegal config events → events ≡ before ++ e ∷ later
+    → IsOfConfigured config (period_of before) e
 unfolding IsLegal
-given_has of_commands config events before e later legal same =
-    let given = legal before e later same in
-    has_parties config (known before) e given.0 (of_commands config given.0 given.1) given.2
+given_has of_configured config events before e later legal same = of_configured config (known before) e (legal before e later same)
 
-resolved_after : CommandsHaveParties → (config : Config) (events before later : List Event) (period : ℕ) → IsLegal config events → events ≡ before ++ later → period ≡ period_of before
+resolved_after : EventsAreOfConfigured → (config : Config) (events before later : List Event) (period : ℕ) → IsLegal config events → events ≡ before ++ later → period ≡ period_of before
     → resolved_from (books_of config events) (accounts_of config events) period (order_after config before later) ≡ later
-resolved_after of_commands config events before [] period legal same current = refl
-resolved_after of_commands config events before (e ∷ later) period legal same current =
+resolved_after of_configured config events before [] period legal same current = refl
+resolved_after of_configured config events before (e ∷ later) period legal same current =
     ap₂ (λ (found : Option Event) (l : List Event). option_to_list found ++ l) first
-    (resolved_after of_commands config events (before ++ e ∷ []) later next legal (same ∙ sym (append_assoc before (e ∷ []) later)) next_is)
+    (resolved_after of_configured config events (before ++ e ∷ []) later next legal (same ∙ sym (append_assoc before (e ∷ []) later)) next_is)
   where
     next : ℕ
     next = period_behind period (order_entry config (book_size before e) (account_size before e) e)
@@ -118,7 +114,7 @@ resolved_after of_commands config events before (e ∷ later) period legal same 
     first : named_event (books_of config events) (accounts_of config events) period (order_entry config (book_size before e) (account_size before e) e) ≡ Some e
     first =
         ap₂ (λ (l : List Event) (n : ℕ). named_event (books_of config l) (accounts_of config l) n (order_entry config (book_size before e) (account_size before e) e)) same current
-        ∙ named config before e later (given_has of_commands config events before e later legal same)
+        ∙ named config before e later (given_has of_configured config events before e later legal same)
 
-pub are_resolved : CommandsHaveParties → OrdersAreResolved
-are_resolved of_commands config events legal = resolved_after of_commands config events [] events 0 legal refl refl
+pub are_resolved : EventsAreOfConfigured → OrdersAreResolved
+are_resolved of_configured config events legal = resolved_after of_configured config events [] events 0 legal refl refl

@@ -12,10 +12,11 @@ use std::alloc::{AllocError, Global};
 use std::marker::Model;
 
 mod books;
-mod close;
+mod collect;
 mod collectable;
+mod keep;
 mod perform;
-mod statement;
+mod table;
 
 /// A house that keeps a book for each operator, an account for each provider, and the order of events.
 #[derive(Drop)]
@@ -63,34 +64,13 @@ impl Sequential for BookHouse {
     ghost config = { λ house. house.config };
 
     fn do_command(&mut self, command: Command) -> Result<Replied, Refused> {
-        match command {
-            Command::Close(close) => {
-                close::close(
-                    *self.books.allocator(),
-                    &self.config,
-                    self.books.as_slice(),
-                    self.accounts.as_slice(),
-                    &mut self.order,
-                    close,
-                )
-            }
-            Command::Statement(ask) => {
-                statement::statement(
-                    *self.books.allocator(),
-                    &self.config,
-                    self.books.as_slice(),
-                    self.accounts.as_slice(),
-                    &mut self.order,
-                    ask,
-                )
-            }
-            command => perform::perform(
-                &self.config,
-                &mut self.books,
-                &mut self.accounts,
-                &mut self.order,
-                command,
-            ),
-        }
+        perform::perform(
+            *self.books.allocator(),
+            &self.config,
+            &mut self.books,
+            &mut self.accounts,
+            &mut self.order,
+            command,
+        )
     }
 }

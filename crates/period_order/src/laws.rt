@@ -1,22 +1,24 @@
 //! What follows from the definitions.
 
 ghost use Rattle.period_order.specs.Decided.{OutcomesAreVerdicts};
-ghost use Rattle.period_order.specs.Dues.{BooksAreCollectable};
+ghost use Rattle.period_order.specs.Dues.{BooksAreCollectable, CollectedOwesAlike};
 ghost use Rattle.period_order.specs.Kept.{EventsAreKept};
 ghost use Rattle.period_order.specs.Places.{OrdersAreCounted};
 ghost use Rattle.period_order.specs.Resolved.{OrdersAreResolved, PartiesStandAtTheirNumbers};
 
 use cdr_checks::commands_have_parties;
-use netting_positions::operators_owe_alike;
+use netting_positions::{joined_lists_owe_alike, operators_owe_alike};
+use operator_book::sums_owe_alike;
 use plain_house::{
-    commands_keep_lists_legal, events_are_of_their_command, legal_lists_can_be_netted,
+    commands_keep_lists_legal, events_are_of_configured, events_are_of_their_command,
+    legal_lists_can_be_netted,
 };
 
 /// The order of a legal list, resolved in its books and accounts, is the list.
 pub fn orders_are_resolved()
     ensures { OrdersAreResolved }
 {
-    commands_have_parties();
+    events_are_of_configured();
 }
 
 /// The order of a list has an entry for each event, a close for each closed period, and names each entry of books and accounts.
@@ -51,4 +53,12 @@ pub fn books_are_collectable()
 {
     legal_lists_can_be_netted();
     operators_owe_alike();
+}
+
+/// What is collected from books owes alike with what the operators are owed.
+pub fn collected_owes_alike()
+    ensures { CollectedOwesAlike }
+{
+    joined_lists_owe_alike();
+    sums_owe_alike();
 }

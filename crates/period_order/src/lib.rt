@@ -14,8 +14,8 @@ pub use book_house::BookHouse;
 pub use decided::{Decided, Outcome};
 pub use decision::decide;
 pub use laws::{
-    books_are_collectable, events_are_kept, orders_are_counted, orders_are_resolved,
-    outcomes_are_verdicts, parties_stand_at_their_numbers,
+    books_are_collectable, collected_owes_alike, events_are_kept, orders_are_counted,
+    orders_are_resolved, outcomes_are_verdicts, parties_stand_at_their_numbers,
 };
 pub use numbers::{operator_number, provider_number};
 pub use order::Order;

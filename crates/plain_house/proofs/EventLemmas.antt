@@ -10,6 +10,7 @@ use Rattle.cdr_checks.specs.declared.request.Command.{Command}
 use Rattle.cdr_checks.specs.declared.request.Command.TheVariants as command
 use Rattle.cdr_checks.specs.declared.request.Find.{Find}
 use Rattle.cdr_checks.specs.declared.request.Release.{Release}
+use Rattle.cdr_checks.specs.Parties.{CommandsHaveParties, HasParties}
 use Rattle.plain_house.specs.declared.answer.Answer.{Answer}
 use Rattle.plain_house.specs.declared.answer.Answer.TheVariants as answer
 use Rattle.plain_house.specs.declared.event.Event.{Event}
@@ -20,6 +21,7 @@ use Rattle.plain_house.specs.Entries.{charge_of}
 use Rattle.plain_house.specs.Exposure.{released_hold}
 use Rattle.plain_house.specs.House.{cdr_judged, credit_judged, found_of, hold_for, lacks_credit, no_room_for, positions_in, post_of, release_of, stored_already, unless_covered, unless_current, unless_open, unless_settled, unless_valid, verdict}
 use Rattle.plain_house.specs.Known.{Known}
+use Rattle.plain_house.specs.Legal.{EventsAreOfConfigured, IsOfConfigured}
 use Rattle.plain_house.specs.Obligations.{obligations}
 use Rattle.plain_house.specs.Own.{EventsAreOfTheirCommand, IsOfCommand}
 use Rattle.plain_house.specs.Posting.{Judged, judged_cdr, judged_credit, over_limit}
@@ -191,3 +193,42 @@ gives_own config known (command.Statement ask) = tt
 
 pub of_their_command : EventsAreOfTheirCommand
 of_their_command config known told e h = event_has config known (IsOfCommand told) e told (gives_own config known told) h
+
+-- ---- its parties are configured
+
+abbrev ClosesNow : ℕ → Event → Type 0
+ClosesNow current (event.Closed period) = period ≡ current
+ClosesNow current e = Unit {0}
+
+gives_now : (config : Config) (known : Known) (told : Command) → Gives config known (ClosesNow known.period) told
+gives_now config known (command.PutTariff tariff) = λ room. tt
+gives_now config known (command.PutToken token) = λ room. tt
+gives_now config known (command.Authorize ask) = λ room covered. tt
+gives_now config known (command.Release release) = λ room. tt
+gives_now config known (command.Post checked) = by checked.cost
+  where
+    by : (cost : Option ℕ) → GivesPost config known (ClosesNow known.period) checked.cdr cost
+    by None = λ amount judged room account. tt
+    by (Some cost) = λ amount judged room account within. tt
+gives_now config known (command.Close close) = λ current. current
+gives_now config known (command.Settle settlement) = λ room. tt
+gives_now config known (command.Exposure ask) = tt
+gives_now config known (command.Find find) = tt
+gives_now config known (command.Statement ask) = tt
+
+configured_of : (config : Config) (known : Known) (told : Command) (e : Event) → HasParties config told → IsOfCommand told e → ClosesNow known.period e
+    → IsOfConfigured config known.period e
+configured_of config known told (event.Tariff tariff) parties its now = parties.operator tariff.operator its.0
+configured_of config known told (event.Token token) parties its now = parties.provider token.provider its.1
+configured_of config known told (event.Authorised hold) parties its now = parties.provider hold.provider its.1
+configured_of config known told (event.Released release) parties its now = parties.provider release.provider its.1
+configured_of config known told (event.Cdr cdr cost) parties its now = (parties.operator cdr.operator its.0, parties.provider cdr.cdr_token.provider its.1)
+configured_of config known told (event.Credit cdr amount) parties its now = (parties.operator cdr.operator its.0, parties.provider cdr.cdr_token.provider its.1)
+configured_of config known told (event.Settled settlement) parties its now = parties.provider settlement.provider its.1
+configured_of config known told (event.Closed period) parties its now = now
+
+pub of_configured : CommandsHaveParties → EventsAreOfConfigured
+of_configured of_commands config known e given =
+    let told = given.0 in
+    configured_of config known told e (of_commands config told given.1) (of_their_command config known told e given.2)
+    (event_has config known (ClosesNow known.period) e told (gives_now config known told) given.2)

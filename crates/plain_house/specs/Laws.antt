@@ -60,8 +60,12 @@ abbrev pub rows_of : Result Answer Refusal → ℕ
 rows_of (Ok told) = rows_in told
 rows_of (Err refusal) = 0
 
--- a reply has at most one row for each currency and party, where what the book obliges to can be netted
+-- one for each currency and party
+abbrev pub most_rows : Config → ℕ
+most_rows config = length config.currencies * length (parties config)
+
+-- a reply has no more, where what the book obliges to can be netted
 abbrev pub RepliesAreShort : Type 0
 RepliesAreShort =
     (config : Config) (known : Known) (command : Command) → CanBeNetted config known.book →
-    rows_of (verdict config known command).reply ≤ length config.currencies * length (parties config)
+    rows_of (verdict config known command).reply ≤ most_rows config

@@ -12,6 +12,7 @@ pub mod Obligations
 pub mod Own
 pub mod Posting
 pub mod Replies
+pub mod ReplyRoom
 pub mod Room
 pub mod Settlements
 pub mod State

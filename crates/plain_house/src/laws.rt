@@ -3,13 +3,13 @@
 ghost use Rattle.plain_house.specs.Entries.{EntriesAreDated};
 ghost use Rattle.plain_house.specs.Exposure.{EntriesAddAtMost, ExposuresInAnySpelling};
 ghost use Rattle.plain_house.specs.Laws.{RepliesAreShort, RepliesTellEvents, VerdictsAreTold};
-ghost use Rattle.plain_house.specs.Legal.{CommandsKeepListsLegal, EmptyListsAreLegal, LegalListsBeginLegally};
+ghost use Rattle.plain_house.specs.Legal.{CommandsKeepListsLegal, EmptyListsAreLegal, EventsAreOfConfigured, LegalListsBeginLegally};
 ghost use Rattle.plain_house.specs.LegalLists.{ClosedPositionsBalance, LegalCdrsAreCharged, LegalCreditsAreTakenBack, LegalListsCanBeNetted, LegalListsKeepLimits, LegalPositionsBalance};
 ghost use Rattle.plain_house.specs.Obligations.{ClosedPeriodsStay};
 ghost use Rattle.plain_house.specs.Own.{AccountsAreOfOwnEntries, BooksAreOfOwnEntries, EventsAreOfTheirCommand, ExposureIsOfOwnEntries, ExposureWithChargeIsOfOwnEntries, VerdictsAreOfOwnEntries};
 ghost use Rattle.plain_house.specs.Settlements.{SettlementsEndTheirDebts};
 
-use cdr_checks::posts_are_checked;
+use cdr_checks::{commands_have_parties, posts_are_checked};
 use netting_positions::{
     net_positions_are_balanced, parties_are_different, positions_balance, statements_are_short,
 };
@@ -135,6 +135,13 @@ pub fn replies_are_short()
 pub fn events_are_of_their_command()
     ensures { EventsAreOfTheirCommand }
 {}
+
+/// The event that an admitted command adds is of parties of the configuration, and a close is that of the current period.
+pub fn events_are_of_configured()
+    ensures { EventsAreOfConfigured }
+{
+    commands_have_parties();
+}
 
 /// What the entries say of an operator is what its own book says.
 pub fn books_are_of_own_entries()

@@ -16,6 +16,7 @@ mod obligations;
 mod periods;
 mod posting;
 mod replies;
+mod reply_room;
 mod scope;
 mod sequential;
 mod tariffs;
@@ -38,7 +39,7 @@ pub use house::PlainHouse;
 pub use laws::{
     accounts_are_of_own_entries, books_are_of_own_entries, closed_periods_stay,
     closed_positions_balance, commands_keep_lists_legal, empty_lists_are_legal,
-    entries_add_at_most, entries_are_dated, events_are_of_their_command,
+    entries_add_at_most, entries_are_dated, events_are_of_configured, events_are_of_their_command,
     exposure_is_of_own_entries, exposure_with_charge_is_of_own_entries, exposures_in_any_spelling,
     legal_cdrs_are_charged, legal_credits_are_taken_back, legal_lists_begin_legally,
     legal_lists_can_be_netted, legal_lists_keep_limits, legal_positions_balance, replies_are_short,
@@ -49,5 +50,6 @@ pub use obligations::statement_rows;
 pub use periods::period_after;
 pub use posting::{above, reply_to_booked, taken_back};
 pub use replies::{out_of_memory, stamped};
+pub use reply_room::ReplyRoom;
 pub use scope::Scope;
 pub use sequential::Sequential;

@@ -57,7 +57,7 @@ impl EndedHouse {
         is_bounded(&self.config);
         legal_lists_can_be_netted();
         self.house.has_legal_list();
-        let rows = statement_rows(alloc, self.house.events(), period, party)?;
+        let rows = statement_rows(alloc, &self.config, self.house.events(), period, party)?;
         write_statement(alloc, rows.as_slice())
     }
 

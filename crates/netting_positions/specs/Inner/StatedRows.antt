@@ -1,9 +1,10 @@
 -- What one more obligation changes in a statement, and what its table keeps.
-use Rattle.std.specs.Prelude.{◌≡◌, ◌<◌, ◌^◌, ℤ, pos, ◌+ℤ◌, ◌-ℤ◌, unsigned_abs, List, [], ◌∷◌}
+use Rattle.std.specs.Prelude.{◌≡◌, ℕ, ◌*◌, ◌≤◌, ◌<◌, ◌^◌, length, true, ℤ, pos, ◌+ℤ◌, ◌-ℤ◌, unsigned_abs, List, [], ◌∷◌}
+use Rattle.std.specs.List.{list_all}
 use Rattle.std.specs.declared.cmp.Ordering.{Ordering}
 use Rattle.std.specs.declared.cmp.Ordering.TheVariants.{Less, Equal, Greater}
 use Rattle.ocpi_types.specs.declared.party.Party.{Party}
-use Rattle.netting_positions.specs.Netting.{is_payable, is_receivable, total_size}
+use Rattle.netting_positions.specs.Netting.{is_configured, is_payable, is_receivable, total_size}
 use Rattle.netting_positions.specs.Statement.{key_order, statement_rows}
 use Rattle.netting_positions.specs.Inner.Rows.{counted}
 use Rattle.netting_positions.specs.declared.obligation.Obligation.{Obligation}
@@ -50,7 +51,9 @@ rows_with party obligation key [] = row_with party obligation (zero_row key) ∷
 rows_with party obligation key (row ∷ rows) =
     rows_with_at (key_order (row_key row) key) party obligation key row rows (rows_with party obligation key rows)
 
--- the rows are those of the obligations, which fit in 63 bits
-pub record IsStated (rows : List StatementRow) (party : Party) (obligations : List Obligation) : Type 0 where
+-- the rows are those of obligations that are configured and fit in 63 bits, and there are places for as many as there can be
+pub record IsStated (rows : List StatementRow) (places : ℕ) (party : Party) (parties : List Party) (currencies : List (List ℕ)) (obligations : List Obligation) : Type 0 where
   pub rows_are : rows ≡ statement_rows party obligations
+  pub configured : list_all (is_configured parties currencies) obligations ≡ true
   pub fits : total_size obligations < 2 ^ 63
+  pub room : length currencies * length parties ≤ places

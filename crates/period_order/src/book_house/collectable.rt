@@ -2,6 +2,7 @@
 
 ghost use Rattle.std.specs.Prelude.{◌≡◌, ◌≤◌, length, true};
 ghost use Rattle.ocpi_types.specs.Config.{alike_operators, alike_providers};
+ghost use Rattle.ocpi_types.specs.Currency.{same_currency};
 ghost use Rattle.ocpi_types.specs.Different.{all_different};
 ghost use Rattle.period_order.specs.Dues.{AreCollectable};
 ghost use Rattle.period_order.specs.Inner.Kept.{IsKept, entries_of_books, kept_events};
@@ -12,13 +13,15 @@ use ocpi_types::Config;
 use operator_book::Book;
 use provider_account::Account;
 
-/// States that no two operators and no two providers are the same.
-pub fn parties_are_distinct(config: &Config)
+/// States that no two operators, no two providers and no two currencies are the same.
+pub fn parts_are_distinct(config: &Config)
     ensures operators { all_different alike_operators config.now.operators ≡ true }
     ensures providers { all_different alike_providers config.now.providers ≡ true }
+    ensures currencies { all_different same_currency config.now.currencies ≡ true }
 {
     let _operators = config.operators.as_slice();
     let _providers = config.providers.as_slice();
+    let _currencies = config.currencies.as_slice();
 }
 
 // States how many operators and CDRs a configuration may have.
@@ -41,7 +44,7 @@ pub fn kept_books_are_collectable(
     ensures { AreCollectable config.now (entries_of_books books.now) (kept_events books.now accounts.now order.now) }
 {
     books_are_collectable();
-    parties_are_distinct(config);
+    parts_are_distinct(config);
     is_bounded(config);
     let _ = books;
     let _ = accounts;

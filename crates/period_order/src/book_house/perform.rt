@@ -1,118 +1,26 @@
-//! Commands that look into one book, one account, or both.
+//! Each command answered.
 
-ghost use Rattle.std.specs.Prelude.{◌≡◌, ◌<◌, true, false, length, IfSome, OnOk};
+ghost use Rattle.std.specs.Prelude.{◌≡◌};
 ghost use Rattle.cdr_checks.specs.Admission.{IsAdmitted};
-ghost use Rattle.plain_house.specs.Entries.{account_entry, book_entry};
 ghost use Rattle.plain_house.specs.House.{Does};
-ghost use Rattle.period_order.specs.Decided.{is_close_command, is_statement_command};
-ghost use Rattle.period_order.specs.Kept.{account_number, book_number, with_added};
-ghost use Rattle.period_order.specs.Inner.Kept.{AccountHasRoom, AccountTakesAt, BookHasRoom, BookTakesAt, IsKept, entries_of_accounts, entries_of_books, kept_events, with_event_added};
+ghost use Rattle.period_order.specs.Inner.Kept.{IsKept, kept_events};
 
-use super::books::{account_at, book_at, reserve_account, reserve_book};
-use super::collectable::parties_are_distinct;
-use crate::decided::{Decided, Outcome};
-use crate::decision::decide;
-use crate::laws::orders_are_resolved;
-use crate::numbers::{operator_number, provider_number};
+use super::collect::collected_reply;
+use super::collectable::kept_books_are_collectable;
+use super::keep::keep;
+use super::table::Table;
 use crate::order::Order;
-use crate::puts::{put_in_account, put_in_book};
-use cdr_checks::{Command, commands_have_parties};
+use cdr_checks::Command;
+use netting_positions::{sums_decide_net_positions, sums_decide_statements};
 use ocpi_types::Config;
 use operator_book::Book;
-use plain_house::{
-    Event, Refused, Replied, commands_keep_lists_legal, events_are_of_their_command, out_of_memory,
-    stamped, verdicts_are_of_own_entries, verdicts_are_told,
-};
+use plain_house::{Refused, Replied, out_of_memory, stamped, verdicts_are_told};
 use provider_account::Account;
-use std::alloc::AllocError;
+use std::alloc::Global;
 
-fn book_number(config: &Config, command: &Command) -> Option<usize>
-    ensures { result ≡ book_number config.now command.now }
-{
-    let operator = command.operator()?;
-    Some(operator_number(config, &operator))
-}
-
-fn account_number(config: &Config, command: &Command) -> Option<usize>
-    ensures { result ≡ account_number config.now command.now }
-{
-    let provider = command.provider()?;
-    Some(provider_number(config, &provider))
-}
-
-// Makes room for what the command may add.
-fn reserve(
-    books: &mut Vec<Book>,
-    book: Option<usize>,
-    accounts: &mut Vec<Account>,
-    account: Option<usize>,
-    order: &mut Order,
-) -> Result<(), AllocError>
-    requires book { IfSome book (λ n. n < length books.old.items) }
-    requires account { IfSome account (λ n. n < length accounts.old.items) }
-    ensures books { entries_of_books books.new.items ≡ entries_of_books books.old.items }
-    ensures accounts { entries_of_accounts accounts.new.items ≡ entries_of_accounts accounts.old.items }
-    ensures order { order.new.entries ≡ order.old.entries }
-    ensures in_book { OnOk result (BookHasRoom books.new.items book) }
-    ensures in_account { OnOk result (AccountHasRoom accounts.new.items account) }
-    ensures in_order { OnOk result (order.new.has_room ≡ true) }
-{
-    reserve_book(books, book)?;
-    reserve_account(accounts, account)?;
-    order.reserve()?;
-    Ok(())
-}
-
-// Puts the event's entry into the account of that number, where one is given.
-fn put_in_accounts(accounts: &mut Vec<Account>, account: Option<usize>, event: &Event, period: u64)
-    requires number { IfSome account (λ n. n < length accounts.old.items) }
-    requires room { AccountHasRoom accounts.old.items account }
-    requires takes { AccountTakesAt accounts.old.items account period event.now }
-    ensures { entries_of_accounts accounts.new.items ≡ with_added (entries_of_accounts accounts.old.items) account (account_entry event.now period) }
-{
-    if let Some(number) = account {
-        put_in_account(&mut accounts[number], event, period);
-    }
-}
-
-// Puts the event's entry into the book of that number, where one is given.
-fn put_in_books(books: &mut Vec<Book>, book: Option<usize>, event: Event, period: u64)
-    requires number { IfSome book (λ n. n < length books.old.items) }
-    requires room { BookHasRoom books.old.items book }
-    requires takes { BookTakesAt books.old.items book event }
-    ensures { entries_of_books books.new.items ≡ with_added (entries_of_books books.old.items) book (book_entry event period) }
-{
-    if let Some(number) = book {
-        put_in_book(&mut books[number], event, period);
-    }
-}
-
-// Puts the event's entries, where there is an event.
-fn put(
-    books: &mut Vec<Book>,
-    book: Option<usize>,
-    accounts: &mut Vec<Account>,
-    account: Option<usize>,
-    event: Option<Event>,
-    period: u64,
-)
-    requires book { IfSome book (λ n. n < length books.old.items) }
-    requires account { IfSome account (λ n. n < length accounts.old.items) }
-    requires room_in_book { BookHasRoom books.old.items book }
-    requires room_in_account { AccountHasRoom accounts.old.items account }
-    requires book_takes { IfSome event (λ e. BookTakesAt books.old.items book e) }
-    requires account_takes { IfSome event (λ e. AccountTakesAt accounts.old.items account period e) }
-    ensures books { entries_of_books books.new.items ≡ with_event_added (entries_of_books books.old.items) book (λ e. book_entry e period) event }
-    ensures accounts { entries_of_accounts accounts.new.items ≡ with_event_added (entries_of_accounts accounts.old.items) account (λ e. account_entry e period) event }
-{
-    if let Some(event) = event {
-        put_in_accounts(accounts, account, &event, period);
-        put_in_books(books, book, event, period);
-    }
-}
-
-/// Replies to a command that is neither a close nor a statement, and adds its event.
+/// Replies to a command and adds its event. All memory is taken before the command has its place in the order.
 pub fn perform(
+    alloc: Global,
     config: &Config,
     books: &mut Vec<Book>,
     accounts: &mut Vec<Account>,
@@ -120,37 +28,21 @@ pub fn perform(
     command: Command,
 ) -> Result<Replied, Refused>
     requires admitted { IsAdmitted config.now command }
-    requires close { is_close_command command ≡ false }
-    requires statement { is_statement_command command ≡ false }
     requires kept { IsKept config.now books.old.items accounts.old.items order.old }
     ensures kept { IsKept config.now books.new.items accounts.new.items order.new }
     ensures does { Does config.now (kept_events books.old.items accounts.old.items order.old) command result
         (kept_events books.new.items accounts.new.items order.new) }
 {
-    orders_are_resolved();
-    commands_have_parties();
-    commands_keep_lists_legal();
-    events_are_of_their_command();
-    verdicts_are_of_own_entries();
+    sums_decide_net_positions();
+    sums_decide_statements();
     verdicts_are_told();
-    parties_are_distinct(config);
-    let book = book_number(config, &command);
-    let account = account_number(config, &command);
-    if reserve(books, book, accounts, account, order).is_err() {
+    let Ok(table) = Table::new(alloc, config, &command) else {
         return Err(out_of_memory());
-    }
-    let given_book = book_at(books.as_slice(), book);
-    let given_account = account_at(accounts.as_slice(), account);
-    let Decided {
-        point,
-        period,
-        outcome,
-    } = decide(config, command, given_book, given_account, order);
-    match outcome {
-        Outcome::Replied { reply, event } => {
-            put(books, book, accounts, account, event, period);
-            stamped(point, reply)
-        }
-        Outcome::Closed { .. } | Outcome::Stated { .. } => unreachable!(),
-    }
+    };
+    let Ok(decided) = keep(config, books, accounts, order, command) else {
+        return Err(out_of_memory());
+    };
+    kept_books_are_collectable(config, books.as_slice(), accounts.as_slice(), order);
+    let reply = collected_reply(config, books.as_slice(), table, decided.outcome);
+    stamped(decided.point, reply)
 }

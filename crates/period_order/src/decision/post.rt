@@ -20,7 +20,7 @@ use crate::order_entry::OrderEntry;
 use cdr_checks::Checked;
 use ocpi_types::{Cdr, Config, Cost, Refusal};
 use operator_book::Book;
-use plain_house::{Answer, BookedAmount, Charge, Event, charge_of};
+use plain_house::{Answer, BookedAmount, Charge, Event, charge_of, events_are_of_their_command};
 use provider_account::Account;
 
 fn entry_of(config: &Config, cdr: &Cdr, book: &Book, account: &Account) -> OrderEntry
@@ -149,6 +149,7 @@ pub fn post(
     ensures outcome { Decides config.now (Some book.now) (Some account.now) order.old (Post checked) result }
     ensures order { order.new ≡ order_with config.now (Some book.now) (Some account.now) order.old result }
 {
+    events_are_of_their_command();
     let cost = checked.cost();
     let cdr = checked.into_cdr();
     match cost {

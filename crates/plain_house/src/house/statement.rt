@@ -30,7 +30,7 @@ pub fn statement(
     if period_of(events) <= ask.period {
         return Err(refused(at, Refusal::PeriodOpen));
     }
-    let Ok(rows) = statement_rows(alloc, events, ask.period, &ask.party) else {
+    let Ok(rows) = statement_rows(alloc, config, events, ask.period, &ask.party) else {
         return Err(out_of_memory());
     };
     Ok(replied(at, Answer::Statement { rows }))

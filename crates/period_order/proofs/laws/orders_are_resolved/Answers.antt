@@ -2,4 +2,4 @@ use Rattle.period_order.proofs.ResolvedLemmas.{are_resolved}
 use Rattle.period_order.proofs.laws.orders_are_resolved.Goals as goal
 
 pub returns : goal.returns
-returns c = are_resolved c.commands_have_parties.ensures
+returns c = are_resolved c.events_are_of_configured.ensures

@@ -1,24 +1,19 @@
-use Rattle.std.proofs.Common.{◌≡◌, ◌∙◌, ◌<◌, ◌+◌, ◌++◌, ◌^◌, List, ap, ap₂, sym, subst, arith}
+use Rattle.std.proofs.Common.{◌∙◌, ◌<◌, ◌+◌, ◌++◌, ◌^◌, List, ap₂, arith}
 use Rattle.std.proofs.lemmas.List.Sums.{sum_by-append}
 use Rattle.ocpi_types.specs.declared.config.Provider.{Provider}
-use Rattle.ocpi_types.specs.Config.{alike_providers}
-use Rattle.ocpi_types.specs.Currency.{same_currency}
-use Rattle.ocpi_types.specs.Different.{all_different}
-use Rattle.ocpi_types.specs.Party.{same_party}
 use Rattle.netting_positions.specs.Netting.{size, total_size}
-use Rattle.netting_positions.specs.SameSums.{OweAlike}
-use Rattle.netting_positions.specs.declared.obligation.Obligation.{Obligation}
-use Rattle.plain_house.specs.Obligations.{obligations}
+use Rattle.netting_positions.specs.State.{Scope}
 use Rattle.operator_book.specs.Due.{due}
-use Rattle.operator_book.specs.Inner.Together.{owed_by_all}
-use Rattle.operator_book.proofs.AlikeLemmas.{all_kept, rows_configured, rows_least, rows_owe_alike}
+use Rattle.operator_book.specs.Together.{owed_by_all}
+use Rattle.operator_book.proofs.AlikeLemmas.{rows_configured, rows_least}
 use Rattle.operator_book.proofs.book.Book.period_sums.Goals as goal
 
-pub net_providers-requires : goal.net_providers-requires
-net_providers-requires c =
+pub add_providers-requires : goal.add_providers-requires
+add_providers-requires g c =
     let operator = c.args.operator.now in
     let os = due operator c.args.period c.args.self.now.entries in
-    let before = c.args.positions.now.obligations in
+    let before = g.T.ObligationTable.obligations c.args.table.now in
+    let scope : Scope = g.T.ObligationTable.scope c.args.table.now in
     let providers = c.as_slice-providers.result.now in
     let currencies = c.as_slice-currencies.result.now in
     let rows = owed_by_all operator os currencies providers in
@@ -26,29 +21,14 @@ net_providers-requires c =
     let fits : total_size before + total_size os < 2 ^ 63 = c.requires.fits in
     record {
       due = omega arith;
-      configured = rows_configured c.args.positions.now.parties c.args.positions.now.currencies operator os currencies providers c.requires.configured;
+      configured = rows_configured scope.parties scope.currencies operator os currencies providers c.requires.configured;
       fits = omega (arith, sum_by-append size before rows);
     }
 
-pub returns : goal.returns
-returns c =
-    let config = c.args.config.now in
+pub returns-clause-obligations : goal.returns-clause-obligations
+returns-clause-obligations g c =
     let operator = c.args.operator.now in
     let os = due operator c.args.period c.args.self.now.entries in
-    let before = c.args.positions.now.obligations in
-    let providers = c.as_slice-providers.result.now in
-    let currencies = c.as_slice-currencies.result.now in
-    let rows = owed_by_all operator os currencies providers in
-    let least = rows_least operator os currencies providers c.as_slice-currencies.ensures.different c.as_slice-providers.ensures.different in
-    let different = ap (all_different same_currency) (sym c.as_slice-currencies.ensures.value) ∙ c.as_slice-currencies.ensures.different in
-    let apart = ap (all_different alike_providers) (sym c.as_slice-providers.ensures.value) ∙ c.as_slice-providers.ensures.different in
-    let its = all_kept (λ (o : Obligation). same_party o.operator operator) (obligations c.args.period c.args.self.now.entries) in
-    let added = c.net_providers.ensures.obligations
-    ∙ ap₂ (λ coins (ps : List Provider). before ++ owed_by_all operator os coins ps) c.as_slice-currencies.ensures.value c.as_slice-providers.ensures.value in
-    let large : total_size c.net_providers.new.positions.obligations ≡ total_size (before ++ rows) = ap total_size c.net_providers.ensures.obligations in
-    record {
-      parties = c.net_providers.ensures.parties;
-      currencies = c.net_providers.ensures.currencies;
-      sums = subst (λ (l : List Obligation). OweAlike l (before ++ os)) (sym added) (rows_owe_alike config operator before os different apart its c.requires.providers);
-      size = omega (arith, sum_by-append size before rows);
-    }
+    let before = g.T.ObligationTable.obligations c.args.table.now in
+    c.add_providers.ensures.obligations
+    ∙ ap₂ (λ coins (ps : List Provider). before ++ owed_by_all operator os coins ps) c.as_slice-currencies.ensures.value c.as_slice-providers.ensures.value
