@@ -21,8 +21,14 @@ few_parties config =
     let operators = map (λ (o : Operator). o.party) config.operators in
     let providers = map (λ (p : Provider). p.party) config.providers in
     let is_other = λ (party : Party). not (is_operator config party) in
-    omega (arith, length-append operators (filter is_other providers), length-map config.operators (λ (o : Operator). o.party),
-    length-map config.providers (λ (p : Provider). p.party), length-filter is_other providers, count_by-le-length is_other providers)
+    omega (
+      arith,
+      length-append operators (filter is_other providers),
+      length-map config.operators (λ (o : Operator). o.party),
+      length-map config.providers (λ (p : Provider). p.party),
+      length-filter is_other providers,
+      count_by-le-length is_other providers,
+    )
 
 pub returns : goal.returns
 returns c =
