@@ -1,3 +1,4 @@
 pub mod PartyLemmas
 pub mod PostLemmas
 pub mod PriceLemmas
+pub mod TestsLemmas

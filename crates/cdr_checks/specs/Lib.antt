@@ -6,3 +6,4 @@ pub mod FirstRefusal
 pub mod Inner
 pub mod Law
 pub mod Parties
+pub mod Tests

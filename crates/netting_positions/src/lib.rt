@@ -1,6 +1,7 @@
 //! Multilateral netting: what each party is to receive less what it is to pay, by currency.
 #![tactic(auto)]
 
+mod exact;
 mod history;
 mod laws;
 mod obligation;

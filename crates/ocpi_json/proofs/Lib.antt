@@ -3,6 +3,8 @@ pub mod Eaches
 pub mod FractionSpelling
 pub mod MomentParts
 pub mod MomentSpelling
+pub mod MomentsAlike
+pub mod NameLemmas
 pub mod NodeLists
 pub mod Printable
 pub mod Readings

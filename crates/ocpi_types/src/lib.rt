@@ -13,6 +13,7 @@ mod day_of_week;
 mod different;
 mod dimension;
 mod element;
+mod exact;
 pub mod laws;
 pub mod members;
 mod party;

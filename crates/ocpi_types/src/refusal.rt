@@ -33,7 +33,8 @@ impl Store {
     }
 }
 
-/// Why a request is refused. Where several conditions hold, the first in the order of the numbers is told.
+/// Why a request is refused. Where several conditions hold, the first in the order of the numbers is told, but that `TooLate`
+/// stands before `AlreadyCredited`, and `NoMemory` wherever memory is refused.
 #[derive(Clone, Copy, PartialEq, Eq)]
 pub enum Refusal {
     /// The line is no JSON.

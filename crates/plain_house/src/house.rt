@@ -1,4 +1,4 @@
-ghost use Rattle.std.specs.Prelude.{◌≡◌, ◌≤◌, [], length};
+ghost use Rattle.std.specs.Prelude.{◌≡◌, []};
 ghost use Rattle.plain_house.specs.Entries.{account_entries, book_entries};
 ghost use Rattle.plain_house.specs.House.{Does};
 ghost use Rattle.plain_house.specs.LegalLists.{CanBeNetted, KeepsLimits};
@@ -46,15 +46,6 @@ fn reply(config: &Config, events: &mut Vec<Event>, command: Command) -> Result<R
             statement::statement(alloc, config, events.as_slice(), ask)
         }
     }
-}
-
-// How many operators and CDRs a configuration may have.
-fn is_bounded(config: &Config)
-    ensures operators { length config.now.operators ≤ 64 }
-    ensures cdrs { config.now.limits.cdrs ≤ 100_000 }
-{
-    let _operators = config.operators.as_slice();
-    let _cdrs = config.limits.cdrs.get();
 }
 
 /// A house of one list of events.
@@ -116,7 +107,7 @@ impl Sequential for PlainHouse {
     ghost config = { λ house. house.config };
 
     fn do_command(&mut self, command: Command) -> Result<Replied, Refused> {
-        is_bounded(&self.config);
+        self.config.is_bounded();
         posts_are_checked();
         reply(&self.config, &mut self.events, command)
     }

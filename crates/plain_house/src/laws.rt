@@ -7,6 +7,7 @@ ghost use Rattle.plain_house.specs.Legal.{CommandsKeepListsLegal, EmptyListsAreL
 ghost use Rattle.plain_house.specs.LegalLists.{ClosedPositionsBalance, LegalCdrsAreCharged, LegalCreditsAreTakenBack, LegalListsCanBeNetted, LegalListsKeepLimits, LegalPositionsBalance};
 ghost use Rattle.plain_house.specs.Obligations.{ClosedPeriodsStay};
 ghost use Rattle.plain_house.specs.Own.{AccountsAreOfOwnEntries, BooksAreOfOwnEntries, EventsAreOfTheirCommand, ExposureIsOfOwnEntries, ExposureWithChargeIsOfOwnEntries, VerdictsAreOfOwnEntries};
+ghost use Rattle.plain_house.specs.ReplyRoom.{RepliesFit};
 ghost use Rattle.plain_house.specs.Settlements.{SettlementsEndTheirDebts};
 
 use cdr_checks::{commands_have_parties, posts_are_checked};
@@ -129,6 +130,13 @@ pub fn replies_are_short()
     ensures { RepliesAreShort }
 {
     statements_are_short();
+}
+
+/// What a house replies fits in the room that is made for its configuration.
+pub fn replies_fit()
+    ensures { RepliesFit }
+{
+    replies_are_short();
 }
 
 /// The event that a command adds is of the book and of the account that the command looks into.

@@ -8,6 +8,7 @@ mod debts;
 mod entry;
 mod entry_laws;
 mod event;
+mod exact;
 mod hold_reference;
 mod holds;
 mod house;
@@ -43,7 +44,7 @@ pub use laws::{
     exposure_is_of_own_entries, exposure_with_charge_is_of_own_entries, exposures_in_any_spelling,
     legal_cdrs_are_charged, legal_credits_are_taken_back, legal_lists_begin_legally,
     legal_lists_can_be_netted, legal_lists_keep_limits, legal_positions_balance, replies_are_short,
-    replies_tell_events, settlements_end_their_debts, verdicts_are_of_own_entries,
+    replies_fit, replies_tell_events, settlements_end_their_debts, verdicts_are_of_own_entries,
     verdicts_are_told,
 };
 pub use obligations::statement_rows;

@@ -1,6 +1,6 @@
 //! A house after its last line, and what is printed of it.
 
-ghost use Rattle.std.specs.Prelude.{◌≡◌, ◌≤◌, length};
+ghost use Rattle.std.specs.Prelude.{◌≡◌};
 
 use crate::fault::Fault;
 use house_statements::{statement_rows, write_order, write_statement};
@@ -9,15 +9,6 @@ use plain_house::{Event, PlainHouse, legal_lists_can_be_netted};
 use request_lines::{Device, Sink, Source, run_script, write_all};
 use std::alloc::{AllocError, Global};
 use std::io;
-
-// How many operators and CDRs a configuration may have.
-fn is_bounded(config: &Config)
-    ensures operators { length config.now.operators ≤ 64 }
-    ensures cdrs { config.now.limits.cdrs ≤ 100_000 }
-{
-    let _operators = config.operators.as_slice();
-    let _cdrs = config.limits.cdrs.get();
-}
 
 fn put<W: Sink>(writer: &mut W, text: &[u8]) -> Result<(), Fault<'static>> {
     match write_all(writer, text) {
@@ -54,7 +45,7 @@ impl EndedHouse {
     }
 
     fn statement(&self, alloc: Global, party: &Party, period: u64) -> Result<Vec<u8>, AllocError> {
-        is_bounded(&self.config);
+        self.config.is_bounded();
         legal_lists_can_be_netted();
         self.house.has_legal_list();
         let rows = statement_rows(alloc, &self.config, self.house.events(), period, party)?;

@@ -37,8 +37,30 @@ impl Platform {
 }
 
 impl Config {
-    ghost use Rattle.std.specs.Prelude.{◌≡◌, option_copied, option_map};
-    ghost use Rattle.ocpi_types.specs.Config.{as_configured, has_currency, hold_of, is_hub, is_operator, is_party, is_provider, limit_of, may_act_for, operator_of, pair_limit_of, platform_of, provider_of, row_of};
+    ghost use Rattle.std.specs.Prelude.{◌≡◌, ◌≤◌, length, true, option_copied, option_map};
+    ghost use Rattle.ocpi_types.specs.Currency.{same_currency};
+    ghost use Rattle.ocpi_types.specs.Different.{all_different};
+    ghost use Rattle.ocpi_types.specs.Config.{alike_operators, alike_providers, as_configured, has_currency, hold_of, is_hub, is_operator, is_party, is_provider, limit_of, may_act_for, operator_of, pair_limit_of, platform_of, provider_of, row_of};
+
+    /// States that no two operators, no two providers and no two currencies are the same.
+    pub fn has_distinct_parts(&self)
+        ensures operators { all_different alike_operators self.now.operators ≡ true }
+        ensures providers { all_different alike_providers self.now.providers ≡ true }
+        ensures currencies { all_different same_currency self.now.currencies ≡ true }
+    {
+        let _operators = self.operators.as_slice();
+        let _providers = self.providers.as_slice();
+        let _currencies = self.currencies.as_slice();
+    }
+
+    /// States how many operators and CDRs there can be.
+    pub fn is_bounded(&self)
+        ensures operators { length self.now.operators ≤ 64 }
+        ensures cdrs { self.now.limits.cdrs ≤ 100_000 }
+    {
+        let _operators = self.operators.as_slice();
+        let _cdrs = self.limits.cdrs.get();
+    }
 
     pub fn operator(&self, party: &Party) -> Option<&Operator>
         ensures { option_copied result ≡ operator_of self.now party.now }
