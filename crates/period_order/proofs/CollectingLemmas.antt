@@ -18,7 +18,7 @@ use Rattle.operator_book.specs.Together.{owed_by_all}
 use Rattle.plain_house.specs.declared.entry.BookEntry.{BookEntry}
 use Rattle.period_order.specs.Dues.{CollectedOwesAlike, dues, sums}
 use Rattle.period_order.specs.Inner.Collected.{IsCollecting}
-use Rattle.period_order.specs.Inner.Kept.{entries_of_books}
+use Rattle.period_order.specs.Resolved.{entries_of_books}
 use Rattle.period_order.proofs.PartyLemmas.{both_are}
 
 -- what holds of all of them holds of those before and of those behind

@@ -13,4 +13,5 @@ pub mod PartyLemmas
 pub mod PerformLemmas
 pub mod ReachedLemmas
 pub mod ResolvedLemmas
+pub mod ResolvesLemmas
 pub mod TakesLemmas

@@ -11,19 +11,25 @@ use Rattle.period_order.specs.Order.{is_close, names_account, names_book}
 use Rattle.period_order.specs.Places.{account_size, book_size, order_after, order_entry, order_of}
 
 -- what the order keeps of an event behind these
-abbrev entry_behind : Config → List Event → Event → OrderEntry
+abbrev pub entry_behind : Config → List Event → Event → OrderEntry
 entry_behind config before e = order_entry config (book_size before e) (account_size before e) e
 
-after_push : (config : Config) (before later : List Event) (e : Event)
-    → order_after config before (later ++ e ∷ []) ≡ order_after config before later ++ entry_behind config (before ++ later) e ∷ []
-after_push config before [] e = ap (λ (l : List Event). entry_behind config l e ∷ []) (sym (append-nil before))
-after_push config before (x ∷ later) e =
-    ap (λ l. entry_behind config before x ∷ l) (after_push config (before ++ x ∷ []) later e)
-    ∙ ap (λ (l : List Event). entry_behind config before x ∷ (order_after config (before ++ x ∷ []) later ++ entry_behind config l e ∷ [])) (append_assoc before (x ∷ []) later)
+after_split : (config : Config) (before later : List Event) (e : Event) (behind : List Event)
+    → order_after config before (later ++ e ∷ behind) ≡ order_after config before later ++ entry_behind config (before ++ later) e ∷ order_after config ((before ++ later) ++ e ∷ []) behind
+after_split config before [] e behind =
+    ap (λ (l : List Event). entry_behind config l e ∷ order_after config (l ++ e ∷ []) behind) (sym (append-nil before))
+after_split config before (x ∷ later) e behind =
+    ap (λ l. entry_behind config before x ∷ l) (after_split config (before ++ x ∷ []) later e behind)
+    ∙ ap (λ (l : List Event). entry_behind config before x ∷ (order_after config (before ++ x ∷ []) later ++ entry_behind config l e ∷ order_after config (l ++ e ∷ []) behind)) (append_assoc before (x ∷ []) later)
+
+-- what it keeps of events before one, of that one, and of those behind it
+pub order_split : (config : Config) (before : List Event) (e : Event) (behind : List Event)
+    → order_of config (before ++ e ∷ behind) ≡ order_of config before ++ entry_behind config before e ∷ order_after config (before ++ e ∷ []) behind
+order_split config before e behind = after_split config [] before e behind
 
 pub order_push : (config : Config) (events : List Event) (e : Event)
     → order_of config (events ++ e ∷ []) ≡ order_of config events ++ order_entry config (book_size events e) (account_size events e) e ∷ []
-order_push config events e = after_push config [] events e
+order_push config events e = order_split config events e []
 
 -- ---- how many
 

@@ -26,10 +26,10 @@ use Rattle.plain_house.specs.Replies.{with_event}
 use Rattle.plain_house.specs.Verdict.{Verdict}
 use Rattle.period_order.specs.declared.order_entry.OrderEntry.{OrderEntry}
 use Rattle.period_order.specs.Kept.{Keeps, account_number, book_number, with_added}
-use Rattle.period_order.specs.Inner.Kept.{entries_of_accounts, entries_of_books, with_event_added}
+use Rattle.period_order.specs.Inner.Kept.{with_event_added}
 use Rattle.period_order.specs.Order.{PlainOrder, current_of, is_close}
 use Rattle.period_order.specs.Places.{operator_number, order_entry, order_of, provider_number}
-use Rattle.period_order.specs.Resolved.{OrdersAreResolved, books_of, resolved}
+use Rattle.period_order.specs.Resolved.{OrdersAreResolved, books_of, entries_of_accounts, entries_of_books, resolved}
 use Rattle.period_order.proofs.BooksLemmas.{account_at, book_at}
 use Rattle.period_order.proofs.HouseLemmas.{accounts_added, books_added, entry_is}
 use Rattle.period_order.proofs.OrderLemmas.{current_is, order_push, point_is}

@@ -25,7 +25,7 @@ use Rattle.period_order.specs.Decided.{Collects, Decides, closed_by, event_of, i
 use Rattle.period_order.specs.Kept.{Keeps}
 use Rattle.period_order.specs.Order.{PlainOrder}
 use Rattle.period_order.specs.Inner.Collected.{IsReached, IsTableFor, table_of, without_event}
-use Rattle.period_order.specs.Inner.Kept.{entries_of_accounts, entries_of_books}
+use Rattle.period_order.specs.Resolved.{entries_of_accounts, entries_of_books}
 use Rattle.period_order.proofs.PerformLemmas.{are_of_account, are_of_book, event_is, point_kept, the_account, the_book, verdict_is}
 
 -- a close and a statement look into no book alone

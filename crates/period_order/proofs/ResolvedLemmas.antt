@@ -1,5 +1,5 @@
--- The order of a legal list, resolved in its books and accounts, is the list.
-use Rattle.std.proofs.Common.{◌≡◌, ℕ, List, [], ◌∷◌, ◌++◌, Bool, true, refl, sym, ap, ap₂, ◌∙◌, cond, append_assoc, length, Option, Some, option_map, option_and_then, option_to_list, slice_get}
+-- The order of a legal list names its events in its books and accounts.
+use Rattle.std.proofs.Common.{◌≡◌, List, [], ◌∷◌, ◌++◌, Bool, true, refl, sym, ap, ◌∙◌, subst, cond, length, Option, option_map, option_and_then, Some, slice_get}
 use Rattle.ocpi_types.specs.declared.config.Config.{Config}
 use Rattle.ocpi_types.specs.declared.party.Party.{Party}
 use Rattle.ocpi_types.specs.Config.{is_operator, is_provider}
@@ -9,20 +9,24 @@ use Rattle.plain_house.specs.declared.entry.AccountEntry.{AccountEntry}
 use Rattle.plain_house.specs.declared.entry.AccountEntry.TheVariants as account
 use Rattle.plain_house.specs.declared.entry.BookEntry.{BookEntry}
 use Rattle.plain_house.specs.declared.entry.BookEntry.TheVariants as book
-use Rattle.plain_house.specs.Entries.{account_entries_from, account_entry, book_entries, book_entries_from, book_entry, period_after, period_of}
+use Rattle.plain_house.specs.Entries.{account_entries_from, account_entry, book_entries, book_entries_from, book_entry, charge_of, credit_of, period_after, period_of}
 use Rattle.plain_house.specs.Known.{known}
 use Rattle.plain_house.specs.Legal.{EventsAreOfConfigured, IsLegal, IsOfConfigured}
 use Rattle.plain_house.specs.Own.{is_in_book_of, own_account, own_book}
 use Rattle.plain_house.specs.Room.{is_entry_of, own_entries}
-use Rattle.period_order.specs.Places.{account_size, book_size, in_account, in_book, order_after, order_entry}
-use Rattle.period_order.specs.Resolved.{OrdersAreResolved, accounts_of, account_event, book_event, books_of, entry_at, named_event, period_behind, resolved_from}
+use Rattle.period_order.specs.declared.order_entry.OrderEntry.{OrderEntry}
+use Rattle.period_order.specs.Kept.{Keeps}
+use Rattle.period_order.specs.Places.{in_account, in_book, order_after, order_of}
+use Rattle.period_order.specs.Resolved.{OrdersAreResolved, accounts_of, books_of, entry_at}
+use Rattle.period_order.specs.Resolves.{Names, OrdersResolve, Resolves, ResolvingIsUnique}
 use Rattle.period_order.proofs.BooksLemmas.{account_at, book_at}
-use Rattle.period_order.proofs.EntriesLemmas.{own_account_split, own_book_split, period_push}
+use Rattle.period_order.proofs.EntriesLemmas.{own_account_split, own_book_split}
+use Rattle.period_order.proofs.OrderLemmas.{entry_behind, order_split, point_is}
 use Rattle.period_order.proofs.PartyLemmas.{party_itself}
+use Rattle.period_order.proofs.ResolvesLemmas.{same_place, seam}
 
-seam : {X : Type 0} (xs : List X) (x : X) (ys : List X) → slice_get (xs ++ x ∷ ys) (length xs) ≡ Some x
-seam [] x ys = refl
-seam (y ∷ xs) x ys = seam xs x ys
+abbrev alone : {X : Type 0} → X → List X
+alone x = x ∷ []
 
 -- ---- the entries of one event
 
@@ -62,59 +66,73 @@ module _ (config : Config) (before : List Event) (e : Event) (later : List Event
 
 -- what the order keeps of an event names it
 named : (config : Config) (before : List Event) (e : Event) (later : List Event) → IsOfConfigured config (period_of before) e
-    → named_event (books_of config (before ++ e ∷ later)) (accounts_of config (before ++ e ∷ later)) (period_of before) (order_entry config (book_size before e) (account_size before e) e) ≡ Some e
-named config before (event.Tariff tariff) later has =
-    ap (option_map book_event) (book_found config before (event.Tariff tariff) later tariff.operator (book.Tariff tariff) refl has (party_itself tariff.operator))
-named config before (event.Token token) later has =
-    ap (option_and_then account_event) (account_found config before (event.Token token) later token.provider (account.Token token) refl has (party_itself token.provider))
-named config before (event.Authorised hold) later has =
-    ap (option_and_then account_event) (account_found config before (event.Authorised hold) later hold.provider (account.Hold hold) refl has (party_itself hold.provider))
-named config before (event.Released release) later has =
-    ap (option_and_then account_event) (account_found config before (event.Released release) later release.provider (account.Release release) refl has (party_itself release.provider))
-named config before (event.Cdr cdr cost) later has =
-    ap (option_map book_event) (book_found config before (event.Cdr cdr cost) later cdr.operator (book.Cdr cdr cost (period_of before)) refl has.0 (party_itself cdr.operator))
-named config before (event.Credit cdr amount) later has =
-    ap (option_map book_event) (book_found config before (event.Credit cdr amount) later cdr.operator (book.Credit cdr amount (period_of before)) refl has.0 (party_itself cdr.operator))
-named config before (event.Settled settlement) later has =
-    ap (option_and_then account_event) (account_found config before (event.Settled settlement) later settlement.provider (account.Settlement settlement) refl has (party_itself settlement.provider))
-named config before (event.Closed period) later has = ap (λ n. Some (event.Closed n)) (sym has)
+    → Names (books_of config (before ++ e ∷ later)) (accounts_of config (before ++ e ∷ later)) (period_of before) (entry_behind config before e) e
+named config before (event.Tariff tariff) later has = record {
+  in_book = ap (option_map alone) (book_found config before (event.Tariff tariff) later tariff.operator (book.Tariff tariff) refl has (party_itself tariff.operator));
+  in_account = refl;
+  closes = λ h. absurd (cc);
+}
+named config before (event.Token token) later has = record {
+  in_book = refl;
+  in_account = ap (option_map alone) (account_found config before (event.Token token) later token.provider (account.Token token) refl has (party_itself token.provider));
+  closes = λ h. absurd (cc);
+}
+named config before (event.Authorised hold) later has = record {
+  in_book = refl;
+  in_account = ap (option_map alone) (account_found config before (event.Authorised hold) later hold.provider (account.Hold hold) refl has (party_itself hold.provider));
+  closes = λ h. absurd (cc);
+}
+named config before (event.Released release) later has = record {
+  in_book = refl;
+  in_account = ap (option_map alone) (account_found config before (event.Released release) later release.provider (account.Release release) refl has (party_itself release.provider));
+  closes = λ h. absurd (cc);
+}
+named config before (event.Cdr cdr cost) later has = record {
+  in_book = ap (option_map alone) (book_found config before (event.Cdr cdr cost) later cdr.operator (book.Cdr cdr cost (period_of before)) refl has.0 (party_itself cdr.operator));
+  in_account = ap (option_map alone) (account_found config before (event.Cdr cdr cost) later cdr.cdr_token.provider (account.Charge (charge_of cdr cost (period_of before))) refl has.1 (party_itself cdr.cdr_token.provider));
+  closes = λ h. absurd (cc);
+}
+named config before (event.Credit cdr amount) later has = record {
+  in_book = ap (option_map alone) (book_found config before (event.Credit cdr amount) later cdr.operator (book.Credit cdr amount (period_of before)) refl has.0 (party_itself cdr.operator));
+  in_account = ap (option_map alone) (account_found config before (event.Credit cdr amount) later cdr.cdr_token.provider (account.Credit (credit_of cdr amount (period_of before))) refl has.1 (party_itself cdr.cdr_token.provider));
+  closes = λ h. absurd (cc);
+}
+named config before (event.Settled settlement) later has = record {
+  in_book = refl;
+  in_account = ap (option_map alone) (account_found config before (event.Settled settlement) later settlement.provider (account.Settlement settlement) refl has (party_itself settlement.provider));
+  closes = λ h. absurd (cc);
+}
+named config before (event.Closed period) later has = record { in_book = refl; in_account = refl; closes = λ h. ap event.Closed has }
 
 -- ---- the whole list
-
-behind_is : (config : Config) (period book account : ℕ) (e : Event) → period_behind period (order_entry config book account e) ≡ period_after period e
-behind_is config period book account (event.Tariff tariff) = refl
-behind_is config period book account (event.Token token) = refl
-behind_is config period book account (event.Authorised hold) = refl
-behind_is config period book account (event.Released release) = refl
-behind_is config period book account (event.Cdr cdr cost) = refl
-behind_is config period book account (event.Credit cdr amount) = refl
-behind_is config period book account (event.Settled settlement) = refl
-behind_is config period book account (event.Closed closed) = refl
 
 given_has : EventsAreOfConfigured → (config : Config) (events before : List Event) (e : Event) (later : List Event) → IsLegal config events → events ≡ before ++ e ∷ later
     → IsOfConfigured config (period_of before) e
 unfolding IsLegal
 given_has of_configured config events before e later legal same = of_configured config (known before) e (legal before e later same)
 
-resolved_after : EventsAreOfConfigured → (config : Config) (events before later : List Event) (period : ℕ) → IsLegal config events → events ≡ before ++ later → period ≡ period_of before
-    → resolved_from (books_of config events) (accounts_of config events) period (order_after config before later) ≡ later
-resolved_after of_configured config events before [] period legal same current = refl
-resolved_after of_configured config events before (e ∷ later) period legal same current =
-    ap₂ (λ (found : Option Event) (l : List Event). option_to_list found ++ l) first
-    (resolved_after of_configured config events (before ++ e ∷ []) later next legal (same ∙ sym (append_assoc before (e ∷ []) later)) next_is)
-  where
-    next : ℕ
-    next = period_behind period (order_entry config (book_size before e) (account_size before e) e)
+pub orders_do : EventsAreOfConfigured → OrdersResolve
+orders_do of_configured config events legal = record {
+  each = point_is config events;
+  names = λ earlier entry later before e behind same other long.
+      let split : earlier ++ entry ∷ later ≡ order_of config before ++ entry_behind config before e ∷ order_after config (before ++ e ∷ []) behind =
+      sym same ∙ ap (order_of config) other ∙ order_split config before e behind in
+      let is : entry ≡ entry_behind config before e =
+      same_place earlier later (order_of config before) (order_after config (before ++ e ∷ []) behind) entry (entry_behind config before e) split
+      (long ∙ sym (point_is config before)) in
+      subst (λ (x : OrderEntry). Names (books_of config events) (accounts_of config events) (period_of before) x e) (sym is)
+      (subst (λ (l : List Event). Names (books_of config l) (accounts_of config l) (period_of before) (entry_behind config before e) e) (sym other)
+      (named config before e behind (given_has of_configured config events before e behind legal other)));
+}
 
-    next_is : next ≡ period_of (before ++ e ∷ [])
-    next_is =
-        behind_is config period (book_size before e) (account_size before e) e
-        ∙ ap (λ n. period_after n e) current ∙ sym (period_push before e)
+pub are_resolved : OrdersResolve → ResolvingIsUnique → OrdersAreResolved
+are_resolved resolve unique config events legal =
+    unique (books_of config events) (accounts_of config events) (order_of config events) events (resolve config events legal)
 
-    first : named_event (books_of config events) (accounts_of config events) period (order_entry config (book_size before e) (account_size before e) e) ≡ Some e
-    first =
-        ap₂ (λ (l : List Event) (n : ℕ). named_event (books_of config l) (accounts_of config l) n (order_entry config (book_size before e) (account_size before e) e)) same current
-        ∙ named config before e later (given_has of_configured config events before e later legal same)
-
-pub are_resolved : EventsAreOfConfigured → OrdersAreResolved
-are_resolved of_configured config events legal = resolved_after of_configured config events [] events 0 legal refl refl
+-- an order that is kept resolves to its events
+pub kept_resolves : OrdersResolve → (config : Config) (books : List (List BookEntry)) (accounts : List (List AccountEntry)) (order : List OrderEntry) (events : List Event)
+    → Keeps config books accounts order events → Resolves books accounts order events
+kept_resolves resolve config books accounts order events keeps =
+    subst (λ b. Resolves b accounts order events) (sym keeps.books_are)
+    (subst (λ a. Resolves (books_of config events) a order events) (sym keeps.accounts_are)
+    (subst (λ o. Resolves (books_of config events) (accounts_of config events) o events) (sym keeps.order_is) (resolve config events keeps.legal)))

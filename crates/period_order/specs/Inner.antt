@@ -1,3 +1,4 @@
 -- Words that only private contracts and proofs use.
 pub mod Collected
 pub mod Kept
+pub mod Named

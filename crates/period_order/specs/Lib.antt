@@ -5,3 +5,4 @@ pub mod Kept
 pub mod Order
 pub mod Places
 pub mod Resolved
+pub mod Resolves

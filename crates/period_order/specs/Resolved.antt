@@ -4,6 +4,8 @@ use Rattle.std.specs.Option.{option_to_list}
 use Rattle.ocpi_types.specs.declared.config.Config.{Config}
 use Rattle.ocpi_types.specs.declared.party.Party.{Party}
 use Rattle.ocpi_types.specs.Config.{is_operator, is_provider}
+use Rattle.operator_book.specs.State.{PlainBook}
+use Rattle.provider_account.specs.State.{PlainAccount}
 use Rattle.plain_house.specs.declared.entry.AccountEntry.{AccountEntry}
 use Rattle.plain_house.specs.declared.entry.AccountEntry.TheVariants as account
 use Rattle.plain_house.specs.declared.entry.BookEntry.{BookEntry}
@@ -17,6 +19,13 @@ use Rattle.period_order.specs.declared.order_entry.OrderEntry.{OrderEntry}
 use Rattle.period_order.specs.declared.order_entry.OrderEntry.TheVariants as entry
 use Rattle.period_order.specs.declared.order_entry.Place.{Place}
 use Rattle.period_order.specs.Places.{operator_number, order_of, provider_number}
+
+-- the entries of these books, and of these accounts
+abbrev pub entries_of_books : List PlainBook → List (List BookEntry)
+entries_of_books books = map (λ book. book.entries) books
+
+abbrev pub entries_of_accounts : List PlainAccount → List (List AccountEntry)
+entries_of_accounts accounts = map (λ account. account.entries) accounts
 
 -- the entry at a place
 abbrev pub entry_at : {X : Type 0} → List (List X) → Place → Option X

@@ -1,12 +1,15 @@
 //! A house of books and accounts.
 
-ghost use Rattle.std.specs.Prelude.{◌≡◌, [], IfOk};
+ghost use Rattle.std.specs.Prelude.{◌≡◌, ◌-◌, [], length, slice_get, IfOk};
 
+use super::laws::{orders_are_counted, orders_resolve, resolving_is_unique, resolving_is_whole};
 use super::order::Order;
+use super::order_entry::OrderEntry;
+use super::resolved::{ResolveFault, named, resolve};
 use cdr_checks::Command;
 use ocpi_types::Config;
 use operator_book::Book;
-use plain_house::{Refused, Replied, Sequential, empty_lists_are_legal};
+use plain_house::{Event, Refused, Replied, Sequential, empty_lists_are_legal};
 use provider_account::Account;
 use std::alloc::{AllocError, Global};
 use std::marker::Model;
@@ -55,6 +58,50 @@ impl BookHouse {
             accounts,
             order: Order::new(alloc),
         })
+    }
+
+    /// The events so far, the first one first, as the order names them in books and accounts.
+    pub fn events(&self, alloc: Global) -> Result<Vec<Event>, AllocError>
+        ensures { IfOk result (λ events. events.items ≡ self.now.events) }
+    {
+        orders_resolve();
+        resolving_is_unique();
+        resolving_is_whole();
+        let named = resolve(
+            alloc,
+            self.order.entries(),
+            self.books.as_slice(),
+            self.accounts.as_slice(),
+        );
+        match named {
+            Ok(events) => Ok(events),
+            Err(fault) => match fault {
+                ResolveFault::NoMemory => Err(AllocError),
+                ResolveFault::Torn { .. } => unreachable!(),
+            },
+        }
+    }
+
+    /// The last event, where there is one.
+    pub fn last_event(&self, alloc: Global) -> Result<Option<Event>, AllocError>
+        ensures { IfOk result (λ last. last ≡ slice_get self.now.events (length self.now.events - 1)) }
+    {
+        orders_are_counted();
+        orders_resolve();
+        let Some(entry) = self.order.entries().last() else {
+            return Ok(None);
+        };
+        let period = match entry {
+            OrderEntry::Close => self.order.current() - 1,
+            _ => self.order.current(),
+        };
+        named(
+            alloc,
+            self.books.as_slice(),
+            self.accounts.as_slice(),
+            period,
+            *entry,
+        )
     }
 }
 

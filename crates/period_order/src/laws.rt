@@ -5,6 +5,7 @@ ghost use Rattle.period_order.specs.Dues.{BooksAreCollectable, CollectedOwesAlik
 ghost use Rattle.period_order.specs.Kept.{EventsAreKept};
 ghost use Rattle.period_order.specs.Places.{OrdersAreCounted};
 ghost use Rattle.period_order.specs.Resolved.{OrdersAreResolved, PartiesStandAtTheirNumbers};
+ghost use Rattle.period_order.specs.Resolves.{OrdersResolve, ResolvingIsUnique, ResolvingIsWhole};
 
 use cdr_checks::commands_have_parties;
 use netting_positions::{joined_lists_owe_alike, operators_owe_alike};
@@ -18,8 +19,26 @@ use plain_house::{
 pub fn orders_are_resolved()
     ensures { OrdersAreResolved }
 {
+    orders_resolve();
+    resolving_is_unique();
+}
+
+/// The order of a legal list names its events one by one in its books and accounts.
+pub fn orders_resolve()
+    ensures { OrdersResolve }
+{
     events_are_of_configured();
 }
+
+/// An order names no other events than those to which it resolves.
+pub fn resolving_is_unique()
+    ensures { ResolvingIsUnique }
+{}
+
+/// An order that resolves fails at none of its entries.
+pub fn resolving_is_whole()
+    ensures { ResolvingIsWhole }
+{}
 
 /// The order of a list has an entry for each event, a close for each closed period, and names each entry of books and accounts.
 pub fn orders_are_counted()

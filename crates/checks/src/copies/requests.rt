@@ -1,23 +1,33 @@
-//! Requests, commands, events and answers copied.
+//! Requests, commands, events, replies and answers copied. Each command is done by a house of one list and its copy by one of
+//! books, whose replies and events have to be the same.
 
-ghost use Rattle.std.specs.Prelude.{◌≡◌};
+ghost use Rattle.std.specs.Prelude.{◌≡◌, ◌≤◌, length};
+ghost use Rattle.cdr_checks.specs.Admission.{IsAdmitted};
+ghost use Rattle.plain_house.specs.Laws.{most_rows};
 
-use cdr_checks::{Request, admit};
+use cdr_checks::{Command, Request, admit};
 use ocpi_json::Room;
+use ocpi_json::same::{Same, are_same};
 use ocpi_types::{Config, Refusal, TryCopy};
-use plain_house::{Event, PlainHouse, Refused, Replied, Sequential};
+use period_order::BookHouse;
+use plain_house::{
+    Event, PlainHouse, Refused, Replied, ReplyRoom, Sequential, legal_lists_can_be_netted,
+    replies_fit,
+};
 use request_lines::{answer_line, request_of};
-use std::alloc::Global;
+use std::alloc::{AllocError, Global};
 use std::io::Write;
 use std::str::Lines;
 
-/// A house, the configuration by which requests are admitted to it, and the room in which lines are read.
+/// Two houses, the configuration by which requests are admitted to them, and the room in which lines are read.
 #[derive(Drop)]
 struct Copying {
     config: Config,
     house: PlainHouse,
+    books: BookHouse,
     room: Room,
     ghost same: { house.config ≡ config },
+    ghost books_same: { books.config ≡ config },
 }
 
 fn is_request_copied(alloc: Global, request: &Request) -> bool {
@@ -62,13 +72,38 @@ fn copied_reply(
     }
 }
 
+// The house's reply, filled into the room.
+fn reply_in_room(
+    house: &mut PlainHouse,
+    room: ReplyRoom,
+    command: Command,
+) -> Option<Result<Replied, Refused>>
+    requires admitted { IsAdmitted house.old.config command }
+    requires operators { length house.old.config.operators ≤ 64 }
+    requires cdrs { house.old.config.limits.cdrs ≤ 100_000 }
+    requires room { most_rows house.old.config ≤ room }
+    ensures { house.new.config ≡ house.old.config }
+{
+    house.has_legal_list();
+    legal_lists_can_be_netted();
+    replies_fit();
+    let reply = house.do_command(command);
+    let filled = room.fill(&reply);
+    if filled.is_same(&reply) {
+        return Some(filled);
+    }
+    None
+}
+
 impl Copying {
     fn read(alloc: Global, line: &str) -> Option<Copying> {
         let config = Config::read(alloc, line.as_bytes()).ok()?;
         let house = PlainHouse::new(alloc, config.copy(alloc).ok()?);
+        let books = BookHouse::new(alloc, config.copy(alloc).ok()?).ok()?;
         Some(Copying {
             config,
             house,
+            books,
             room: Room::new(alloc),
         })
     }
@@ -80,13 +115,41 @@ impl Copying {
         }
     }
 
-    // The reply to a copy of the command.
+    fn is_last_event_same(&self, alloc: Global) -> bool {
+        match (self.books.last_event(alloc), self.house.events().last()) {
+            (Ok(Some(ours)), Some(theirs)) => ours.is_same(theirs),
+            (Ok(None), None) => true,
+            _ => false,
+        }
+    }
+
+    fn are_events_same(&self, alloc: Global) -> bool {
+        match self.books.events(alloc) {
+            Ok(events) => are_same(events.as_slice(), self.house.events()),
+            Err(AllocError) => false,
+        }
+    }
+
+    // The reply to a command and to its copy.
+    fn reply_of_both(&mut self, alloc: Global, command: Command) -> Option<Result<Replied, Refused>>
+        requires { IsAdmitted self.old.config command }
+    {
+        let Ok(room) = ReplyRoom::new(alloc, &self.config) else {
+            return None;
+        };
+        self.config.is_bounded();
+        let copy = command.copy(alloc).ok()?;
+        let reply = reply_in_room(&mut self.house, room, command)?;
+        let by_books = self.books.do_command(copy);
+        if reply.is_same(&by_books) {
+            return Some(reply);
+        }
+        None
+    }
+
     fn reply_to(&mut self, alloc: Global, request: Request) -> Option<Result<Replied, Refused>> {
         match admit(&self.config, request) {
-            Ok(command) => {
-                let copy = command.copy(alloc).ok()?;
-                Some(self.house.do_command(copy))
-            }
+            Ok(command) => self.reply_of_both(alloc, command),
             Err((_request, refusal)) => Some(Err(Refused { at: None, refusal })),
         }
     }
@@ -117,11 +180,14 @@ impl Copying {
 
     fn are_answered(&mut self, rt: &HostRuntime, lines: Lines<'_>) -> bool {
         for line in lines {
-            if !self.is_answered(rt, line) || !self.is_last_event_copied(rt.alloc()) {
+            if !self.is_answered(rt, line)
+                || !self.is_last_event_copied(rt.alloc())
+                || !self.is_last_event_same(rt.alloc())
+            {
                 return false;
             }
         }
-        true
+        self.are_events_same(rt.alloc())
     }
 }
 

@@ -1,21 +1,13 @@
 -- What a house of books, accounts and an order has, and what it can put.
-use Rattle.std.specs.Prelude.{◌≡◌, ℕ, true, List, Option, Some, None, map, slice_get}
+use Rattle.std.specs.Prelude.{◌≡◌, ℕ, true, List, Option, Some, None, slice_get}
 use Rattle.ocpi_types.specs.declared.config.Config.{Config}
 use Rattle.operator_book.specs.State.{PlainBook}
 use Rattle.provider_account.specs.State.{PlainAccount}
-use Rattle.plain_house.specs.declared.entry.AccountEntry.{AccountEntry}
-use Rattle.plain_house.specs.declared.entry.BookEntry.{BookEntry}
 use Rattle.plain_house.specs.declared.event.Event.{Event}
 use Rattle.period_order.specs.Decided.{AccountTakes, BookTakes}
 use Rattle.period_order.specs.Kept.{Keeps, with_added}
 use Rattle.period_order.specs.Order.{PlainOrder}
-use Rattle.period_order.specs.Resolved.{resolved}
-
-abbrev pub entries_of_books : List PlainBook → List (List BookEntry)
-entries_of_books books = map (λ book. book.entries) books
-
-abbrev pub entries_of_accounts : List PlainAccount → List (List AccountEntry)
-entries_of_accounts accounts = map (λ account. account.entries) accounts
+use Rattle.period_order.specs.Resolved.{entries_of_accounts, entries_of_books, resolved}
 
 -- the events of a house
 abbrev pub kept_events : List PlainBook → List PlainAccount → PlainOrder → List Event

@@ -2,7 +2,8 @@
 
 ghost use Rattle.std.specs.Prelude.{◌≡◌, ◌<◌, [], map, option_and_then, slice_get, length, IfOk, IfSome, OnOk};
 ghost use Rattle.std.specs.Option.{option_copied};
-ghost use Rattle.period_order.specs.Inner.Kept.{AccountHasRoom, BookHasRoom, entries_of_accounts, entries_of_books};
+ghost use Rattle.period_order.specs.Inner.Kept.{AccountHasRoom, BookHasRoom};
+ghost use Rattle.period_order.specs.Resolved.{entries_of_accounts, entries_of_books};
 
 use ocpi_types::Config;
 use operator_book::Book;

@@ -5,9 +5,8 @@ ghost use Rattle.netting_positions.specs.Netting.{net_positions, parties};
 ghost use Rattle.netting_positions.specs.Statement.{statement_rows};
 ghost use Rattle.period_order.specs.Dues.{CanBeCollected, collected, dues};
 ghost use Rattle.period_order.specs.Inner.Collected.{IsScopeOf, IsTableFor, reply_with};
-ghost use Rattle.period_order.specs.Inner.Kept.{entries_of_books};
+ghost use Rattle.period_order.specs.Resolved.{entries_of_books};
 
-use super::collectable::parts_are_distinct;
 use super::table::Table;
 use crate::decided::Outcome;
 use crate::laws::collected_owes_alike;
@@ -29,7 +28,7 @@ fn collect<T: ObligationTable>(config: &Config, books: &[Book], period: u64, tab
     ensures obligations { T.obligations table.new ≡ collected config.now period (entries_of_books books.now) }
 {
     sums_are_no_larger();
-    parts_are_distinct(config);
+    config.has_distinct_parts();
     let mut operators = config.operators.as_slice();
     let mut rest = books;
     while let Some((operator, others)) = operators.split_first() {
@@ -55,7 +54,7 @@ fn netted(
 {
     sums_decide_net_positions();
     collected_owes_alike();
-    parts_are_distinct(config);
+    config.has_distinct_parts();
     collect(config, books, period, &mut positions);
     positions.into_list()
 }
@@ -75,7 +74,7 @@ fn stated(
 {
     sums_decide_statements();
     collected_owes_alike();
-    parts_are_distinct(config);
+    config.has_distinct_parts();
     collect(config, books, period, &mut table);
     table.into_rows()
 }

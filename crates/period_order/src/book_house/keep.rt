@@ -6,10 +6,10 @@ ghost use Rattle.plain_house.specs.Entries.{account_entry, book_entry};
 ghost use Rattle.period_order.specs.Decided.{event_of};
 ghost use Rattle.period_order.specs.Inner.Collected.{IsReached, without_event};
 ghost use Rattle.period_order.specs.Kept.{account_number, book_number, with_added};
-ghost use Rattle.period_order.specs.Inner.Kept.{AccountHasRoom, AccountTakesAt, BookHasRoom, BookTakesAt, IsKept, entries_of_accounts, entries_of_books, kept_events, with_event_added};
+ghost use Rattle.period_order.specs.Inner.Kept.{AccountHasRoom, AccountTakesAt, BookHasRoom, BookTakesAt, IsKept, kept_events, with_event_added};
+ghost use Rattle.period_order.specs.Resolved.{entries_of_accounts, entries_of_books};
 
 use super::books::{account_at, book_at, reserve_account, reserve_book};
-use super::collectable::parts_are_distinct;
 use crate::decided::{Decided, Outcome};
 use crate::decision::decide;
 use crate::laws::orders_are_resolved;
@@ -144,7 +144,7 @@ pub fn keep(
     entries_are_dated();
     events_are_of_their_command();
     verdicts_are_of_own_entries();
-    parts_are_distinct(config);
+    config.has_distinct_parts();
     let book = book_number(config, &command);
     let account = account_number(config, &command);
     reserve(books, book, accounts, account, order)?;

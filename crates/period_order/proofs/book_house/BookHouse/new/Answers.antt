@@ -1,8 +1,8 @@
 use Rattle.std.proofs.Common.{◌≡◌, [], ap, sym, subst}
 use Rattle.period_order.specs.Kept.{Keeps}
-use Rattle.period_order.specs.Inner.Kept.{entries_of_accounts, entries_of_books, kept_events}
+use Rattle.period_order.specs.Inner.Kept.{kept_events}
 use Rattle.period_order.specs.Order.{PlainOrder}
-use Rattle.period_order.specs.Resolved.{resolved}
+use Rattle.period_order.specs.Resolved.{entries_of_accounts, entries_of_books, resolved}
 use Rattle.period_order.proofs.book_house.BookHouse.new.Goals as goal
 
 pub invariant_of-result : goal.invariant_of-result

@@ -1,5 +1,5 @@
 use Rattle.std.proofs.Common.{◌≡◌, [], map, take}
-use Rattle.period_order.specs.Inner.Kept.{entries_of_books}
+use Rattle.period_order.specs.Resolved.{entries_of_books}
 use Rattle.period_order.proofs.book_house.books.books.Given as goal
 
 abbrev pub invariant-loop-operator : goal.invariant-loop-operator

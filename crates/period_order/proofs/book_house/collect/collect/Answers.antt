@@ -1,5 +1,5 @@
 use Rattle.std.proofs.Common.{◌∙◌}
-use Rattle.period_order.specs.Inner.Kept.{entries_of_books}
+use Rattle.period_order.specs.Resolved.{entries_of_books}
 use Rattle.period_order.proofs.CollectingLemmas.{at_first, one_collected}
 use Rattle.period_order.proofs.book_house.collect.collect.Goals as goal
 
@@ -15,5 +15,5 @@ loop-operator-preserved g c =
     record {
       scope = c.period_sums.ensures.scope ∙ c.loop-operator.invariant.scope;
       collecting = one_collected config period found operator c.in-Some.others.now book.entries (entries_of_books later) _ before _ c.period_sums.ensures.obligations
-          (c.sums_are_no_larger.ensures config operator.party period book.entries c.parts_are_distinct.ensures.currencies c.parts_are_distinct.ensures.providers);
+          (c.sums_are_no_larger.ensures config operator.party period book.entries c.has_distinct_parts.ensures.currencies c.has_distinct_parts.ensures.providers);
     }

@@ -1,6 +1,6 @@
 use Rattle.std.proofs.Common.{◌≡◌, length}
 use Rattle.period_order.specs.Inner.Collected.{IsCollecting}
-use Rattle.period_order.specs.Inner.Kept.{entries_of_books}
+use Rattle.period_order.specs.Resolved.{entries_of_books}
 use Rattle.period_order.proofs.book_house.collect.collect.Given as goal
 
 abbrev pub invariant-loop-operator : goal.invariant-loop-operator

@@ -9,4 +9,4 @@ returns c =
     let config = c.args.config.now in
     let events = kept_events c.args.books.now c.args.accounts.now c.args.order.now in
     subst (λ (books : List (List BookEntry)). AreCollectable config books events) (sym c.requires.books_are)
-    (c.books_are_collectable.ensures config events c.is_bounded.ensures.operators c.is_bounded.ensures.cdrs c.parts_are_distinct.ensures.operators c.requires.legal)
+    (c.books_are_collectable.ensures config events c.is_bounded.ensures.operators c.is_bounded.ensures.cdrs c.has_distinct_parts.ensures.operators c.requires.legal)

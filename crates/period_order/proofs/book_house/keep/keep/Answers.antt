@@ -5,7 +5,8 @@ use Rattle.plain_house.specs.Replies.{with_event}
 use Rattle.period_order.specs.Decided.{Decides, event_of}
 use Rattle.period_order.specs.Kept.{Keeps, account_number, book_number}
 use Rattle.period_order.specs.Order.{current_of}
-use Rattle.period_order.specs.Inner.Kept.{entries_of_accounts, entries_of_books, kept_events, with_event_added}
+use Rattle.period_order.specs.Inner.Kept.{kept_events, with_event_added}
+use Rattle.period_order.specs.Resolved.{entries_of_accounts, entries_of_books}
 use Rattle.period_order.proofs.PerformLemmas.{account_within, book_within, is_given_account, decides_given, is_given_book, keeps_put, kept_is, kept_still, ordered_given, some_copied}
 use Rattle.period_order.proofs.ReachedLemmas.{reached}
 use Rattle.period_order.proofs.book_house.keep.keep.Goals as goal
@@ -88,7 +89,7 @@ after c =
     ∙ ap₂ (λ (o : Option ℕ) n. with_event_added (entries_of_accounts accounts) o (λ e. account_entry e n) c.parted-outcome.result.1) c.account_number-account.ensures c.decide-point.ensures.period
     ∙ ap (with_event_added (entries_of_accounts accounts) (account_number config told) (λ e. account_entry e (current_of order))) c.parted-outcome.ensures.event in
     keeps_put config books accounts order _ (before c) told parties reached (decides c) c.verdicts_are_of_own_entries.ensures _ _ _
-    c.events_are_of_their_command.ensures c.commands_keep_lists_legal.ensures c.requires.admitted c.parts_are_distinct.ensures.operators c.parts_are_distinct.ensures.providers now_books now_accounts ordered
+    c.events_are_of_their_command.ensures c.commands_keep_lists_legal.ensures c.requires.admitted c.has_distinct_parts.ensures.operators c.has_distinct_parts.ensures.providers now_books now_accounts ordered
 
 now_is : (c : After-put) → kept_events c.put.new.books.items c.put.new.accounts.items c.decide-point.new.order
     ≡ with_event (kept_events c.args.books.now.items c.args.accounts.now.items c.args.order.now) (event_of c.decide-point.result.outcome)

@@ -1,7 +1,8 @@
 use Rattle.std.proofs.Common.{◌≡◌, ◌<◌, ℕ, Option, IfSome, length, sym, subst, slice_set}
 use Rattle.plain_house.specs.Entries.{account_entry}
 use Rattle.period_order.specs.Kept.{with_added}
-use Rattle.period_order.specs.Inner.Kept.{AccountHasRoom, AccountTakesAt, entries_of_accounts}
+use Rattle.period_order.specs.Inner.Kept.{AccountHasRoom, AccountTakesAt}
+use Rattle.period_order.specs.Resolved.{entries_of_accounts}
 use Rattle.period_order.proofs.KeptLemmas.{borrowed, longer}
 use Rattle.period_order.proofs.book_house.keep.put_in_accounts.Goals as goal
 
