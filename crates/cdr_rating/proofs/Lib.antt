@@ -1,3 +1,4 @@
+pub mod FoldedCdrs
 pub mod Prices
 pub mod Rounding
 pub mod SamePrices

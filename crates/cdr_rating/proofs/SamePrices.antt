@@ -6,7 +6,7 @@ use Rattle.std.proofs.lemmas.List.Sums.{sum_by-cons}
 use Rattle.std.proofs.lemmas.Str.Ascii.{lowercase-lowercase}
 use Rattle.jiff.specs.Types.{TimeZone as PlainZone}
 use Rattle.ocpi_json.specs.Folded.{folded, same_folded}
-use Rattle.ocpi_types.specs.SameCdr.{SameCdrsAreEqualFolded, folded_cdr, folded_period}
+use Rattle.ocpi_types.specs.SameCdr.{SameCdrsAreEqualFolded, folded_period}
 use Rattle.ocpi_types.specs.SameTariff.{folded_tariff}
 use Rattle.ocpi_types.specs.declared.cdr.Cdr.{Cdr}
 use Rattle.ocpi_types.specs.declared.charging_period.ChargingPeriod.{ChargingPeriod}
@@ -17,6 +17,7 @@ use Rattle.tariff_elements.specs.Active.{active}
 use Rattle.cdr_rating.specs.Law.{SameCdrsCostTheSame}
 use Rattle.cdr_rating.specs.Price.{bounded, first_tariff, flat_cost, price, sum_of}
 use Rattle.cdr_rating.specs.Pricing.{active_after, lacks_its_tariff, lacks_tariff, moment_after, priced_at, priced_volumes, tariff_of}
+use Rattle.cdr_rating.proofs.FoldedCdrs.{equal_folded, folded_cdr}
 use Rattle.cdr_rating.specs.Volumes.{energy_of, volume_in, with_earlier}
 
 -- ---- in general
@@ -142,4 +143,4 @@ module _ (cdr : Cdr) where
 
 pub cost_the_same : SameCdrsAreEqualFolded → SameCdrsCostTheSame
 cost_the_same law a b zone same =
-    sym (folded_costs_the_same a zone) ∙ ap (λ (cdr : Cdr). price cdr zone) ((law a b).0 same) ∙ folded_costs_the_same b zone
+    sym (folded_costs_the_same a zone) ∙ ap (λ (cdr : Cdr). price cdr zone) (equal_folded a b ((law a b).0 same)) ∙ folded_costs_the_same b zone

@@ -2,7 +2,7 @@
 use Rattle.std.specs.Prelude.{ℕ, List, [], ◌∷◌, codes, map}
 use Rattle.exact_money.specs.Amount.{amount_text}
 use Rattle.ocpi_types.specs.Party.{party_text}
-use Rattle.netting_positions.specs.Statement.{in_capitals}
+use Rattle.netting_positions.specs.StatementKeys.{in_capitals}
 use Rattle.netting_positions.specs.declared.row.StatementRow.{StatementRow}
 use Rattle.house_statements.specs.Table.{table_text}
 

@@ -11,7 +11,7 @@ use Rattle.std.proofs.lemmas.Str.Ascii.{IsAscii-nil, IsAscii-cons, lowercase-upp
 use Rattle.ocpi_json.specs.Folded.{folded, is_printable, same_folded}
 use Rattle.ocpi_types.specs.declared.party.Party.{Party}
 use Rattle.ocpi_types.specs.Party.{same_party}
-use Rattle.netting_positions.specs.Statement.{capitals, in_capitals}
+use Rattle.netting_positions.specs.StatementKeys.{capitals, in_capitals}
 
 below_128 : (byte : ℕ) (rest : List ℕ) → is_printable (byte ∷ rest) ≡ true → byte < 128
 below_128 byte rest h = grind (arith, nat_tests)

@@ -13,7 +13,8 @@ use Rattle.ocpi_json.specs.Folded.{folded}
 use Rattle.ocpi_types.specs.Currency.{same_currency}
 use Rattle.ocpi_types.specs.Party.{same_party}
 use Rattle.netting_positions.specs.declared.row.Key.{Key}
-use Rattle.netting_positions.specs.Statement.{in_order, inserted, key_order, placed}
+use Rattle.netting_positions.specs.Inner.KeysInOrder.{in_order, inserted, placed}
+use Rattle.netting_positions.specs.StatementKeys.{key_order}
 
 pub key_order_total : IsTotalOrder key_order
 unfolding key_order

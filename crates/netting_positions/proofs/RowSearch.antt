@@ -10,7 +10,7 @@ use Rattle.ocpi_types.specs.declared.party.Party.{Party}
 use Rattle.netting_positions.specs.declared.obligation.Obligation.{Obligation}
 use Rattle.netting_positions.specs.declared.row.Key.{Key}
 use Rattle.netting_positions.specs.declared.row.StatementRow.{StatementRow}
-use Rattle.netting_positions.specs.Statement.{key_order}
+use Rattle.netting_positions.specs.StatementKeys.{key_order}
 use Rattle.netting_positions.specs.Inner.StatedRows.{row_key, row_with, rows_with, rows_with_at, zero_row}
 use Rattle.netting_positions.proofs.KeyOrder.{key_order_total}
 

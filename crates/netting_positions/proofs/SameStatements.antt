@@ -19,7 +19,9 @@ use Rattle.netting_positions.specs.declared.obligation.Obligation.{Obligation}
 use Rattle.netting_positions.specs.declared.row.Key.{Key}
 use Rattle.netting_positions.specs.declared.row.StatementRow.{StatementRow}
 use Rattle.netting_positions.specs.SameSums.{OweAlike, SumsDecideStatements, is_any_between, is_between}
-use Rattle.netting_positions.specs.Statement.{capitals, in_capitals, inserted, is_payable_of, is_receivable_of, key_of, key_order, keys_of, payable_of, placed, receivable_of, row_of}
+use Rattle.netting_positions.specs.Inner.KeysInOrder.{inserted, placed}
+use Rattle.netting_positions.specs.Statement.{is_payable_of, is_receivable_of, keys_of, payable_of, receivable_of, row_of}
+use Rattle.netting_positions.specs.StatementKeys.{capitals, in_capitals, key_of, key_order}
 use Rattle.netting_positions.proofs.KeyOrder.{any_in_order, below, key_order_total, sorted_keys, tie_back, tie_is, tied_with}
 use Rattle.netting_positions.proofs.NetFound.{sum_agree}
 use Rattle.netting_positions.proofs.SameParties.{both_are, currency_is}

@@ -17,7 +17,8 @@ use Rattle.netting_positions.specs.declared.positions.NetPosition.{NetPosition}
 use Rattle.netting_positions.specs.declared.row.Key.{Key}
 use Rattle.netting_positions.specs.Laws.{StatementsAreInOrder, StatementsAreShort}
 use Rattle.netting_positions.specs.Netting.{is_among, is_configured, net_positions, position}
-use Rattle.netting_positions.specs.Statement.{in_capitals, key_of, key_order, keys_of, row_of}
+use Rattle.netting_positions.specs.Statement.{keys_of, row_of}
+use Rattle.netting_positions.specs.StatementKeys.{in_capitals, key_of, key_order}
 use Rattle.netting_positions.proofs.Capitals.{same_in_capitals}
 use Rattle.netting_positions.proofs.DifferentLemmas.{both_hold}
 use Rattle.netting_positions.proofs.KeyOrder.{any_in_order, key_order_total, sorted_keys, tie_back, tie_is, tied_with}

@@ -17,7 +17,9 @@ use Rattle.netting_positions.specs.declared.obligation.Obligation.{Obligation}
 use Rattle.netting_positions.specs.declared.row.Key.{Key}
 use Rattle.netting_positions.specs.declared.row.StatementRow.{StatementRow}
 use Rattle.netting_positions.specs.Netting.{is_configured, is_payable, is_receivable, size, total_size}
-use Rattle.netting_positions.specs.Statement.{in_capitals, in_order, inserted, is_payable_of, is_receivable_of, key_of, key_order, keys_of, payable_of, placed, receivable_of, row_of, statement_rows}
+use Rattle.netting_positions.specs.Inner.KeysInOrder.{in_order, inserted, placed}
+use Rattle.netting_positions.specs.Statement.{is_payable_of, is_receivable_of, keys_of, payable_of, receivable_of, row_of, statement_rows}
+use Rattle.netting_positions.specs.StatementKeys.{in_capitals, key_of, key_order}
 use Rattle.netting_positions.specs.Laws.{StatementsAreShort}
 use Rattle.netting_positions.specs.Inner.Rows.{counted}
 use Rattle.netting_positions.specs.Inner.StatedRows.{HasRoomIn, IsStated, row_key, row_with, rows_with, rows_with_at, zero_row}

@@ -8,7 +8,8 @@ use Rattle.ocpi_types.specs.Party.{same_party}
 use Rattle.ocpi_types.specs.declared.config.Config.{Config}
 use Rattle.ocpi_types.specs.declared.party.Party.{Party}
 use Rattle.netting_positions.specs.Netting.{IsBalanced, are_among, is_among, is_configured, net_position, net_positions, parties, total}
-use Rattle.netting_positions.specs.Statement.{key_of, key_order, keys_of, same_key, statement_rows}
+use Rattle.netting_positions.specs.Statement.{keys_of, statement_rows}
+use Rattle.netting_positions.specs.StatementKeys.{key_of, key_order, same_key}
 use Rattle.netting_positions.specs.declared.row.Key.{Key}
 use Rattle.netting_positions.specs.declared.obligation.Obligation.{Obligation}
 

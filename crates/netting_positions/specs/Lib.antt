@@ -4,3 +4,4 @@ pub mod Netting
 pub mod SameSums
 pub mod State
 pub mod Statement
+pub mod StatementKeys

@@ -2,7 +2,7 @@
 
 ghost use Rattle.std.specs.Prelude.{◌≡◌, length};
 ghost use Rattle.std.specs.List.Sorted.{IsBinarySearchResult, IsSearchInRange};
-ghost use Rattle.netting_positions.specs.Statement.{capitals, in_capitals, key_of, key_order};
+ghost use Rattle.netting_positions.specs.StatementKeys.{capitals, in_capitals, key_of, key_order};
 ghost use Rattle.netting_positions.specs.Inner.StatedRows.{HasRoomIn, row_key, row_with, zero_row};
 
 use super::obligation::Obligation;
@@ -53,7 +53,7 @@ fn in_capitals(party: &Party) -> Party
 }
 
 /// The key of an obligation of the party.
-#[tactic(auto, unfolding(crate::specs::Statement::key_of))]
+#[tactic(auto, unfolding(crate::specs::StatementKeys::key_of))]
 pub(crate) fn key_of(party: &Party, obligation: &Obligation) -> Option<Key>
     ensures { result ≡ key_of party.now obligation.now }
 {
@@ -72,7 +72,7 @@ pub(crate) fn key_of(party: &Party, obligation: &Obligation) -> Option<Key>
     }
 }
 
-#[tactic(auto, unfolding(crate::specs::Statement::key_order))]
+#[tactic(auto, unfolding(crate::specs::StatementKeys::key_order))]
 fn key_order(row: &StatementRow, key: &Key) -> Ordering
     ensures { result ≡ key_order (row_key row.now) key.now }
 {

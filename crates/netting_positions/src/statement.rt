@@ -4,7 +4,7 @@ ghost use Rattle.std.specs.Prelude.{◌≡◌, ◌≤◌, ◌<◌, ◌^◌, leng
 ghost use Rattle.std.specs.List.{All};
 ghost use Rattle.std.specs.List.Sorted.{IsStrictlySortedBy};
 ghost use Rattle.netting_positions.specs.Netting.{size};
-ghost use Rattle.netting_positions.specs.Statement.{key_order};
+ghost use Rattle.netting_positions.specs.StatementKeys.{key_order};
 ghost use Rattle.netting_positions.specs.Inner.StatedRows.{HasRoomIn, row_key, rows_with};
 
 use super::history::History;

@@ -1,5 +1,5 @@
 -- Reading members in groups is reading them one after another.
-use Rattle.std.proofs.Common.{◌≡◌, ℕ, List, Result, Ok, Err, refl}
+use Rattle.std.proofs.Common.{◌≡◌, ℕ, List, Result, Ok, Err, refl, ◌∙◌}
 use Rattle.std.specs.Prelude.{unwrap_or}
 use Rattle.json.specs.Json.{Json as Data}
 use Rattle.ocpi_json.specs.Fields.{required, optional, as_ci_text, as_number, as_parsed, as_text, as_whole}
@@ -7,23 +7,24 @@ use Rattle.ocpi_json.specs.Members.{◌>>=◌}
 use Rattle.ocpi_json.specs.MomentText.{instant_of, date_of, clock_of}
 use Rattle.ocpi_json.specs.declared.name.Name.{Name}
 use Rattle.ocpi_json.specs.declared.name.Name.TheVariants as name
-use Rattle.ocpi_types.specs.Cdr.{members_at, session_token_at, tariffs_at, periods_at, cost_at, credit_at}
+use Rattle.ocpi_types.specs.Cdr.{cdr_at, session_token_at, tariffs_at, periods_at, cost_at, credit_at}
 use Rattle.ocpi_types.specs.CdrToken.{method_of}
-use Rattle.ocpi_types.specs.ConfigText.{config_at, known_at, platforms_at, house_limits_at, pair_limits_at, credit_window_at}
+use Rattle.ocpi_types.specs.ConfigText.{config_at, listed_at, platforms_at, house_limits_at, pair_limits_at, credit_window_at}
 use Rattle.ocpi_types.specs.Currency.{currency_of}
-use Rattle.ocpi_types.specs.Inner.CdrParts.{opening_at, authorised_at, totals_at, cdr_in_parts}
+use Rattle.ocpi_types.specs.Inner.CdrParts.{opening_at, authorised_at, totals_at, parts_at, cdr_of, cdr_in_parts}
 use Rattle.ocpi_types.specs.Inner.ConfigStated.{config_from, stated_at, config_in_parts}
 use Rattle.ocpi_types.specs.Inner.RestrictionParts.{times_at, bounds_at, restrictions_in_parts}
 use Rattle.ocpi_types.specs.Members.{as_quantity}
 use Rattle.ocpi_types.specs.Party.{party_at}
 use Rattle.ocpi_types.specs.Restrictions.{restrictions_at, as_seconds, days_at, electric_bounds_at}
-use Rattle.ocpi_types.specs.declared.cdr.Authorised.{Authorised}
+use Rattle.ocpi_types.specs.declared.cdr.reading.Authorised.{Authorised}
 use Rattle.ocpi_types.specs.declared.cdr.Cdr.{Cdr}
-use Rattle.ocpi_types.specs.declared.cdr.Opening.{Opening}
-use Rattle.ocpi_types.specs.declared.cdr.Totals.{Totals}
+use Rattle.ocpi_types.specs.declared.cdr.reading.Opening.{Opening}
+use Rattle.ocpi_types.specs.declared.cdr.reading.Parts.{Parts}
+use Rattle.ocpi_types.specs.declared.cdr.reading.Totals.{Totals}
 use Rattle.ocpi_types.specs.declared.charging_period.ChargingPeriod.{ChargingPeriod}
 use Rattle.ocpi_types.specs.declared.config.Config.{Config}
-use Rattle.ocpi_types.specs.declared.config.parts.Known.{Known}
+use Rattle.ocpi_types.specs.declared.config.parts.Listed.{Listed}
 use Rattle.ocpi_types.specs.declared.restrictions.Bounds.{Bounds}
 use Rattle.ocpi_types.specs.declared.restrictions.Restrictions.{Restrictions}
 use Rattle.ocpi_types.specs.declared.restrictions.Times.{Times}
@@ -41,17 +42,18 @@ four (Ok x) (Ok y) (Err n) d join flat rest h = refl
 four (Ok x) (Ok y) (Ok z) (Err n) join flat rest h = refl
 four (Ok x) (Ok y) (Ok z) (Ok w) join flat rest h = h x y z w
 
--- five members as the last group
+-- five members as a group, and what comes behind them
 five : {A B C D E P R : Type 0} (a : Result A Name) (b : Result B Name) (c : Result C Name) (d : Result D Name) (e : Result E Name)
-    (join : A → B → C → D → E → P) (whole : P → R)
-    → a >>= (λ x. b >>= (λ y. c >>= (λ z. d >>= (λ w. e >>= (λ v. Ok (whole (join x y z w v)))))))
-    ≡ (a >>= (λ x. b >>= (λ y. c >>= (λ z. d >>= (λ w. e >>= (λ v. Ok (join x y z w v))))))) >>= (λ p. Ok (whole p))
-five (Err n) b c d e join whole = refl
-five (Ok x) (Err n) c d e join whole = refl
-five (Ok x) (Ok y) (Err n) d e join whole = refl
-five (Ok x) (Ok y) (Ok z) (Err n) e join whole = refl
-five (Ok x) (Ok y) (Ok z) (Ok w) (Err n) join whole = refl
-five (Ok x) (Ok y) (Ok z) (Ok w) (Ok v) join whole = refl
+    (join : A → B → C → D → E → P) (flat : A → B → C → D → E → Result R Name) (rest : P → Result R Name)
+    → ((x : A) (y : B) (z : C) (w : D) (v : E) → flat x y z w v ≡ rest (join x y z w v))
+    → a >>= (λ x. b >>= (λ y. c >>= (λ z. d >>= (λ w. e >>= (λ v. flat x y z w v)))))
+    ≡ (a >>= (λ x. b >>= (λ y. c >>= (λ z. d >>= (λ w. e >>= (λ v. Ok (join x y z w v))))))) >>= rest
+five (Err n) b c d e join flat rest h = refl
+five (Ok x) (Err n) c d e join flat rest h = refl
+five (Ok x) (Ok y) (Err n) d e join flat rest h = refl
+five (Ok x) (Ok y) (Ok z) (Err n) e join flat rest h = refl
+five (Ok x) (Ok y) (Ok z) (Ok w) (Err n) join flat rest h = refl
+five (Ok x) (Ok y) (Ok z) (Ok w) (Ok v) join flat rest h = h x y z w v
 
 -- what comes behind a value may be read in another way
 behind : {A R : Type 0} (a : Result A Name) (flat rest : A → Result R Name) → ((x : A) → flat x ≡ rest x) → a >>= flat ≡ a >>= rest
@@ -107,24 +109,9 @@ restrictions node =
 
 -- ---- CDRs
 
-abbrev cdr_of : Opening → Authorised → List Tariff → List ChargingPeriod → Totals → Cdr
-cdr_of opening authorised tariffs charging_periods totals = record {
-  operator = opening.operator;
-  id = opening.id;
-  start_date_time = opening.start_date_time;
-  end_date_time = opening.end_date_time;
-  cdr_token = authorised.cdr_token;
-  auth_method = authorised.auth_method;
-  authorization_reference = authorised.authorization_reference;
-  currency = authorised.currency;
-  tariffs = tariffs;
-  charging_periods = charging_periods;
-  total_cost = totals.total_cost;
-  total_energy = totals.total_energy;
-  total_time = totals.total_time;
-  credit = totals.credit;
-  last_updated = totals.last_updated;
-}
+abbrev parts : Opening → Authorised → List Tariff → List ChargingPeriod → Totals → Parts
+parts opening authorised tariffs charging_periods totals =
+    record { opening = opening; authorised = authorised; tariffs = tariffs; charging_periods = charging_periods; totals = totals }
 
 abbrev totals_then : Opening → Authorised → List Tariff → List ChargingPeriod → Data → Result Cdr Name
 totals_then opening authorised tariffs charging_periods node = do
@@ -133,15 +120,17 @@ totals_then opening authorised tariffs charging_periods node = do
   total_time ← required as_number name.TotalTime node
   credit ← credit_at node
   last_updated ← required (as_parsed instant_of) name.LastUpdated node
-  Ok (cdr_of opening authorised tariffs charging_periods (record { total_cost = total_cost; total_energy = total_energy; total_time = total_time; credit = credit; last_updated = last_updated }))
+  cdr_of (parts opening authorised tariffs charging_periods (record { total_cost = total_cost; total_energy = total_energy; total_time = total_time; credit = credit; last_updated = last_updated }))
 
 totals_last : (opening : Opening) (authorised : Authorised) (tariffs : List Tariff) (periods : List ChargingPeriod) (node : Data) →
-    totals_then opening authorised tariffs periods node ≡ totals_at node >>= (λ totals. Ok (cdr_of opening authorised tariffs periods totals))
+    totals_then opening authorised tariffs periods node ≡ totals_at node >>= (λ totals. cdr_of (parts opening authorised tariffs periods totals))
 unfolding totals_at
 totals_last opening authorised tariffs periods node =
     five (cost_at node) (required as_number name.TotalEnergy node) (required as_number name.TotalTime node) (credit_at node) (required (as_parsed instant_of) name.LastUpdated node)
     (λ a b c d e. record { total_cost = a; total_energy = b; total_time = c; credit = d; last_updated = e })
-    (λ totals. cdr_of opening authorised tariffs periods totals)
+    (λ a b c d e. cdr_of (parts opening authorised tariffs periods (record { total_cost = a; total_energy = b; total_time = c; credit = d; last_updated = e })))
+    (λ totals. cdr_of (parts opening authorised tariffs periods totals))
+    (λ a b c d e. refl)
 
 abbrev lists_then : Opening → Authorised → Data → Result Cdr Name
 lists_then opening authorised node = do
@@ -154,16 +143,16 @@ lists_and_totals opening authorised node = do
   tariffs ← tariffs_at node
   charging_periods ← periods_at node
   totals ← totals_at node
-  Ok (cdr_of opening authorised tariffs charging_periods totals)
+  cdr_of (parts opening authorised tariffs charging_periods totals)
 
 lists_first : (opening : Opening) (authorised : Authorised) (node : Data) → lists_then opening authorised node ≡ lists_and_totals opening authorised node
 lists_first opening authorised node =
     behind (tariffs_at node)
     (λ tariffs. periods_at node >>= (λ periods. totals_then opening authorised tariffs periods node))
-    (λ tariffs. periods_at node >>= (λ periods. totals_at node >>= (λ totals. Ok (cdr_of opening authorised tariffs periods totals))))
+    (λ tariffs. periods_at node >>= (λ periods. totals_at node >>= (λ totals. cdr_of (parts opening authorised tariffs periods totals))))
     (λ tariffs. behind (periods_at node)
     (λ periods. totals_then opening authorised tariffs periods node)
-    (λ periods. totals_at node >>= (λ totals. Ok (cdr_of opening authorised tariffs periods totals)))
+    (λ periods. totals_at node >>= (λ totals. cdr_of (parts opening authorised tariffs periods totals)))
     (λ periods. totals_last opening authorised tariffs periods node))
 
 abbrev authorised_then : Opening → Data → Result Cdr Name
@@ -183,46 +172,54 @@ authorised_first opening node =
     (λ authorised. lists_and_totals opening authorised node)
     (λ a b c d. lists_first opening (record { cdr_token = a; auth_method = b; authorization_reference = c; currency = d }) node)
 
-pub cdr : (node : Data) → members_at node ≡ cdr_in_parts node
-unfolding members_at cdr_in_parts opening_at
-cdr node =
+in_groups : (node : Data) → cdr_at node ≡ opening_at node >>= (λ opening. authorised_at node >>= (λ authorised. lists_and_totals opening authorised node))
+unfolding cdr_at opening_at
+in_groups node =
     four (party_at node) (required (as_ci_text 39) name.Id node) (required (as_parsed instant_of) name.StartDateTime node) (required (as_parsed instant_of) name.EndDateTime node)
     (λ a b c d. record { operator = a; id = b; start_date_time = c; end_date_time = d })
     (λ a b c d. authorised_then (record { operator = a; id = b; start_date_time = c; end_date_time = d }) node)
     (λ opening. authorised_at node >>= (λ authorised. lists_and_totals opening authorised node))
     (λ a b c d. authorised_first (record { operator = a; id = b; start_date_time = c; end_date_time = d }) node)
 
+pub cdr : (node : Data) → cdr_at node ≡ cdr_in_parts node
+unfolding cdr_in_parts parts_at
+cdr node =
+    in_groups node ∙
+    (five (opening_at node) (authorised_at node) (tariffs_at node) (periods_at node) (totals_at node) parts
+    (λ opening authorised tariffs periods totals. cdr_of (parts opening authorised tariffs periods totals)) cdr_of
+    (λ opening authorised tariffs periods totals. refl))
+
 -- ---- configurations
 
-stated_last : (version tolerance : ℕ) (known : Known) (node : Data) →
-    platforms_at known node >>= (λ a. house_limits_at node >>= (λ b. pair_limits_at version known node >>= (λ c. credit_window_at version node >>= (λ d. Ok (config_from tolerance known (record { platforms = a; limits = b; pair_limits = c; credit_window = d }))))))
-    ≡ stated_at version known node >>= (λ stated. Ok (config_from tolerance known stated))
+stated_last : (version tolerance : ℕ) (listed : Listed) (node : Data) →
+    platforms_at listed node >>= (λ a. house_limits_at node >>= (λ b. pair_limits_at version listed node >>= (λ c. credit_window_at version node >>= (λ d. Ok (config_from tolerance listed (record { platforms = a; limits = b; pair_limits = c; credit_window = d }))))))
+    ≡ stated_at version listed node >>= (λ stated. Ok (config_from tolerance listed stated))
 unfolding stated_at
-stated_last version tolerance known node =
-    four (platforms_at known node) (house_limits_at node) (pair_limits_at version known node) (credit_window_at version node)
+stated_last version tolerance listed node =
+    four (platforms_at listed node) (house_limits_at node) (pair_limits_at version listed node) (credit_window_at version node)
     (λ a b c d. record { platforms = a; limits = b; pair_limits = c; credit_window = d })
-    (λ a b c d. Ok (config_from tolerance known (record { platforms = a; limits = b; pair_limits = c; credit_window = d })))
-    (λ stated. Ok (config_from tolerance known stated))
+    (λ a b c d. Ok (config_from tolerance listed (record { platforms = a; limits = b; pair_limits = c; credit_window = d })))
+    (λ stated. Ok (config_from tolerance listed stated))
     (λ a b c d. refl)
 
-abbrev stated_then : ℕ → ℕ → Known → Data → Result Config Name
-stated_then version tolerance known node = do
-  platforms ← platforms_at known node
+abbrev stated_then : ℕ → ℕ → Listed → Data → Result Config Name
+stated_then version tolerance listed node = do
+  platforms ← platforms_at listed node
   limits ← house_limits_at node
-  pair_limits ← pair_limits_at version known node
+  pair_limits ← pair_limits_at version listed node
   credit_window ← credit_window_at version node
-  Ok (config_from tolerance known (record { platforms = platforms; limits = limits; pair_limits = pair_limits; credit_window = credit_window }))
+  Ok (config_from tolerance listed (record { platforms = platforms; limits = limits; pair_limits = pair_limits; credit_window = credit_window }))
 
 pub config : (node : Data) → config_at node ≡ config_in_parts node
 unfolding config_at config_in_parts
 config node =
     behind (required (as_whole 1 2) name.Version node)
-    (λ version. optional (as_whole 0 1_000_000_000_000) name.Tolerance node >>= (λ tolerance. known_at node >>= (λ known. stated_then version (unwrap_or tolerance 100) known node)))
-    (λ version. optional (as_whole 0 1_000_000_000_000) name.Tolerance node >>= (λ tolerance. known_at node >>= (λ known. stated_at version known node >>= (λ stated. Ok (config_from (unwrap_or tolerance 100) known stated)))))
+    (λ version. optional (as_whole 0 1_000_000_000_000) name.Tolerance node >>= (λ tolerance. listed_at node >>= (λ listed. stated_then version (unwrap_or tolerance 100) listed node)))
+    (λ version. optional (as_whole 0 1_000_000_000_000) name.Tolerance node >>= (λ tolerance. listed_at node >>= (λ listed. stated_at version listed node >>= (λ stated. Ok (config_from (unwrap_or tolerance 100) listed stated)))))
     (λ version. behind (optional (as_whole 0 1_000_000_000_000) name.Tolerance node)
-    (λ tolerance. known_at node >>= (λ known. stated_then version (unwrap_or tolerance 100) known node))
-    (λ tolerance. known_at node >>= (λ known. stated_at version known node >>= (λ stated. Ok (config_from (unwrap_or tolerance 100) known stated))))
-    (λ tolerance. behind (known_at node)
-    (λ known. stated_then version (unwrap_or tolerance 100) known node)
-    (λ known. stated_at version known node >>= (λ stated. Ok (config_from (unwrap_or tolerance 100) known stated)))
-    (λ known. stated_last version (unwrap_or tolerance 100) known node)))
+    (λ tolerance. listed_at node >>= (λ listed. stated_then version (unwrap_or tolerance 100) listed node))
+    (λ tolerance. listed_at node >>= (λ listed. stated_at version listed node >>= (λ stated. Ok (config_from (unwrap_or tolerance 100) listed stated))))
+    (λ tolerance. behind (listed_at node)
+    (λ listed. stated_then version (unwrap_or tolerance 100) listed node)
+    (λ listed. stated_at version listed node >>= (λ stated. Ok (config_from (unwrap_or tolerance 100) listed stated)))
+    (λ listed. stated_last version (unwrap_or tolerance 100) listed node)))

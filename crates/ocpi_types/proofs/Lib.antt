@@ -7,3 +7,4 @@ pub mod Quantities
 pub mod SameCdrs
 pub mod SameTariffs
 pub mod Zones
+mod TestedMembers

@@ -11,7 +11,7 @@ use Rattle.ocpi_json.specs.Folded.{folded, same_folded}
 use Rattle.ocpi_types.specs.CdrToken.{same_method}
 use Rattle.ocpi_types.specs.Dimension.{same_dimension_kind}
 use Rattle.ocpi_types.specs.Inner.SameCdr.{same_cdr_token, same_dimension, same_period, same_cdr}
-use Rattle.ocpi_types.specs.SameCdr.{folded_cdr_token, folded_period, folded_cdr}
+use Rattle.ocpi_types.specs.SameCdr.{AreEqualFolded, folded_cdr_token, folded_period}
 use Rattle.ocpi_types.specs.SameTariff.{same_tariff, folded_tariff}
 use Rattle.ocpi_types.specs.TokenKind.{same_token_kind}
 use Rattle.ocpi_types.specs.declared.cdr.Cdr.{Cdr}
@@ -91,7 +91,7 @@ periods a b =
     (λ p i. record { start_date_time = p.0.0 i; dimensions = p.0.1 i; tariff_id = p.1 i })
     (λ e. ((λ i. (e i).start_date_time, λ i. (e i).dimensions), λ i. (e i).tariff_id))
 
-pub cdrs : (a b : Cdr) → Decides (same_cdr a b) (folded_cdr a ≡ folded_cdr b)
+pub cdrs : (a b : Cdr) → Decides (same_cdr a b) (AreEqualFolded a b)
 unfolding same_cdr
 cdrs a b =
     let named = both _ _ (parties a.operator b.operator) (texts a.id b.id) in
@@ -105,21 +105,21 @@ cdrs a b =
     let time = both _ _ energy (Decides-int_eq a.total_time b.total_time) in
     let credited = both _ _ time (texts_if_any a.credit b.credit) in
     decides (same_cdr a b) (both _ _ credited (instants a.last_updated b.last_updated))
-    (λ p i. record {
-      operator = p.0.0.0.0.0.0.0.0.0.0.0.0.0.0 i;
-      id = p.0.0.0.0.0.0.0.0.0.0.0.0.0.1 i;
-      start_date_time = p.0.0.0.0.0.0.0.0.0.0.0.0.1 i;
-      end_date_time = p.0.0.0.0.0.0.0.0.0.0.0.1 i;
-      cdr_token = p.0.0.0.0.0.0.0.0.0.0.1 i;
-      auth_method = p.0.0.0.0.0.0.0.0.0.1 i;
-      authorization_reference = p.0.0.0.0.0.0.0.0.1 i;
-      currency = p.0.0.0.0.0.0.0.1 i;
-      tariffs = p.0.0.0.0.0.0.1 i;
-      charging_periods = p.0.0.0.0.0.1 i;
-      total_cost = p.0.0.0.0.1 i;
-      total_energy = p.0.0.0.1 i;
-      total_time = p.0.0.1 i;
-      credit = p.0.1 i;
-      last_updated = p.1 i;
+    (λ p. record {
+      operator = p.0.0.0.0.0.0.0.0.0.0.0.0.0.0;
+      id = p.0.0.0.0.0.0.0.0.0.0.0.0.0.1;
+      start_date_time = p.0.0.0.0.0.0.0.0.0.0.0.0.1;
+      end_date_time = p.0.0.0.0.0.0.0.0.0.0.0.1;
+      cdr_token = p.0.0.0.0.0.0.0.0.0.0.1;
+      auth_method = p.0.0.0.0.0.0.0.0.0.1;
+      authorization_reference = p.0.0.0.0.0.0.0.0.1;
+      currency = p.0.0.0.0.0.0.0.1;
+      tariffs = p.0.0.0.0.0.0.1;
+      charging_periods = p.0.0.0.0.0.1;
+      total_cost = p.0.0.0.0.1;
+      total_energy = p.0.0.0.1;
+      total_time = p.0.0.1;
+      credit = p.0.1;
+      last_updated = p.1;
     })
-    (λ e. ((((((((((((((λ i. (e i).operator, λ i. (e i).id), λ i. (e i).start_date_time), λ i. (e i).end_date_time), λ i. (e i).cdr_token), λ i. (e i).auth_method), λ i. (e i).authorization_reference), λ i. (e i).currency), λ i. (e i).tariffs), λ i. (e i).charging_periods), λ i. (e i).total_cost), λ i. (e i).total_energy), λ i. (e i).total_time), λ i. (e i).credit), λ i. (e i).last_updated))
+    (λ e. ((((((((((((((e.operator, e.id), e.start_date_time), e.end_date_time), e.cdr_token), e.auth_method), e.authorization_reference), e.currency), e.tariffs), e.charging_periods), e.total_cost), e.total_energy), e.total_time), e.credit), e.last_updated))

@@ -11,7 +11,7 @@ use Rattle.ocpi_json.specs.declared.name.Name.TheVariants as name
 use Rattle.ocpi_types.specs.CdrToken.{cdr_token_at, method_of}
 use Rattle.ocpi_types.specs.ChargingPeriod.{period_at, has_volumes_in_range}
 use Rattle.ocpi_types.specs.Currency.{currency_of}
-use Rattle.ocpi_types.specs.Members.{ensure}
+use Rattle.ocpi_types.specs.Members.{true_or}
 use Rattle.ocpi_types.specs.Party.{party_at}
 use Rattle.ocpi_types.specs.Tariff.{tariff_at}
 use Rattle.ocpi_types.specs.declared.cdr.Cdr.{Cdr}
@@ -54,8 +54,9 @@ credit_at node = do
   credit ← optional as_bool name.Credit node
   reference_at (unwrap_or credit false) node
 
-unfoldable pub members_at : Data → Result Cdr Name
-members_at node = do
+-- all members; and, of one that is no Credit CDR, an id of up to 36 bytes, and no volume or total energy below 0
+unfoldable pub cdr_at : Data → Result Cdr Name
+cdr_at node = do
   operator ← party_at node
   id ← required (as_ci_text 39) name.Id node
   start_date_time ← required (as_parsed instant_of) name.StartDateTime node
@@ -71,6 +72,9 @@ members_at node = do
   total_time ← required as_number name.TotalTime node
   credit ← credit_at node
   last_updated ← required (as_parsed instant_of) name.LastUpdated node
+  id_in_range ← true_or name.Id (is_some credit || nat_le (length id) 36)
+  volumes_in_range ← true_or name.Volume (is_some credit || list_all has_volumes_in_range charging_periods)
+  energy_in_range ← true_or name.TotalEnergy (is_some credit || int_le (pos 0) total_energy)
   Ok (record {
     operator = operator;
     id = id;
@@ -87,16 +91,10 @@ members_at node = do
     total_time = total_time;
     credit = credit;
     last_updated = last_updated;
+    id_in_range = id_in_range;
+    volumes_in_range = volumes_in_range;
+    energy_in_range = energy_in_range;
   })
 
 abbrev pub is_credit : Cdr → Bool
 is_credit cdr = is_some cdr.credit
-
--- what holds of a CDR that is no Credit CDR: an id of up to 36 bytes, and no volume or total energy below 0
-unfoldable pub cdr_at : Data → Result Cdr Name
-cdr_at node = do
-  cdr ← members_at node
-  _ ← ensure (is_credit cdr || nat_le (length cdr.id) 36) name.Id
-  _ ← ensure (is_credit cdr || list_all has_volumes_in_range cdr.charging_periods) name.Volume
-  _ ← ensure (is_credit cdr || int_le (pos 0) cdr.total_energy) name.TotalEnergy
-  Ok cdr

@@ -20,7 +20,7 @@ use Rattle.ocpi_types.specs.declared.config.PairLimit.{PairLimit}
 use Rattle.ocpi_types.specs.declared.config.Platform.{Platform}
 use Rattle.ocpi_types.specs.declared.config.Provider.{Provider}
 use Rattle.ocpi_types.specs.declared.config.ProviderLimit.{ProviderLimit}
-use Rattle.ocpi_types.specs.declared.config.parts.Known.{Known}
+use Rattle.ocpi_types.specs.declared.config.parts.Listed.{Listed}
 
 -- ---- members that name what is configured
 
@@ -30,26 +30,26 @@ currency_at currencies node = do
   _ ← ensure (has_currency_among currencies currency) name.Currency
   Ok currency
 
-unfoldable pub operator_at : Known → Data → Result Party Name
-operator_at known node = do
+unfoldable pub operator_at : Listed → Data → Result Party Name
+operator_at listed node = do
   operator ← required (as_parsed party_of) name.Operator node
-  _ ← ensure (is_some (operator_among known.operators operator)) name.Operator
+  _ ← ensure (is_some (operator_among listed.operators operator)) name.Operator
   Ok operator
 
-unfoldable pub provider_at : Known → Data → Result Party Name
-provider_at known node = do
+unfoldable pub provider_at : Listed → Data → Result Party Name
+provider_at listed node = do
   provider ← required (as_parsed party_of) name.Provider node
-  _ ← ensure (is_some (provider_among known.providers provider)) name.Provider
+  _ ← ensure (is_some (provider_among listed.providers provider)) name.Provider
   Ok provider
 
-abbrev pub has_party : Known → Party → Bool
-has_party known party = is_some (operator_among known.operators party) || is_some (provider_among known.providers party)
+abbrev pub has_party : Listed → Party → Bool
+has_party listed party = is_some (operator_among listed.operators party) || is_some (provider_among listed.providers party)
 
 -- an item of a platform's list of parties
-unfoldable pub platform_party_at : Known → Data → Result Party Name
-platform_party_at known d = do
+unfoldable pub platform_party_at : Listed → Data → Result Party Name
+platform_party_at listed d = do
   party ← or_name name.Parties (as_parsed party_of d)
-  _ ← ensure (has_party known party) name.Parties
+  _ ← ensure (has_party listed party) name.Parties
   Ok party
 
 -- ---- items of the lists: a provider may have as many limits and a platform as many parties as a text has room for
@@ -75,19 +75,19 @@ provider_entry_at currencies node = do
   _ ← ensure (all_different alike_rows limits) name.Limits
   Ok (record { party = party; limits = limits })
 
-unfoldable pub platform_at : Known → Data → Result Platform Name
-platform_at known node = do
+unfoldable pub platform_at : Listed → Data → Result Platform Name
+platform_at listed node = do
   called ← required (as_ci_text 36) name.Name node
   items ← list_or_empty 1_048_576 name.Parties node
-  parties ← each (platform_party_at known) items
+  parties ← each (platform_party_at listed) items
   hub ← optional as_bool name.Hub node
   Ok (record { name = called; parties = parties; hub = unwrap_or hub false })
 
-unfoldable pub pair_limit_at : Known → Data → Result PairLimit Name
-pair_limit_at known node = do
-  operator ← operator_at known node
-  provider ← provider_at known node
-  currency ← currency_at known.currencies node
+unfoldable pub pair_limit_at : Listed → Data → Result PairLimit Name
+pair_limit_at listed node = do
+  operator ← operator_at listed node
+  provider ← provider_at listed node
+  currency ← currency_at listed.currencies node
   limit ← required (as_whole 0 1_000_000_000_000_000) name.Limit node
   Ok (record { operator = operator; provider = provider; currency = currency; limit = limit })
 

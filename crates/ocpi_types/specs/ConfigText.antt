@@ -18,7 +18,7 @@ use Rattle.ocpi_types.specs.declared.config.Operator.{Operator}
 use Rattle.ocpi_types.specs.declared.config.PairLimit.{PairLimit}
 use Rattle.ocpi_types.specs.declared.config.Platform.{Platform}
 use Rattle.ocpi_types.specs.declared.config.Provider.{Provider}
-use Rattle.ocpi_types.specs.declared.config.parts.Known.{Known}
+use Rattle.ocpi_types.specs.declared.config.parts.Listed.{Listed}
 use Rattle.ocpi_types.specs.declared.config.reading.ConfigFault.{ConfigFault}
 use Rattle.ocpi_types.specs.declared.config.reading.ConfigFault.TheVariants.{Syntax, Member}
 
@@ -47,18 +47,18 @@ providers_at currencies node = do
   Ok providers
 
 -- the currencies and parties, which the other parts name
-unfoldable pub known_at : Data → Result Known Name
-known_at node = do
+unfoldable pub listed_at : Data → Result Listed Name
+listed_at node = do
   currencies ← currencies_at node
   operators ← operators_at node
   providers ← providers_at currencies node
   Ok (record { currencies = currencies; operators = operators; providers = providers })
 
 -- 1 to 128 platforms
-unfoldable pub platforms_at : Known → Data → Result (List Platform) Name
-platforms_at known node = do
+unfoldable pub platforms_at : Listed → Data → Result (List Platform) Name
+platforms_at listed node = do
   items ← required (as_list 1 128) name.Platforms node
-  platforms ← each (platform_at known) items
+  platforms ← each (platform_at listed) items
   _ ← ensure (all_different alike_platforms platforms) name.Platforms
   Ok platforms
 
@@ -70,15 +70,15 @@ house_limits_at node = do
   Ok (unwrap_or limits largest)
 
 -- up to 4,096 limits of a provider with one operator, which version 2 brought
-unfoldable pub stated_pair_limits_at : Known → Data → Result (List PairLimit) Name
-stated_pair_limits_at known node = do
+unfoldable pub stated_pair_limits_at : Listed → Data → Result (List PairLimit) Name
+stated_pair_limits_at listed node = do
   items ← list_or_empty 4096 name.PairLimits node
-  pair_limits ← each (pair_limit_at known) items
+  pair_limits ← each (pair_limit_at listed) items
   _ ← ensure (all_different alike_pairs pair_limits) name.PairLimits
   Ok pair_limits
 
-unfoldable pub pair_limits_at : ℕ → Known → Data → Result (List PairLimit) Name
-pair_limits_at version known node = if version == 2 then stated_pair_limits_at known node else Ok []
+unfoldable pub pair_limits_at : ℕ → Listed → Data → Result (List PairLimit) Name
+pair_limits_at version listed node = if version == 2 then stated_pair_limits_at listed node else Ok []
 
 -- the credit window, which version 2 brought
 unfoldable pub credit_window_at : ℕ → Data → Result (Option ℕ) Name
@@ -88,16 +88,16 @@ unfoldable pub config_at : Data → Result Config Name
 config_at node = do
   version ← required (as_whole 1 2) name.Version node
   tolerance ← optional (as_whole 0 1_000_000_000_000) name.Tolerance node
-  known ← known_at node
-  platforms ← platforms_at known node
+  listed ← listed_at node
+  platforms ← platforms_at listed node
   limits ← house_limits_at node
-  pair_limits ← pair_limits_at version known node
+  pair_limits ← pair_limits_at version listed node
   credit_window ← credit_window_at version node
   Ok (record {
     tolerance = unwrap_or tolerance 100;
-    currencies = known.currencies;
-    operators = known.operators;
-    providers = known.providers;
+    currencies = listed.currencies;
+    operators = listed.operators;
+    providers = listed.providers;
     platforms = platforms;
     limits = limits;
     pair_limits = pair_limits;

@@ -15,17 +15,23 @@ folded_cdr_token token =
 abbrev pub folded_period : ChargingPeriod → ChargingPeriod
 folded_period period = record period { tariff_id = option_map folded period.tariff_id }
 
--- the CDR with the letters of its parties, ids and references folded, and all else as it is
-abbrev pub folded_cdr : Cdr → Cdr
-folded_cdr cdr = record cdr {
-  operator = folded_party cdr.operator;
-  id = folded cdr.id;
-  cdr_token = folded_cdr_token cdr.cdr_token;
-  authorization_reference = option_map folded cdr.authorization_reference;
-  tariffs = map folded_tariff cdr.tariffs;
-  charging_periods = map folded_period cdr.charging_periods;
-  credit = option_map folded cdr.credit;
-}
+-- the two agree in each member, once the letters of their parties, ids and references are folded
+pub record AreEqualFolded (a b : Cdr) : Type 0 where
+  pub operator : folded_party a.operator ≡ folded_party b.operator
+  pub id : folded a.id ≡ folded b.id
+  pub start_date_time : a.start_date_time ≡ b.start_date_time
+  pub end_date_time : a.end_date_time ≡ b.end_date_time
+  pub cdr_token : folded_cdr_token a.cdr_token ≡ folded_cdr_token b.cdr_token
+  pub auth_method : a.auth_method ≡ b.auth_method
+  pub authorization_reference : option_map folded a.authorization_reference ≡ option_map folded b.authorization_reference
+  pub currency : a.currency ≡ b.currency
+  pub tariffs : map folded_tariff a.tariffs ≡ map folded_tariff b.tariffs
+  pub charging_periods : map folded_period a.charging_periods ≡ map folded_period b.charging_periods
+  pub total_cost : a.total_cost ≡ b.total_cost
+  pub total_energy : a.total_energy ≡ b.total_energy
+  pub total_time : a.total_time ≡ b.total_time
+  pub credit : option_map folded a.credit ≡ option_map folded b.credit
+  pub last_updated : a.last_updated ≡ b.last_updated
 
 abbrev pub SameCdrsAreEqualFolded : Type 0
-SameCdrsAreEqualFolded = (a b : Cdr) → IsTrue (same_cdr a b) ↔ (folded_cdr a ≡ folded_cdr b)
+SameCdrsAreEqualFolded = (a b : Cdr) → IsTrue (same_cdr a b) ↔ AreEqualFolded a b

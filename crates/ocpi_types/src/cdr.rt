@@ -1,30 +1,24 @@
-ghost use Rattle.std.specs.Prelude.{◌≡◌};
+ghost use Rattle.std.specs.Prelude.{◌≡◌, ◌||◌, true, pos, int_le, nat_le, length, is_some};
 ghost use Rattle.std.specs.List.{list_all};
-ghost use Rattle.json.specs.Value.{value_view as view};
-ghost use Rattle.ocpi_json.specs.Faults.{Finds};
-ghost use Rattle.ocpi_types.specs.Cdr.{cost_at, credit_at, members_at, periods_at, reference_at, session_token_at, tariffs_at};
 ghost use Rattle.ocpi_types.specs.ChargingPeriod.{has_volumes_in_range};
-ghost use Rattle.ocpi_types.specs.Inner.CdrParts.{opening_at, authorised_at, totals_at, cdr_in_parts};
+
+mod reading;
 
 use super::cdr_token::{AuthMethod, CdrToken};
 use super::charging_period::ChargingPeriod;
 use super::copying::TryCopy;
 use super::currency::Currency;
-use super::members::{self, ensure};
 use super::party::Party;
 use super::tariff::Tariff;
-use super::up_to::{UpTo, read_up_to};
+use super::up_to::UpTo;
 use exact_money::Millionths;
 use jiff::Timestamp;
-use ocpi_json::Node;
 use ocpi_json::ci_text::CiText;
-use ocpi_json::fields::{self, FieldFault};
-use ocpi_json::name::Name;
-use ocpi_json::objects::{FromNode, FromNodeIn, read_each_in};
 use ocpi_json::sequence::Sequence;
 use std::alloc::{AllocError, Global};
 
-/// A charge detail record of an operator (OCPI 2.2.1, CDR object).
+/// A charge detail record of an operator (OCPI 2.2.1, CDR object). One that is no Credit CDR has an id of up to 36 bytes and no
+/// volume or total energy below 0.
 #[derive(Drop)]
 pub struct Cdr {
     pub operator: Party,
@@ -46,218 +40,20 @@ pub struct Cdr {
     /// The id of the CDR that a Credit CDR credits; none where this is no Credit CDR.
     pub credit: Option<CiText<39>>,
     pub last_updated: Timestamp,
-}
-
-#[tactic(auto, unfolding(crate::specs::Cdr::session_token_at))]
-fn read_session_token(node: &Node) -> Result<CdrToken, Name>
-    ensures { result ≡ session_token_at (view node.now) }
-{
-    CdrToken::from_node(fields::object(node, Name::CdrToken)?)
-}
-
-#[tactic(auto, unfolding(crate::specs::Cdr::tariffs_at))]
-fn read_tariffs(alloc: Global, node: &Node) -> Result<Sequence<Tariff>, FieldFault>
-    ensures { Finds result (tariffs_at (view node.now)) }
-{
-    read_each_in(alloc, fields::list_or_empty(node, Name::Tariffs, 10)?)
-}
-
-#[tactic(auto, unfolding(crate::specs::Cdr::periods_at))]
-fn read_periods(alloc: Global, node: &Node) -> Result<UpTo<ChargingPeriod, 1000>, FieldFault>
-    ensures { Finds result (periods_at (view node.now)) }
-{
-    read_up_to(alloc, fields::list(node, Name::ChargingPeriods, 1, 1000)?)
-}
-
-#[tactic(auto, unfolding(crate::specs::Cdr::cost_at))]
-fn read_cost(node: &Node) -> Result<Millionths, Name>
-    ensures { result ≡ cost_at (view node.now) }
-{
-    fields::number(fields::object(node, Name::TotalCost)?, Name::ExclVat)
-}
-
-#[tactic(auto, unfolding(crate::specs::Cdr::reference_at))]
-fn read_reference(is_credit: bool, node: &Node) -> Result<Option<CiText<39>>, Name>
-    ensures { result ≡ reference_at is_credit (view node.now) }
-{
-    if is_credit {
-        let id = fields::ci_text(node, Name::CreditReferenceId)?;
-        Ok(Some(id))
-    } else {
-        Ok(None)
-    }
-}
-
-#[tactic(auto, unfolding(crate::specs::Cdr::credit_at))]
-fn read_credit(node: &Node) -> Result<Option<CiText<39>>, Name>
-    ensures { result ≡ credit_at (view node.now) }
-{
-    let is_credit = fields::flag_or_none(node, Name::Credit)?.unwrap_or(false);
-    read_reference(is_credit, node)
-}
-
-/// Whose the CDR is, and when its session was.
-#[derive(Clone, Copy)]
-struct Opening {
-    operator: Party,
-    id: CiText<39>,
-    start_date_time: Timestamp,
-    end_date_time: Timestamp,
-}
-
-/// Who charged, by which authorisation.
-#[derive(Clone, Copy)]
-struct Authorised {
-    cdr_token: CdrToken,
-    auth_method: AuthMethod,
-    authorization_reference: Option<CiText<36>>,
-    currency: Currency,
-}
-
-/// The totals, and what stands behind them.
-#[derive(Clone, Copy)]
-struct Totals {
-    total_cost: Millionths,
-    total_energy: Millionths,
-    total_time: Millionths,
-    credit: Option<CiText<39>>,
-    last_updated: Timestamp,
-}
-
-#[tactic(auto, unfolding(crate::specs::Inner::CdrParts::opening_at))]
-fn read_opening(node: &Node) -> Result<Opening, Name>
-    ensures { result ≡ opening_at (view node.now) }
-{
-    let operator = Party::from_node(node)?;
-    let id = fields::ci_text(node, Name::Id)?;
-    let start_date_time = fields::instant(node, Name::StartDateTime)?;
-    let end_date_time = fields::instant(node, Name::EndDateTime)?;
-    Ok(Opening {
-        operator,
-        id,
-        start_date_time,
-        end_date_time,
-    })
-}
-
-#[tactic(auto, unfolding(crate::specs::Inner::CdrParts::authorised_at))]
-fn read_authorised(node: &Node) -> Result<Authorised, Name>
-    ensures { result ≡ authorised_at (view node.now) }
-{
-    let cdr_token = read_session_token(node)?;
-    let auth_method = fields::parsed(node, Name::AuthMethod)?;
-    let authorization_reference = fields::ci_text_or_none(node, Name::AuthorizationReference)?;
-    let currency = members::currency(node, Name::Currency)?;
-    Ok(Authorised {
-        cdr_token,
-        auth_method,
-        authorization_reference,
-        currency,
-    })
-}
-
-#[tactic(auto, unfolding(crate::specs::Inner::CdrParts::totals_at))]
-fn read_totals(node: &Node) -> Result<Totals, Name>
-    ensures { result ≡ totals_at (view node.now) }
-{
-    let total_cost = read_cost(node)?;
-    let total_energy = fields::number(node, Name::TotalEnergy)?;
-    let total_time = fields::number(node, Name::TotalTime)?;
-    let credit = read_credit(node)?;
-    let last_updated = fields::instant(node, Name::LastUpdated)?;
-    Ok(Totals {
-        total_cost,
-        total_energy,
-        total_time,
-        credit,
-        last_updated,
-    })
-}
-
-#[tactic(auto, unfolding(crate::specs::Inner::CdrParts::cdr_in_parts))]
-fn read_parts(alloc: Global, node: &Node) -> Result<Cdr, FieldFault>
-    ensures { Finds result (cdr_in_parts (view node.now)) }
-{
-    let opening = read_opening(node)?;
-    let authorised = read_authorised(node)?;
-    let tariffs = read_tariffs(alloc, node)?;
-    let charging_periods = read_periods(alloc, node)?;
-    let totals = read_totals(node)?;
-    Ok(Cdr {
-        operator: opening.operator,
-        id: opening.id,
-        start_date_time: opening.start_date_time,
-        end_date_time: opening.end_date_time,
-        cdr_token: authorised.cdr_token,
-        auth_method: authorised.auth_method,
-        authorization_reference: authorised.authorization_reference,
-        currency: authorised.currency,
-        tariffs,
-        charging_periods,
-        total_cost: totals.total_cost,
-        total_energy: totals.total_energy,
-        total_time: totals.total_time,
-        credit: totals.credit,
-        last_updated: totals.last_updated,
-    })
-}
-
-fn read_members(alloc: Global, node: &Node) -> Result<Cdr, FieldFault>
-    ensures { Finds result (members_at (view node.now)) }
-{
-    read_parts(alloc, node)
-}
-
-fn have_volumes_in_range(periods: &[ChargingPeriod]) -> bool
-    ensures { result ≡ list_all has_volumes_in_range periods.now }
-{
-    periods.iter().all(|period| period.has_volumes_in_range())
+    pub ghost id_in_range: { (is_some credit || nat_le (length id) 36) ≡ true },
+    pub ghost volumes_in_range: { (is_some credit || list_all has_volumes_in_range charging_periods) ≡ true },
+    pub ghost energy_in_range: { (is_some credit || int_le (pos 0) total_energy) ≡ true },
 }
 
 impl Cdr {
-    ghost use Rattle.std.specs.Prelude.{◌≡◌, ◌||◌, pos, int_le, nat_le, length};
-    ghost use Rattle.std.specs.List.{list_all};
+    ghost use Rattle.std.specs.Prelude.{◌≡◌};
     ghost use Rattle.ocpi_types.specs.Cdr.{is_credit};
-    ghost use Rattle.ocpi_types.specs.ChargingPeriod.{has_volumes_in_range};
 
     /// It is a Credit CDR.
     pub fn is_credit(&self) -> bool
         ensures { result ≡ is_credit self.now }
     {
         self.credit.is_some()
-    }
-
-    fn has_id_in_range(&self) -> bool
-        ensures { result ≡ (is_credit self.now || nat_le (length self.now.id) 36) }
-    {
-        self.is_credit() || self.id.as_str().len() <= 36
-    }
-
-    fn has_volumes_in_range(&self) -> bool
-        ensures { result ≡ (is_credit self.now || list_all has_volumes_in_range self.now.charging_periods) }
-    {
-        self.is_credit() || have_volumes_in_range(self.charging_periods.as_slice())
-    }
-
-    fn has_energy_in_range(&self) -> bool
-        ensures { result ≡ (is_credit self.now || int_le (pos 0) self.now.total_energy) }
-    {
-        self.is_credit() || self.total_energy.get() >= 0
-    }
-}
-
-impl FromNodeIn for Cdr {
-    ghost use Rattle.ocpi_types.specs.Cdr.{cdr_at};
-
-    ghost at = { cdr_at };
-
-    #[tactic(auto, unfolding(crate::specs::Cdr::cdr_at))]
-    fn from_node_in(alloc: Global, node: &Node) -> Result<Cdr, FieldFault> {
-        let cdr = read_members(alloc, node)?;
-        ensure(cdr.has_id_in_range(), Name::Id)?;
-        ensure(cdr.has_volumes_in_range(), Name::Volume)?;
-        ensure(cdr.has_energy_in_range(), Name::TotalEnergy)?;
-        Ok(cdr)
     }
 }
 

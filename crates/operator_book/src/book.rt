@@ -40,7 +40,7 @@ impl Book {
     ghost use Rattle.plain_house.specs.Booked.{booked_as, is_credited, shown_booked};
     ghost use Rattle.plain_house.specs.House.{found_of, stored_already};
     ghost use Rattle.plain_house.specs.Posting.{credited_amount, judged_cdr, judged_credit};
-    ghost use Rattle.plain_house.specs.Room.{are_cdrs_full, are_versions_full};
+    ghost use Rattle.plain_house.specs.Full.{are_cdrs_full, are_versions_full};
     ghost use Rattle.plain_house.specs.Tariffs.{lacks_registered, stored_version};
     ghost use Rattle.plain_house.specs.declared.entry.BookEntry.TheVariants as book;
 
@@ -117,17 +117,17 @@ impl Book {
             .lacks_registered(self.entries.as_slice(), cdr)
     }
 
-    /// The amount at which a CDR that costs this would be booked, or the reply to it.
-    pub fn judge_cdr(&self, cdr: &Cdr, cost: Cost) -> Result<BookedAmount, Result<Answer, Refusal>>
-        ensures { result ≡ judged_cdr cdr.now cost self.now.entries }
+    /// The reply to a CDR that is booked already, or whose tariffs are not registered; none where it can be booked.
+    pub fn judge_cdr(&self, cdr: &Cdr) -> Option<Result<Answer, Refusal>>
+        ensures { result ≡ judged_cdr cdr.now self.now.entries }
     {
         if let Some(found) = self.booked_as(&cdr.operator, &cdr.id) {
-            return Err(reply_to_booked(&found, cdr));
+            return Some(reply_to_booked(&found, cdr));
         }
         if self.lacks_registered(cdr) {
-            return Err(Err(Refusal::TariffNotRegistered));
+            return Some(Err(Refusal::TariffNotRegistered));
         }
-        Ok(BookedAmount::of_cost(cost))
+        None
     }
 
     // The negated amount of the CDR that a Credit CDR names.

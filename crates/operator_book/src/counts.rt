@@ -5,7 +5,7 @@ ghost use Rattle.indexmap.specs.IndexMap.{spare};
 ghost use Rattle.ocpi_types.specs.Party.{same_party};
 ghost use Rattle.ocpi_types.specs.declared.party.Party.{Party as Operator};
 ghost use Rattle.operator_book.specs.Inner.Counts.{CountsCdrs, CountsVersions, counted};
-ghost use Rattle.plain_house.specs.Room.{is_cdr_of, is_version_of};
+ghost use Rattle.plain_house.specs.Full.{is_cdr_of, is_version_of};
 ghost use Rattle.plain_house.specs.declared.entry.BookEntry.{BookEntry as Entry};
 
 use indexmap::IndexMap;
@@ -15,15 +15,15 @@ use std::alloc::{AllocError, Global};
 
 /// A number for each operator that has any.
 #[derive(Drop)]
-pub struct Tally {
+pub struct CountsByOperator {
     counts: IndexMap<Party, u64>,
 }
 
-impl Tally {
-    fn new(alloc: Global) -> Tally
+impl CountsByOperator {
+    fn new(alloc: Global) -> CountsByOperator
         ensures { (operator : Operator) → counted result operator ≡ 0 }
     {
-        Tally {
+        CountsByOperator {
             counts: IndexMap::new(alloc),
         }
     }
@@ -54,19 +54,19 @@ impl Tally {
 
 /// The CDRs and Credit CDRs, and the tariff versions, of each operator.
 #[derive(Drop)]
-pub struct Counts {
-    cdrs: Tally,
-    versions: Tally,
+pub struct BookCounts {
+    cdrs: CountsByOperator,
+    versions: CountsByOperator,
 }
 
-impl Counts {
-    pub fn new(alloc: Global) -> Counts
+impl BookCounts {
+    pub fn new(alloc: Global) -> BookCounts
         ensures cdrs { CountsCdrs result.cdrs [] }
         ensures versions { CountsVersions result.versions [] }
     {
-        Counts {
-            cdrs: Tally::new(alloc),
-            versions: Tally::new(alloc),
+        BookCounts {
+            cdrs: CountsByOperator::new(alloc),
+            versions: CountsByOperator::new(alloc),
         }
     }
 

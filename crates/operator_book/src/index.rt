@@ -5,10 +5,10 @@ ghost use Rattle.operator_book.specs.Inner.Indexed.{HasRoom, IsIndexOf};
 ghost use Rattle.operator_book.specs.Inner.Versions.{IsNewVersion};
 ghost use Rattle.plain_house.specs.declared.entry.BookEntry.{BookEntry as Entry};
 
-use crate::counts::Counts;
+use crate::counts::BookCounts;
 use crate::credited::Credited;
 use crate::ids::Ids;
-use crate::sums::Sums;
+use crate::sums::OwedSums;
 use crate::versions::Versions;
 use plain_house::BookEntry;
 use std::alloc::{AllocError, Global};
@@ -18,8 +18,8 @@ pub struct Index {
     pub ids: Ids,
     pub versions: Versions,
     pub credited: Credited,
-    pub counts: Counts,
-    pub sums: Sums,
+    pub counts: BookCounts,
+    pub sums: OwedSums,
 }
 
 impl Index {
@@ -30,8 +30,8 @@ impl Index {
             ids: Ids::new(alloc),
             versions: Versions::new(alloc),
             credited: Credited::new(alloc),
-            counts: Counts::new(alloc),
-            sums: Sums::new(alloc),
+            counts: BookCounts::new(alloc),
+            sums: OwedSums::new(alloc),
         }
     }
 

@@ -15,15 +15,15 @@ use std::alloc::{AllocError, Global};
 
 /// The sum of each key that a CDR or Credit CDR has.
 #[derive(Drop)]
-pub struct Sums {
+pub struct OwedSums {
     rows: IndexMap<SumKey, Sum>,
 }
 
-impl Sums {
-    pub fn new(alloc: Global) -> Sums
+impl OwedSums {
+    pub fn new(alloc: Global) -> OwedSums
         ensures { SumsUp result [] }
     {
-        Sums {
+        OwedSums {
             rows: IndexMap::new(alloc),
         }
     }

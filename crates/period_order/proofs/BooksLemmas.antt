@@ -12,7 +12,7 @@ use Rattle.plain_house.specs.declared.entry.BookEntry.{BookEntry}
 use Rattle.plain_house.specs.declared.entry.BookEntry.TheVariants as book
 use Rattle.plain_house.specs.Entries.{account_entries, account_entry, book_entries, book_entry, period_of}
 use Rattle.plain_house.specs.Own.{is_in_book_of, own_account, own_book}
-use Rattle.plain_house.specs.Room.{is_entry_of, own_entries}
+use Rattle.plain_house.specs.Full.{is_entry_of, own_entries}
 use Rattle.period_order.specs.Places.{operator_number, provider_number}
 use Rattle.period_order.specs.Resolved.{accounts_of, books_of}
 use Rattle.period_order.proofs.EntriesLemmas.{account_along, account_entries_push, accounts_push, book_along, book_entries_push, books_push}

@@ -12,7 +12,7 @@ use Rattle.plain_house.specs.declared.entry.BookEntry.{BookEntry}
 use Rattle.plain_house.specs.declared.entry.BookEntry.TheVariants as book
 use Rattle.plain_house.specs.Entries.{Dated, account_entries, account_entries_from, account_entry, book_entries, book_entries_from, book_entry, dated_from, is_close, period_after, period_of}
 use Rattle.plain_house.specs.Own.{is_in_book_of, own_account, own_book}
-use Rattle.plain_house.specs.Room.{is_entry_of, own_entries}
+use Rattle.plain_house.specs.Full.{is_entry_of, own_entries}
 use Rattle.period_order.proofs.PartyLemmas.{party_along}
 
 -- ---- periods

@@ -11,6 +11,7 @@ pub mod OrderLemmas
 pub mod OutcomeLemmas
 pub mod PartyLemmas
 pub mod PerformLemmas
+pub mod PostLemmas
 pub mod ReachedLemmas
 pub mod ResolvedLemmas
 pub mod ResolvesLemmas

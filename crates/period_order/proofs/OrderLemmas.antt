@@ -1,5 +1,6 @@
 -- The order of a list of events with one more.
 use Rattle.std.proofs.Common.{◌≡◌, ℕ, ◌+◌, suc, List, [], ◌∷◌, ◌++◌, Bool, cond, refl, sym, ap, ap₂, ◌∙◌, append_assoc, append-nil, arith, length, count_by, flat_map}
+use Rattle.std.proofs.lemmas.List.{length-append}
 use Rattle.std.proofs.lemmas.List.Sums.{sum_by-cons}
 use Rattle.ocpi_types.specs.declared.config.Config.{Config}
 use Rattle.plain_house.specs.declared.event.Event.{Event}
@@ -7,7 +8,7 @@ use Rattle.plain_house.specs.declared.event.Event.TheVariants as event
 use Rattle.plain_house.specs.Entries.{Dated, account_entries, account_entry, book_entries, book_entry, dated_from, period_after, period_of}
 use Rattle.plain_house.specs.Entries.{is_close as closes}
 use Rattle.period_order.specs.declared.order_entry.OrderEntry.{OrderEntry}
-use Rattle.period_order.specs.Order.{is_close, names_account, names_book}
+use Rattle.period_order.specs.Order.{is_close_entry, names_account, names_book}
 use Rattle.period_order.specs.Places.{account_size, book_size, order_after, order_entry, order_of}
 
 -- what the order keeps of an event behind these
@@ -33,7 +34,7 @@ order_push config events e = order_split config events e []
 
 -- ---- how many
 
-pub close_is : (config : Config) (book account : ℕ) (e : Event) → is_close (order_entry config book account e) ≡ closes e
+pub close_is : (config : Config) (book account : ℕ) (e : Event) → is_close_entry (order_entry config book account e) ≡ closes e
 close_is config book account (event.Tariff tariff) = refl
 close_is config book account (event.Token token) = refl
 close_is config book account (event.Authorised hold) = refl
@@ -43,15 +44,15 @@ close_is config book account (event.Credit cdr amount) = refl
 close_is config book account (event.Settled settlement) = refl
 close_is config book account (event.Closed period) = refl
 
-closes_after : (config : Config) (before later : List Event) → count_by is_close (order_after config before later) ≡ count_by closes later
+closes_after : (config : Config) (before later : List Event) → count_by is_close_entry (order_after config before later) ≡ count_by closes later
 closes_after config before [] = refl
 closes_after config before (e ∷ later) =
     let rest = order_after config (before ++ e ∷ []) later in
-    sum_by-cons (λ x. cond (is_close x) 1 0) (entry_behind config before e) rest
+    sum_by-cons (λ x. cond (is_close_entry x) 1 0) (entry_behind config before e) rest
     ∙ ap₂ (λ (b : Bool) (n : ℕ). cond {A = ℕ} b 1 0 + n) (close_is config (book_size before e) (account_size before e) e) (closes_after config (before ++ e ∷ []) later)
     ∙ sym (sum_by-cons (λ x. cond (closes x) 1 0) e later)
 
-pub current_is : (config : Config) (events : List Event) → count_by is_close (order_of config events) ≡ period_of events
+pub current_is : (config : Config) (events : List Event) → count_by is_close_entry (order_of config events) ≡ period_of events
 current_is config events = closes_after config [] events
 
 length_after : (config : Config) (before later : List Event) → length (order_after config before later) ≡ length later
@@ -63,10 +64,6 @@ point_is config events = length_after config [] events
 
 -- ---- how many entries it names
 
-length_joined : {X : Type 0} (xs ys : List X) → length (xs ++ ys) ≡ length xs + length ys
-length_joined [] ys = omega arith
-length_joined (x ∷ xs) ys = omega (arith, length_joined xs ys)
-
 -- a test of what the order keeps of an event tells how many entries the event has
 module _ {X : Type 0} (names : OrderEntry → Bool) (kept : Event → ℕ → List X) (config : Config)
     (one : (book account period : ℕ) (e : Event) → cond {A = ℕ} (names (order_entry config book account e)) 1 0 ≡ length (kept e period)) where
@@ -77,7 +74,7 @@ module _ {X : Type 0} (names : OrderEntry → Bool) (kept : Event → ℕ → Li
       let others = flat_map (λ (dated : Dated). kept dated.event dated.period) (dated_from (period_after period e) later) in
       sum_by-cons (λ x. cond (names x) 1 0) (entry_behind config before e) rest
       ∙ ap₂ (λ (a b : ℕ). a + b) (one (book_size before e) (account_size before e) period e) (named_after (before ++ e ∷ []) later (period_after period e))
-      ∙ sym (length_joined (kept e period) others)
+      ∙ sym (length-append (kept e period) others)
 
 names_one_book : (config : Config) (book account period : ℕ) (e : Event) → cond {A = ℕ} (names_book (order_entry config book account e)) 1 0 ≡ length (book_entry e period)
 names_one_book config book account period (event.Tariff tariff) = refl

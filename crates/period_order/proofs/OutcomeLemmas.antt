@@ -13,7 +13,7 @@ use Rattle.plain_house.specs.declared.event.Event.TheVariants as event
 use Rattle.cdr_checks.specs.declared.request.StatementOf.{StatementOf}
 use Rattle.plain_house.specs.House.{positions_in}
 use Rattle.plain_house.specs.Obligations.{obligations}
-use Rattle.plain_house.specs.Room.{are_periods_full, first_full, is_order_full}
+use Rattle.plain_house.specs.Full.{are_periods_full, first_full, is_order_full}
 use Rattle.plain_house.specs.Verdict.{Verdict, accepts, refused_at, replies, unless}
 use Rattle.period_order.specs.Decided.{OutcomesAreVerdicts, closed_by, stated_by, verdict_with}
 

@@ -27,7 +27,7 @@ use Rattle.plain_house.specs.Verdict.{Verdict}
 use Rattle.period_order.specs.declared.order_entry.OrderEntry.{OrderEntry}
 use Rattle.period_order.specs.Kept.{Keeps, account_number, book_number, with_added}
 use Rattle.period_order.specs.Inner.Kept.{with_event_added}
-use Rattle.period_order.specs.Order.{PlainOrder, current_of, is_close}
+use Rattle.period_order.specs.Order.{PlainOrder, current_of, is_close_entry}
 use Rattle.period_order.specs.Places.{operator_number, order_entry, order_of, provider_number}
 use Rattle.period_order.specs.Resolved.{OrdersAreResolved, books_of, entries_of_accounts, entries_of_books, resolved}
 use Rattle.period_order.proofs.BooksLemmas.{account_at, book_at}
@@ -47,8 +47,8 @@ module _ (config : Config) (books : List (List BookEntry)) (accounts : List (Lis
     pub point_kept : length order ≡ length events
     point_kept = ap length keeps.order_is ∙ point_is config events
 
-    pub period_kept : count_by is_close order ≡ period_of events
-    period_kept = ap (count_by is_close) keeps.order_is ∙ current_is config events
+    pub period_kept : count_by is_close_entry order ≡ period_of events
+    period_kept = ap (count_by is_close_entry) keeps.order_is ∙ current_is config events
 
     -- with the event of the command's verdict
     pub keeps_event : (e : Event) (book account : ℕ)
@@ -57,8 +57,8 @@ module _ (config : Config) (books : List (List BookEntry)) (accounts : List (Lis
         → ((operator : Party) → operator_of_command told ≡ Some operator → book ≡ length (own_book operator (book_entries events)))
         → ((provider : Party) → provider_of_command told ≡ Some provider → account ≡ length (own_account provider events))
         → Keeps config
-        (with_added books (book_number config told) (book_entry e (count_by is_close order)))
-        (with_added accounts (account_number config told) (account_entry e (count_by is_close order)))
+        (with_added books (book_number config told) (book_entry e (count_by is_close_entry order)))
+        (with_added accounts (account_number config told) (account_entry e (count_by is_close_entry order)))
         (order ++ order_entry config book account e ∷ [])
         (events ++ e ∷ [])
     keeps_event e book account their laws admitted added operators providers in_book in_account =

@@ -13,7 +13,7 @@ use Rattle.plain_house.specs.Entries.{account_entries_from, account_entry, book_
 use Rattle.plain_house.specs.Known.{known}
 use Rattle.plain_house.specs.Legal.{EventsAreOfConfigured, IsLegal, IsOfConfigured}
 use Rattle.plain_house.specs.Own.{is_in_book_of, own_account, own_book}
-use Rattle.plain_house.specs.Room.{is_entry_of, own_entries}
+use Rattle.plain_house.specs.Full.{is_entry_of, own_entries}
 use Rattle.period_order.specs.declared.order_entry.OrderEntry.{OrderEntry}
 use Rattle.period_order.specs.Kept.{Keeps}
 use Rattle.period_order.specs.Places.{in_account, in_book, order_after, order_of}

@@ -1,5 +1,6 @@
 -- An order that names events one by one, entry after entry.
 use Rattle.std.proofs.Common.{◌≡◌, ◌⊎◌, inl, inr, ℕ, ◌+◌, ◌-◌, suc, zero, List, [], ◌∷◌, ◌++◌, Bool, true, false, refl, sym, ap, ap₂, ◌∙◌, subst, append_assoc, arith, length, Option, None, Some, option_map, option_and_then, option_to_list, slice_get, if◌then◌else◌}
+use Rattle.std.proofs.lemmas.List.{length-append}
 use Rattle.plain_house.specs.declared.event.Event.{Event}
 use Rattle.plain_house.specs.declared.event.Event.TheVariants as event
 use Rattle.plain_house.specs.declared.entry.AccountEntry.{AccountEntry}
@@ -20,10 +21,6 @@ use Rattle.period_order.proofs.EntriesLemmas.{period_push}
 nothing : {X : Type 0} (before : List X) (x : X) (later : List X) → [] ≡ before ++ x ∷ later → ⊥
 nothing [] x later h = cc
 nothing (y ∷ before) x later h = cc
-
-length_joined : {X : Type 0} (xs ys : List X) → length (xs ++ ys) ≡ length xs + length ys
-length_joined [] ys = omega arith
-length_joined (x ∷ xs) ys = omega (arith, length_joined xs ys)
 
 -- an element of a list with one more is the last, or one of the list
 last_or_before : {X : Type 0} (xs : List X) (e : X) (before : List X) (x : X) (later : List X) → xs ++ e ∷ [] ≡ before ++ x ∷ later
@@ -150,7 +147,7 @@ module _ (books : List (List BookEntry)) (accounts : List (List AccountEntry)) w
   pub resolves_push : (order : List OrderEntry) (events : List Event) (kept : OrderEntry) (e : Event) → Resolves books accounts order events
       → Names books accounts (period_of events) kept e → Resolves books accounts (order ++ kept ∷ []) (events ++ e ∷ [])
   resolves_push order events kept e resolves new = record {
-    each = length_joined order (kept ∷ []) ∙ ap (λ n. n + 1) resolves.each ∙ sym (length_joined events (e ∷ []));
+    each = length-append order (kept ∷ []) ∙ ap (λ n. n + 1) resolves.each ∙ sym (length-append events (e ∷ []));
     names = λ earlier entry later before named behind same other long.
         by earlier entry before named long (last_or_before order kept earlier entry later same) (last_or_before events e before named behind other);
   }
@@ -164,10 +161,10 @@ module _ (books : List (List BookEntry)) (accounts : List (List AccountEntry)) w
           (subst (λ (x : Event). Names books accounts (period_of before) kept x) (sym q.1)
           (subst (λ (l : List Event). Names books accounts (period_of l) kept e) (sym q.0) new))
       by earlier entry before named long (inl p) (inr q) =
-          let less : length events ≡ length before + suc (length q.0) = ap length q.1 ∙ length_joined before (named ∷ q.0) in
+          let less : length events ≡ length before + suc (length q.0) = ap length q.1 ∙ length-append before (named ∷ q.0) in
           absurd (omega (arith, long, less, ap length p.0, resolves.each))
       by earlier entry before named long (inr p) (inl q) =
-          let less : length order ≡ length earlier + suc (length p.0) = ap length p.1 ∙ length_joined earlier (entry ∷ p.0) in
+          let less : length order ≡ length earlier + suc (length p.0) = ap length p.1 ∙ length-append earlier (entry ∷ p.0) in
           absurd (omega (arith, long, less, ap length q.0, resolves.each))
       by earlier entry before named long (inr p) (inr q) = resolves.names earlier entry p.0 before named q.0 p.1 q.1 long
 
@@ -192,7 +189,7 @@ module _ (books : List (List BookEntry)) (accounts : List (List AccountEntry)) w
       ap₂ (λ (found : Option Event) (l : List Event). option_to_list found ++ l) is.0
       (named_from order events resolves (earlier ++ kept ∷ []) rest (before ++ e ∷ []) later (period_behind period kept)
       (same ∙ sym (append_assoc earlier (kept ∷ []) rest)) (other ∙ sym (append_assoc before (e ∷ []) later))
-      (length_joined earlier (kept ∷ []) ∙ ap (λ n. n + 1) at ∙ sym (length_joined before (e ∷ []))) (omega (arith, long))
+      (length-append earlier (kept ∷ []) ∙ ap (λ n. n + 1) at ∙ sym (length-append before (e ∷ []))) (omega (arith, long))
       (is.1 ∙ ap (λ n. period_after n e) current ∙ sym (period_push before e)))
     where
       names : Names books accounts period kept e
@@ -223,7 +220,7 @@ fails_next books accounts before kept later events resolves none = record {
   number_is = sym resolves.each;
   events = events;
   resolves = resolves;
-  fails = λ others more. no others (has_last (length before) others (sym more.each ∙ length_joined before (kept ∷ []))) more;
+  fails = λ others more. no others (has_last (length before) others (sym more.each ∙ length-append before (kept ∷ []))) more;
 }
   where
     no : (others : List Event) → ((begin : List Event) × (e : Event) × (others ≡ begin ++ e ∷ [])) → Resolves books accounts (before ++ kept ∷ []) others → ⊥
@@ -231,7 +228,7 @@ fails_next books accounts before kept later events resolves none = record {
         let begin = parts.0 in
         let e = parts.1 in
         let split : Resolves books accounts (before ++ kept ∷ []) (begin ++ e ∷ []) = subst (Resolves books accounts (before ++ kept ∷ [])) parts.2 more in
-        let long : length before ≡ length begin = omega (arith, split.each, length_joined before (kept ∷ []), length_joined begin (e ∷ [])) in
+        let long : length before ≡ length begin = omega (arith, split.each, length-append before (kept ∷ []), length-append begin (e ∷ [])) in
         let same : begin ≡ events =
         sym (is_unique books accounts before begin (resolves_before books accounts before (kept ∷ []) begin (e ∷ []) long split))
         ∙ is_unique books accounts before events resolves in
@@ -261,9 +258,9 @@ last_named : (books : List (List BookEntry)) (accounts : List (List AccountEntry
     → Resolves books accounts order events → slice_get order (length order - 1) ≡ Some kept → IsLast books accounts kept events
 last_named books accounts order events kept resolves at =
     let begin = last_splits order kept at in
-    let parts = has_last (length begin.0) events (sym resolves.each ∙ ap length begin.1 ∙ length_joined begin.0 (kept ∷ [])) in
+    let parts = has_last (length begin.0) events (sym resolves.each ∙ ap length begin.1 ∙ length-append begin.0 (kept ∷ [])) in
     let long : length begin.0 ≡ length parts.0 =
-    omega (arith, resolves.each, ap length begin.1, ap length parts.2, length_joined begin.0 (kept ∷ []), length_joined parts.0 (parts.1 ∷ [])) in
+    omega (arith, resolves.each, ap length begin.1, ap length parts.2, length-append begin.0 (kept ∷ []), length-append parts.0 (parts.1 ∷ [])) in
     record {
       before = parts.0;
       last = parts.1;
@@ -286,7 +283,7 @@ named_so books accounts period kept e (Some other) names is =
 
 last_got : {X : Type 0} (xs begin : List X) (x : X) → xs ≡ begin ++ x ∷ [] → slice_get xs (length xs - 1) ≡ Some x
 last_got xs begin x same =
-    let n : length xs - 1 ≡ length begin = omega (arith, ap length same, length_joined begin (x ∷ [])) in
+    let n : length xs - 1 ≡ length begin = omega (arith, ap length same, length-append begin (x ∷ [])) in
     ap₂ (λ (l : List _) (n : ℕ). slice_get l n) same n ∙ seam begin x []
 
 -- what the last entry names, in the current period or, where it closes one, in that before, is the last event

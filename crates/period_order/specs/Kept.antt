@@ -16,7 +16,7 @@ use Rattle.plain_house.specs.Known.{known}
 use Rattle.plain_house.specs.Legal.{IsLegal}
 use Rattle.plain_house.specs.Own.{own_account, own_book}
 use Rattle.period_order.specs.declared.order_entry.OrderEntry.{OrderEntry}
-use Rattle.period_order.specs.Order.{is_close}
+use Rattle.period_order.specs.Order.{is_close_entry}
 use Rattle.period_order.specs.Places.{operator_number, order_entry, order_of, provider_number}
 use Rattle.period_order.specs.Resolved.{accounts_of, books_of}
 
@@ -60,7 +60,7 @@ EventsAreKept =
     AreDistinct config → Keeps config books accounts order events → IsAdmitted config command →
     (verdict config (known events) command).event ≡ Some event → AreLengths events command in_book in_account →
     Keeps config
-    (with_added books (book_number config command) (book_entry event (count_by is_close order)))
-    (with_added accounts (account_number config command) (account_entry event (count_by is_close order)))
+    (with_added books (book_number config command) (book_entry event (count_by is_close_entry order)))
+    (with_added accounts (account_number config command) (account_entry event (count_by is_close_entry order)))
     (order ++ order_entry config in_book in_account event ∷ [])
     (events ++ event ∷ [])

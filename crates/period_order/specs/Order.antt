@@ -5,15 +5,15 @@ use Rattle.ocpi_types.specs.declared.refusal.Refusal.{Refusal}
 use Rattle.ocpi_types.specs.declared.refusal.Refusal.TheVariants as refusal
 use Rattle.ocpi_types.specs.declared.refusal.Store.{Store}
 use Rattle.ocpi_types.specs.declared.refusal.Store.TheVariants as store
-use Rattle.plain_house.specs.Room.{are_periods_full, first_full, is_order_full}
+use Rattle.plain_house.specs.Full.{are_periods_full, first_full, is_order_full}
 use Rattle.period_order.specs.declared.order_entry.OrderEntry.{OrderEntry}
 use Rattle.period_order.specs.declared.order_entry.OrderEntry.TheVariants as entry
 
-abbrev pub is_close : OrderEntry → Bool
-is_close (entry.InBook book) = false
-is_close (entry.InAccount account) = false
-is_close (entry.InBoth book account) = false
-is_close entry.Close = true
+abbrev pub is_close_entry : OrderEntry → Bool
+is_close_entry (entry.InBook book) = false
+is_close_entry (entry.InAccount account) = false
+is_close_entry (entry.InBoth book account) = false
+is_close_entry entry.Close = true
 
 -- the event has an entry in a book
 abbrev pub names_book : OrderEntry → Bool
@@ -40,7 +40,7 @@ point_of order = length order.entries
 
 -- the current period: the number of closes so far
 abbrev pub current_of : PlainOrder → ℕ
-current_of order = count_by is_close order.entries
+current_of order = count_by is_close_entry order.entries
 
 -- ---- closing a period
 

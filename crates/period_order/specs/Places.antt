@@ -10,7 +10,7 @@ use Rattle.plain_house.specs.Own.{own_account, own_book}
 use Rattle.period_order.specs.declared.order_entry.OrderEntry.{OrderEntry}
 use Rattle.period_order.specs.declared.order_entry.OrderEntry.TheVariants as entry
 use Rattle.period_order.specs.declared.order_entry.Place.{Place}
-use Rattle.period_order.specs.Order.{is_close, names_account, names_book}
+use Rattle.period_order.specs.Order.{is_close_entry, names_account, names_book}
 
 -- the number of an operator in the configuration, from 0; where it is not configured, the number of operators
 abbrev pub operator_number : Config → Party → ℕ
@@ -79,7 +79,7 @@ order_of config events = order_after config [] events
 -- entry of all books, or of all accounts
 pub record IsCounted (config : Config) (events : List Event) : Type 0 where
   pub entries : length (order_of config events) ≡ length events
-  pub closes : count_by is_close (order_of config events) ≡ period_of events
+  pub closes : count_by is_close_entry (order_of config events) ≡ period_of events
   pub in_books : count_by names_book (order_of config events) ≡ length (book_entries events)
   pub in_accounts : count_by names_account (order_of config events) ≡ length (account_entries events)
 

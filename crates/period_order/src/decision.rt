@@ -15,13 +15,13 @@ use provider_account::Account;
 
 mod authorize;
 mod close;
+mod full;
 mod outcomes;
 mod post;
 mod put_tariff;
 mod put_token;
 mod read;
 mod release;
-mod room;
 mod settle;
 mod statement;
 

@@ -17,21 +17,21 @@ pub struct Order {
 
 impl Model for Order {
     ghost use Rattle.std.specs.Prelude.{◌≡◌, ◌<◌, true, count_by, vec_len, vec_capacity};
-    ghost use Rattle.period_order.specs.Order.{PlainOrder, is_close};
+    ghost use Rattle.period_order.specs.Order.{PlainOrder, is_close_entry};
 
     ghost Value = { PlainOrder };
 
     ghost view = { λ order. record { entries = order.entries.items; has_room = order.has_room } };
 
-    ghost invariant = { λ order. (order.period ≡ count_by is_close order.entries.items)
+    ghost invariant = { λ order. (order.period ≡ count_by is_close_entry order.entries.items)
         × (order.has_room ≡ true → vec_len order.entries < vec_capacity order.entries) };
 }
 
 impl Order {
     ghost use Rattle.std.specs.Prelude.{◌≡◌, [], ◌∷◌, ◌++◌, true, false, OnOk, OnErr};
     ghost use Rattle.ocpi_types.specs.declared.refusal.Store.TheVariants as store;
-    ghost use Rattle.period_order.specs.Order.{current_of, cut, is_close, order_cut, point_of};
-    ghost use Rattle.plain_house.specs.Room.{are_periods_full, first_full, is_order_full};
+    ghost use Rattle.period_order.specs.Order.{current_of, cut, is_close_entry, order_cut, point_of};
+    ghost use Rattle.plain_house.specs.Full.{are_periods_full, first_full, is_order_full};
 
     /// An order without entries.
     pub fn new(alloc: Global) -> Order
@@ -99,7 +99,7 @@ impl Order {
     /// Adds what is kept of an event that is no close, without taking memory.
     pub fn append(&mut self, entry: OrderEntry)
         requires room { self.old.has_room ≡ true }
-        requires stays { is_close entry ≡ false }
+        requires stays { is_close_entry entry ≡ false }
         ensures { self.new ≡ record { entries = self.old.entries ++ entry ∷ []; has_room = false } }
     {
         let _ = self.entries.push(entry);

@@ -24,7 +24,7 @@ use Rattle.plain_house.specs.Booked.{Booked, booked, booked_as, has_id}
 use Rattle.plain_house.specs.Entries.{account_entries, account_entries_from, account_entry, book_entries, book_entries_from, book_entry, charge_of, credit_of, period_after, period_of}
 use Rattle.plain_house.specs.Exposure.{charges, ends_debt, names}
 use Rattle.plain_house.specs.Posting.{original_of}
-use Rattle.plain_house.specs.Room.{is_entry_of}
+use Rattle.plain_house.specs.Full.{is_entry_of}
 use Rattle.plain_house.proofs.DatedLemmas.{are_dated, period_of-push}
 use Rattle.plain_house.proofs.OwnEntries.{IsEndedByOwn}
 use Rattle.plain_house.proofs.SameScope.{FoldedParty, both_are, is_party_of, same_folded_party}

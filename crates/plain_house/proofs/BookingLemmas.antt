@@ -1,38 +1,13 @@
--- What holds of a CDR or Credit CDR that a book takes.
-use Rattle.std.proofs.Common.{◌≡◌, ℕ, ℤ, pos, neg_ℤ, Bool, true, false, not, refl, List, Option, Some, None, Result, Ok, Err, if◌then◌else◌}
+-- What holds of a Credit CDR that a book takes.
+use Rattle.std.proofs.Common.{◌≡◌, ℕ, ℤ, neg_ℤ, Bool, true, false, not, refl, List, Option, Some, None, Ok}
 use Rattle.ocpi_types.specs.declared.cdr.Cdr.{Cdr}
 use Rattle.ocpi_types.specs.declared.config.Config.{Config}
-use Rattle.ocpi_types.specs.declared.refusal.Refusal.{Refusal}
 use Rattle.ocpi_types.specs.declared.refusal.Refusal.TheVariants as refusal
 use Rattle.ocpi_types.specs.Cdr.{is_credit}
 use Rattle.cdr_checks.specs.FirstRefusal.{◌>>=◌, ensure, or_refusal}
 use Rattle.plain_house.specs.declared.entry.BookEntry.{BookEntry}
-use Rattle.plain_house.specs.Booked.{Booked, booked_as, is_credited}
-use Rattle.plain_house.specs.Posting.{as_judged, credited_amount, is_in_window, judged_cdr, judged_credit, meets_original, original_of, taken_back, unless_booked}
-use Rattle.plain_house.specs.Tariffs.{lacks_registered}
-
--- ---- a CDR that is no Credit CDR
-
-pub cdr_taken : (cdr : Cdr) (cost : ℕ) (entries : List BookEntry) (amount : ℤ) → judged_cdr cdr cost entries ≡ Ok amount
-    → (booked_as cdr.operator cdr.id entries ≡ None) × (lacks_registered cdr entries ≡ false)
-cdr_taken cdr cost entries amount h = by (booked_as cdr.operator cdr.id entries) (lacks_registered cdr entries) h
-  where
-    by : (found : Option Booked) (lacks : Bool) → unless_booked cdr found (if lacks then Err (Err refusal.TariffNotRegistered) else Ok (pos cost)) ≡ Ok amount
-        → (found ≡ None) × (lacks ≡ false)
-    by (Some found) lacks g = absurd (cc)
-    by None true g = absurd (cc)
-    by None false g = (refl, refl)
-
--- ---- a Credit CDR
-
-pub credit_taken : (config : Config) (period : ℕ) (credit : Cdr) (entries : List BookEntry) (amount : ℤ) → judged_credit config period credit entries ≡ Ok amount
-    → (booked_as credit.operator credit.id entries ≡ None) × (credited_amount config period credit entries ≡ Ok amount)
-credit_taken config period credit entries amount h = by (booked_as credit.operator credit.id entries) (credited_amount config period credit entries) h
-  where
-    by : (found : Option Booked) (taken : Result ℤ Refusal) → unless_booked credit found (as_judged taken) ≡ Ok amount → (found ≡ None) × (taken ≡ Ok amount)
-    by (Some found) taken g = absurd (cc)
-    by None (Err why) g = absurd (cc)
-    by None (Ok other) g = (refl, cc)
+use Rattle.plain_house.specs.Booked.{Booked, is_credited}
+use Rattle.plain_house.specs.Posting.{credited_amount, is_in_window, meets_original, original_of, taken_back}
 
 -- what an original is that gives an amount
 pub record Gives (config : Config) (period : ℕ) (credit : Cdr) (entries : List BookEntry) (amount : ℤ) (original : Booked) : Type 0 where

@@ -1,5 +1,5 @@
 -- What holds of the CDRs and Credit CDRs that commands book.
-use Rattle.std.proofs.Common.{◌≡◌, ℕ, ℤ, refl, subst, Option, Some, None, Ok}
+use Rattle.std.proofs.Common.{◌≡◌, ℕ, ℤ, false, refl, subst, Option, Some, None, Ok}
 use Rattle.ocpi_types.specs.declared.cdr.Cdr.{Cdr}
 use Rattle.ocpi_types.specs.declared.config.Config.{Config}
 use Rattle.cdr_checks.specs.Admission.{IsAdmitted}
@@ -9,11 +9,13 @@ use Rattle.cdr_checks.specs.Checked.{Checked, IsCostOf}
 use Rattle.cdr_checks.specs.Law.{PostsAreChecked}
 use Rattle.plain_house.specs.declared.event.Event.{Event}
 use Rattle.plain_house.specs.declared.event.Event.TheVariants as event
+use Rattle.plain_house.specs.Booked.{booked_as}
 use Rattle.plain_house.specs.Known.{Known, known}
+use Rattle.plain_house.specs.Tariffs.{lacks_registered}
 use Rattle.plain_house.specs.Legal.{IsGivenBy, IsLegal}
 use Rattle.plain_house.specs.LegalLists.{IsCharged, IsTakenBack, LegalCdrsAreCharged, LegalCreditsAreTakenBack}
-use Rattle.plain_house.specs.Posting.{judged_cdr, judged_credit}
-use Rattle.plain_house.proofs.BookingLemmas.{cdr_taken, credit_taken, taken_from}
+use Rattle.plain_house.specs.Posting.{credited_amount}
+use Rattle.plain_house.proofs.BookingLemmas.{taken_from}
 use Rattle.plain_house.proofs.EventLemmas.{Gives, GivesPost, event_has}
 
 module _ (config : Config) (known : Known) where
@@ -28,24 +30,23 @@ module _ (config : Config) (known : Known) where
   IsRight (event.Settled settlement) = Unit {0}
   IsRight (event.Closed period) = Unit {0}
 
-  charged : PostsAreChecked → (checked : Checked) (cost : ℕ) (amount : ℤ) → IsAdmitted config (command.Post checked) → checked.cost ≡ Some cost
-      → judged_cdr checked.cdr cost known.book ≡ Ok amount → IsCharged config known.book checked.cdr cost
-  charged law checked cost amount admitted is judged =
+  charged : PostsAreChecked → (checked : Checked) (cost : ℕ) → IsAdmitted config (command.Post checked) → checked.cost ≡ Some cost
+      → booked_as checked.cdr.operator checked.cdr.id known.book ≡ None → lacks_registered checked.cdr known.book ≡ false → IsCharged config known.book checked.cdr cost
+  charged law checked cost admitted is unknown registered =
       let has = law config checked admitted in
-      let taken = cdr_taken checked.cdr cost known.book amount judged in
       let is_cost : IsCostOf (Some cost) checked.cdr checked.zone = subst (λ (o : Option ℕ). IsCostOf o checked.cdr checked.zone) is has.at_cost in
       record {
         operator = has.operator;
         configured = has.has_operator;
         priced = subst (λ zone. IsCostOf (Some cost) checked.cdr zone) has.in_zone is_cost;
-        registered = taken.1;
-        unknown = taken.0;
+        registered = registered;
+        unknown = unknown;
       }
 
-  taken_back_by : (cdr : Cdr) (amount : ℤ) → judged_credit config known.period cdr known.book ≡ Ok amount → IsTakenBack config known.book known.period cdr amount
-  taken_back_by cdr amount judged =
-      let taken = credit_taken config known.period cdr known.book amount judged in
-      let found = taken_from config known.period cdr known.book amount taken.1 in
+  taken_back_by : (cdr : Cdr) (amount : ℤ) → booked_as cdr.operator cdr.id known.book ≡ None → credited_amount config known.period cdr known.book ≡ Ok amount
+      → IsTakenBack config known.book known.period cdr amount
+  taken_back_by cdr amount unknown taken =
+      let found = taken_from config known.period cdr known.book amount taken in
       record {
         original = found.0;
         named = found.1;
@@ -54,7 +55,7 @@ module _ (config : Config) (known : Known) where
         once = found.2.once;
         in_window = found.2.in_window;
         same = found.2.same;
-        unknown = taken.0;
+        unknown = unknown;
       }
 
   given : PostsAreChecked → (told : Command) → IsAdmitted config told → Gives config known IsRight told
@@ -65,8 +66,8 @@ module _ (config : Config) (known : Known) where
   given law (command.Post checked) admitted = by checked.cost refl
     where
       by : (cost : Option ℕ) → checked.cost ≡ cost → GivesPost config known IsRight checked.cdr cost
-      by None is = λ amount judged room account. taken_back_by checked.cdr amount judged
-      by (Some cost) is = λ amount judged room account within. charged law checked cost amount admitted is judged
+      by None is = λ amount unknown taken room account. taken_back_by checked.cdr amount unknown taken
+      by (Some cost) is = λ unknown registered room account within. charged law checked cost admitted is unknown registered
   given law (command.Close close) admitted = λ current. tt
   given law (command.Settle settlement) admitted = λ room. tt
   given law (command.Exposure ask) admitted = tt

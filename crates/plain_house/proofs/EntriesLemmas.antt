@@ -18,7 +18,7 @@ use Rattle.plain_house.specs.Exposure.{ends_debt, ends_hold, open_holds}
 use Rattle.plain_house.specs.House.{is_hold_of}
 use Rattle.cdr_checks.specs.declared.request.Settlement.{Settlement}
 use Rattle.plain_house.specs.Settlements.{is_settled, settles_same}
-use Rattle.plain_house.specs.Room.{is_cdr_of, is_entry_of, is_version_of}
+use Rattle.plain_house.specs.Full.{is_cdr_of, is_entry_of, is_version_of}
 use Rattle.plain_house.specs.Tariffs.{version_in, tariff_versions, is_registered}
 use Rattle.plain_house.specs.Tokens.{token_in, tokens}
 use Rattle.plain_house.specs.Inner.Scanned.{version_of_event, event_registers, event_is_version_of, event_is_cdr_of, event_credits, event_is_entry_of, event_is_hold_of, token_of_event, event_ends_hold, event_ends_debt, event_settles_same, event_open_holds}

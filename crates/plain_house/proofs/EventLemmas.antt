@@ -1,8 +1,9 @@
 -- What is so of the event that a command adds, by what was tested before it is added.
-use Rattle.std.proofs.Common.{◌≡◌, ℕ, ◌==◌, ℤ, pos, List, [], ◌∷◌, Bool, true, false, if◌then◌else◌, refl, subst, eqb-true, Option, None, Some, Ok, Err}
+use Rattle.std.proofs.Common.{◌≡◌, ℕ, ◌==◌, ℤ, pos, List, [], ◌∷◌, Bool, true, false, if◌then◌else◌, refl, subst, eqb-true, Option, None, Some, Result, Ok, Err}
 use Rattle.ocpi_types.specs.declared.cdr.Cdr.{Cdr}
 use Rattle.ocpi_types.specs.declared.config.Config.{Config}
 use Rattle.ocpi_types.specs.declared.party.Party.{Party}
+use Rattle.ocpi_types.specs.declared.refusal.Refusal.{Refusal}
 use Rattle.ocpi_types.specs.declared.refusal.Refusal.TheVariants as refusal
 use Rattle.ocpi_types.specs.declared.refusal.Store.{Store}
 use Rattle.ocpi_types.specs.declared.refusal.Store.TheVariants as store
@@ -19,15 +20,15 @@ use Rattle.plain_house.specs.declared.event.Hold.{Hold}
 use Rattle.plain_house.specs.Booked.{Booked, booked_as}
 use Rattle.plain_house.specs.Entries.{charge_of}
 use Rattle.plain_house.specs.Exposure.{released_hold}
-use Rattle.plain_house.specs.House.{cdr_judged, credit_judged, found_of, hold_for, lacks_credit, no_room_for, positions_in, post_of, release_of, stored_already, unless_covered, unless_current, unless_open, unless_settled, unless_valid, verdict}
+use Rattle.plain_house.specs.House.{cdr_posted, credit_taken, found_of, hold_for, lacks_credit, full_for, full_for_cdr, positions_in, post_of, release_of, stored_already, unless_covered, unless_current, unless_open, unless_settled, unless_valid, verdict}
 use Rattle.plain_house.specs.Known.{Known}
 use Rattle.plain_house.specs.Legal.{EventsAreOfConfigured, IsOfConfigured}
 use Rattle.plain_house.specs.Obligations.{obligations}
 use Rattle.plain_house.specs.Own.{EventsAreOfTheirCommand, IsOfCommand}
-use Rattle.plain_house.specs.Posting.{Judged, judged_cdr, judged_credit, over_limit}
-use Rattle.plain_house.specs.Room.{are_cdrs_full, are_periods_full, are_versions_full, first_full, is_account_full, is_order_full}
+use Rattle.plain_house.specs.Posting.{booked_already, credited_amount, over_limit, unless_registered}
+use Rattle.plain_house.specs.Full.{are_cdrs_full, are_periods_full, are_versions_full, first_full, is_account_full, is_order_full}
 use Rattle.plain_house.specs.Settlements.{is_settled, settled_debt}
-use Rattle.plain_house.specs.Tariffs.{stored_version}
+use Rattle.plain_house.specs.Tariffs.{lacks_registered, stored_version}
 use Rattle.plain_house.specs.Tokens.{validity}
 use Rattle.plain_house.specs.Verdict.{Case, accepts, refused_at, refused_for, replies, unless}
 use Rattle.netting_positions.specs.Statement.{statement_rows}
@@ -43,6 +44,14 @@ second_is_not : (one other : Store) (full also : Bool) (stores : List (Store × 
 second_is_not one other true also stores h = absurd (cc)
 second_is_not one other false true stores h = absurd (cc)
 second_is_not one other false false stores h = refl
+
+not_booked : (cdr : Cdr) (found : Option Booked) → booked_already cdr found ≡ None → found ≡ None
+not_booked cdr None h = refl
+not_booked cdr (Some found) h = absurd (cc)
+
+are_registered : (lacks : Bool) → unless_registered lacks ≡ None → lacks ≡ false
+are_registered true h = absurd (cc)
+are_registered false h = refl
 
 is_covered : (lacks : Bool) → unless_covered lacks ≡ None → lacks ≡ false
 is_covered true h = absurd (cc)
@@ -61,22 +70,18 @@ current_period period current h = by (period == current) refl h
 -- ---- the event
 
 module _ (config : Config) (known : Known) where
-  abbrev pub HasRoom : Party → Type 0
-  HasRoom provider = is_account_full config provider known.account ≡ false
+  abbrev pub IsNotFull : Party → Type 0
+  IsNotFull provider = is_account_full config provider known.account ≡ false
 
-  abbrev room_case : Cdr → Case
-  room_case cdr =
-      refused_at (first_full ((store.Cdrs, are_cdrs_full config cdr.operator known.book) ∷ (store.Account, is_account_full config cdr.cdr_token.provider known.account) ∷ (store.Order, is_order_full config known.point) ∷ []))
-
-  has_room : (provider : Party) → no_room_for config known provider ≡ None → HasRoom provider
+  has_room : (provider : Party) → full_for config known provider ≡ None → IsNotFull provider
   has_room provider none = first_is_not store.Account (is_account_full config provider known.account) ((store.Order, is_order_full config known.point) ∷ []) none
 
-  has_cdr_room : (cdr : Cdr) → room_case cdr ≡ None → are_cdrs_full config cdr.operator known.book ≡ false
+  has_cdr_room : (cdr : Cdr) → full_for_cdr config known cdr ≡ None → are_cdrs_full config cdr.operator known.book ≡ false
   has_cdr_room cdr none =
       first_is_not store.Cdrs (are_cdrs_full config cdr.operator known.book)
       ((store.Account, is_account_full config cdr.cdr_token.provider known.account) ∷ (store.Order, is_order_full config known.point) ∷ []) none
 
-  has_account_room : (cdr : Cdr) → room_case cdr ≡ None → HasRoom cdr.cdr_token.provider
+  has_account_room : (cdr : Cdr) → full_for_cdr config known cdr ≡ None → IsNotFull cdr.cdr_token.provider
   has_account_room cdr none =
       second_is_not store.Cdrs store.Account (are_cdrs_full config cdr.operator known.book) (is_account_full config cdr.cdr_token.provider known.account)
       ((store.Order, is_order_full config known.point) ∷ []) none
@@ -88,22 +93,22 @@ module _ (config : Config) (known : Known) where
 module _ (config : Config) (known : Known) (Has : Event → Type 0) where
   abbrev pub GivesPost : Cdr → Option ℕ → Type 0
   GivesPost cdr None =
-      (amount : ℤ) → judged_credit config known.period cdr known.book ≡ Ok amount → are_cdrs_full config cdr.operator known.book ≡ false →
-      HasRoom config known cdr.cdr_token.provider → Has (event.Credit cdr amount)
+      (amount : ℤ) → booked_as cdr.operator cdr.id known.book ≡ None → credited_amount config known.period cdr known.book ≡ Ok amount →
+      are_cdrs_full config cdr.operator known.book ≡ false → IsNotFull config known cdr.cdr_token.provider → Has (event.Credit cdr amount)
   GivesPost cdr (Some cost) =
-      (amount : ℤ) → judged_cdr cdr cost known.book ≡ Ok amount → are_cdrs_full config cdr.operator known.book ≡ false →
-      HasRoom config known cdr.cdr_token.provider → over_limit config (charge_of cdr cost known.period) known.account ≡ None → Has (event.Cdr cdr cost)
+      booked_as cdr.operator cdr.id known.book ≡ None → lacks_registered cdr known.book ≡ false → are_cdrs_full config cdr.operator known.book ≡ false →
+      IsNotFull config known cdr.cdr_token.provider → over_limit config (charge_of cdr cost known.period) known.account ≡ None → Has (event.Cdr cdr cost)
 
   -- it is so of each event that the command can add, after its tests
   abbrev pub Gives : Command → Type 0
   Gives (command.PutTariff tariff) = are_versions_full config tariff.operator known.book ≡ false → Has (event.Tariff tariff)
-  Gives (command.PutToken token) = HasRoom config known token.provider → Has (event.Token token)
+  Gives (command.PutToken token) = IsNotFull config known token.provider → Has (event.Token token)
   Gives (command.Authorize ask) =
-      HasRoom config known ask.provider → lacks_credit config ask known.account ≡ false → Has (event.Authorised (hold_for config ask known.account))
-  Gives (command.Release release) = HasRoom config known release.provider → Has (event.Released release)
+      IsNotFull config known ask.provider → lacks_credit config ask known.account ≡ false → Has (event.Authorised (hold_for config ask known.account))
+  Gives (command.Release release) = IsNotFull config known release.provider → Has (event.Released release)
   Gives (command.Post checked) = GivesPost checked.cdr checked.cost
   Gives (command.Close close) = close.period ≡ known.period → Has (event.Closed close.period)
-  Gives (command.Settle settlement) = HasRoom config known settlement.provider → Has (event.Settled settlement)
+  Gives (command.Settle settlement) = IsNotFull config known settlement.provider → Has (event.Settled settlement)
   Gives (command.Exposure ask) = Unit {0}
   Gives (command.Find find) = Unit {0}
   Gives (command.Statement ask) = Unit {0}
@@ -115,26 +120,37 @@ module _ (config : Config) (known : Known) (Has : Event → Type 0) where
         let same : x ≡ e = cc (found.1) in
         subst Has same (has found.0)
 
-    of_cdr : (cdr : Cdr) (cost : ℕ) (judged : Judged) → judged_cdr cdr cost known.book ≡ judged → (cdr_judged config known cdr cost judged).event ≡ Some e → GivesPost cdr (Some cost) → Has e
-    of_cdr cdr cost (Err reply) is h gives = absurd (cc)
-    of_cdr cdr cost (Ok amount) is h gives =
-        accepted (room_case config known cdr ∷ refused_for (over_limit config (charge_of cdr cost known.period) known.account) ∷ []) (answer.Accepted amount known.period) (event.Cdr cdr cost) h
-        (λ none. gives amount is (has_cdr_room config known cdr none.0) (has_account_room config known cdr none.0) (no_refusal (over_limit config (charge_of cdr cost known.period) known.account) none.1.0))
+    of_cdr : (cdr : Cdr) (cost : ℕ) → (cdr_posted config known cdr cost).event ≡ Some e → GivesPost cdr (Some cost) → Has e
+    of_cdr cdr cost h gives =
+        let found = booked_as cdr.operator cdr.id known.book in
+        let over = over_limit config (charge_of cdr cost known.period) known.account in
+        accepted
+        (booked_already cdr found ∷ unless_registered (lacks_registered cdr known.book) ∷ full_for_cdr config known cdr ∷ refused_for over ∷ [])
+        (answer.Accepted (pos cost) known.period) (event.Cdr cdr cost) h
+        (λ none.
+        gives (not_booked cdr found none.0) (are_registered (lacks_registered cdr known.book) none.1.0) (has_cdr_room config known cdr none.1.1.0)
+        (has_account_room config known cdr none.1.1.0) (no_refusal over none.1.1.1.0))
 
-    of_credit : (cdr : Cdr) (judged : Judged) → judged_credit config known.period cdr known.book ≡ judged → (credit_judged config known cdr judged).event ≡ Some e → GivesPost cdr None → Has e
-    of_credit cdr (Err reply) is h gives = absurd (cc)
-    of_credit cdr (Ok amount) is h gives =
-        accepted (room_case config known cdr ∷ refused_for None ∷ []) (answer.Accepted amount known.period) (event.Credit cdr amount) h
-        (λ none. gives amount is (has_cdr_room config known cdr none.0) (has_account_room config known cdr none.0))
+    of_taken : (cdr : Cdr) (taken : Result ℤ Refusal) → credited_amount config known.period cdr known.book ≡ taken → booked_as cdr.operator cdr.id known.book ≡ None
+        → (credit_taken config known cdr taken).event ≡ Some e → GivesPost cdr None → Has e
+    of_taken cdr (Err why) is found h gives = absurd (cc)
+    of_taken cdr (Ok amount) is found h gives =
+        accepted (full_for_cdr config known cdr ∷ []) (answer.Accepted amount known.period) (event.Credit cdr amount) h
+        (λ none. gives amount found is (has_cdr_room config known cdr none.0) (has_account_room config known cdr none.0))
+
+    of_credit : (cdr : Cdr) (found : Option Booked) → booked_as cdr.operator cdr.id known.book ≡ found
+        → (unless (booked_already cdr found ∷ []) (credit_taken config known cdr (credited_amount config known.period cdr known.book))).event ≡ Some e → GivesPost cdr None → Has e
+    of_credit cdr None is h gives = of_taken cdr (credited_amount config known.period cdr known.book) refl is h gives
+    of_credit cdr (Some found) is h gives = absurd (cc)
 
     of_post : (cdr : Cdr) (cost : Option ℕ) → (post_of config known cdr cost).event ≡ Some e → GivesPost cdr cost → Has e
-    of_post cdr None h gives = of_credit cdr (judged_credit config known.period cdr known.book) refl h gives
-    of_post cdr (Some cost) h gives = of_cdr cdr cost (judged_cdr cdr cost known.book) refl h gives
+    of_post cdr None h gives = of_credit cdr (booked_as cdr.operator cdr.id known.book) refl h gives
+    of_post cdr (Some cost) h gives = of_cdr cdr cost h gives
 
     of_release : (release : Release) (hold : Option Hold) → (release_of config known release hold).event ≡ Some e → Gives (command.Release release) → Has e
     of_release release None h gives = absurd (cc)
     of_release release (Some held) h gives =
-        accepted (no_room_for config known release.provider ∷ []) (answer.Released (pos held.amount)) (event.Released release) h
+        accepted (full_for config known release.provider ∷ []) (answer.Released (pos held.amount)) (event.Released release) h
         (λ none. gives (has_room config known release.provider none.0))
 
     of_find : (find : Find) (found : Option Booked) → (found_of find known.book found).event ≡ Some e → Has e
@@ -148,10 +164,10 @@ module _ (config : Config) (known : Known) (Has : Event → Type 0) where
         ∷ refused_at (first_full ((store.Tariffs, are_versions_full config tariff.operator known.book) ∷ (store.Order, is_order_full config known.point) ∷ []))
         ∷ []) answer.Stored (event.Tariff tariff) h (λ none. gives (has_version_room config known tariff.operator none.1.0))
     event_has (command.PutToken token) gives h =
-        accepted (no_room_for config known token.provider ∷ []) answer.Stored (event.Token token) h (λ none. gives (has_room config known token.provider none.0))
+        accepted (full_for config known token.provider ∷ []) answer.Stored (event.Token token) h (λ none. gives (has_room config known token.provider none.0))
     event_has (command.Authorize ask) gives h =
         accepted
-        (unless_valid (validity ask.provider ask.uid ask.kind known.account) ∷ no_room_for config known ask.provider
+        (unless_valid (validity ask.provider ask.uid ask.kind known.account) ∷ full_for config known ask.provider
         ∷ unless_covered (lacks_credit config ask known.account) ∷ []) (answer.Allowed (hold_for config ask known.account).reference)
         (event.Authorised (hold_for config ask known.account)) h
         (λ none. gives (has_room config known ask.provider none.1.0) (is_covered (lacks_credit config ask known.account) none.1.1.0))
@@ -165,7 +181,7 @@ module _ (config : Config) (known : Known) (Has : Event → Type 0) where
         (λ none. gives (current_period close.period known.period none.0))
     event_has (command.Settle settlement) gives h =
         accepted
-        (unless_open settlement.period known.period ∷ unless_settled (is_settled settlement known.account) ∷ no_room_for config known settlement.provider ∷ [])
+        (unless_open settlement.period known.period ∷ unless_settled (is_settled settlement known.account) ∷ full_for config known settlement.provider ∷ [])
         (answer.Settled (pos (settled_debt settlement known.account))) (event.Settled settlement) h (λ none. gives (has_room config known settlement.provider none.1.1.0))
     event_has (command.Exposure ask) gives h = absurd (cc)
     event_has (command.Find find) gives h = of_find find (booked_as find.operator find.id known.book) h
@@ -183,8 +199,8 @@ gives_own config known (command.Release release) = λ room. (refl, refl)
 gives_own config known (command.Post checked) = by checked.cost
   where
     by : (cost : Option ℕ) → GivesPost config known (IsOfCommand (command.Post checked)) checked.cdr cost
-    by None = λ amount judged room account. (refl, refl)
-    by (Some cost) = λ amount judged room account within. (refl, refl)
+    by None = λ amount unknown taken room account. (refl, refl)
+    by (Some cost) = λ unknown registered room account within. (refl, refl)
 gives_own config known (command.Close close) = λ current. (refl, refl)
 gives_own config known (command.Settle settlement) = λ room. (refl, refl)
 gives_own config known (command.Exposure ask) = tt
@@ -208,8 +224,8 @@ gives_now config known (command.Release release) = λ room. tt
 gives_now config known (command.Post checked) = by checked.cost
   where
     by : (cost : Option ℕ) → GivesPost config known (ClosesNow known.period) checked.cdr cost
-    by None = λ amount judged room account. tt
-    by (Some cost) = λ amount judged room account within. tt
+    by None = λ amount unknown taken room account. tt
+    by (Some cost) = λ unknown registered room account within. tt
 gives_now config known (command.Close close) = λ current. current
 gives_now config known (command.Settle settlement) = λ room. tt
 gives_now config known (command.Exposure ask) = tt

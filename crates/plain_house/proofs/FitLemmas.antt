@@ -16,7 +16,7 @@ pub replies_do : RepliesAreShort → RepliesFit
 replies_do short config events command reply now most enough netted does = by (is_no_memory reply) refl
   where
     by : (b : Bool) → is_no_memory reply ≡ b → FitsIn most reply
-    by true lacking = subst (FitsIn most) (sym (does.refused_is lacking)) tt
+    by true lacking = subst (FitsIn most) (sym (does.refused lacking).0) tt
     by false told =
         let fits : rows_of (verdict config (known events) command).reply ≤ most = omega (arith, enough, short config (known events) command netted) in
-        subst (FitsIn most) (sym (does.reply_is told)) (stamped_fits most (length events) (verdict config (known events) command).reply fits)
+        subst (FitsIn most) (sym (does.told told).0) (stamped_fits most (length events) (verdict config (known events) command).reply fits)

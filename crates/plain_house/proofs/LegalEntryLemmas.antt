@@ -19,7 +19,7 @@ use Rattle.plain_house.specs.Known.{Known}
 use Rattle.plain_house.specs.Legal.{IsGivenBy}
 use Rattle.plain_house.specs.LegalEntries.{EmptyEntriesAreLegal, EventsKeepAccountsLegal, EventsKeepBooksLegal, IsGivenToAccount, IsGivenToBook, IsLegalAccount, IsLegalBook, LegalAccountsBeginLegally, LegalAccountsHaveRoom, LegalAccountsKeepLimits, LegalBooksAreCharged, LegalBooksAreTakenBack, LegalBooksBeginLegally, LegalBooksCanBeNetted, LegalBooksHaveRoom}
 use Rattle.plain_house.specs.LegalLists.{IsCharged, IsTakenBack, KeepsLimits}
-use Rattle.plain_house.specs.Room.{is_account_full, is_entry_of}
+use Rattle.plain_house.specs.Full.{is_account_full, is_entry_of}
 use Rattle.plain_house.proofs.ChargeLemmas.{IsRight, is_right}
 use Rattle.plain_house.proofs.EventLemmas.{Gives, GivesPost, event_has}
 use Rattle.plain_house.proofs.GrownLemmas.{given_before, given_empty, given_push, grown}
@@ -120,8 +120,8 @@ module _ (config : Config) (known : Known) (room : (provider : Party) → count_
   room_with x its is fits = counted_one is_entry_of config.limits.entries known.account x its is (λ a b same y. entry_along a b y same) fits room
 
   room_post : (cdr : Cdr) (cost : Option ℕ) → GivesPost config known HasRoomAfter cdr cost
-  room_post cdr None = λ amount judged cdrs fits. room_with (account.Credit (credit_of cdr amount known.period)) cdr.cdr_token.provider (λ provider. refl) fits
-  room_post cdr (Some cost) = λ amount judged cdrs fits within. room_with (account.Charge (charge_of cdr cost known.period)) cdr.cdr_token.provider (λ provider. refl) fits
+  room_post cdr None = λ amount unknown taken cdrs fits. room_with (account.Credit (credit_of cdr amount known.period)) cdr.cdr_token.provider (λ provider. refl) fits
+  room_post cdr (Some cost) = λ unknown registered cdrs fits within. room_with (account.Charge (charge_of cdr cost known.period)) cdr.cdr_token.provider (λ provider. refl) fits
 
   room_given : (told : Command) → Gives config known HasRoomAfter told
   room_given (command.PutTariff tariff) = λ fits. room_as_is

@@ -34,5 +34,5 @@ legal_after config events told legal admitted = by (verdict config (known events
 -- what a reply leaves
 pub legal_given : (config : Config) (events : List Event) (told : Command) (reply : Reply) (now : List Event) (lacking : Bool) → is_no_memory reply ≡ lacking
     → IsLegal config events → IsAdmitted config told → Does config events told reply now → IsLegal config now
-legal_given config events told reply now true e legal admitted does = subst (IsLegal config) (sym (does.unchanged e)) legal
-legal_given config events told reply now false e legal admitted does = subst (IsLegal config) (sym (does.events_are e)) (legal_after config events told legal admitted)
+legal_given config events told reply now true e legal admitted does = subst (IsLegal config) (sym (does.refused e).1) legal
+legal_given config events told reply now false e legal admitted does = subst (IsLegal config) (sym (does.told e).1) (legal_after config events told legal admitted)

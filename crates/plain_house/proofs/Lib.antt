@@ -1,7 +1,7 @@
+pub mod BalanceLemmas
 pub mod BookedLemmas
 pub mod BookedOnce
 pub mod BookingLemmas
-pub mod BalanceLemmas
 pub mod ChargeLemmas
 pub mod DatedLemmas
 pub mod DebtsLemmas
@@ -24,12 +24,13 @@ pub mod OwnEntries
 pub mod OwnExposure
 pub mod OwnVerdict
 pub mod PeriodsLemmas
+pub mod PostedLemmas
 pub mod PrintableLemmas
 pub mod ReplyLemmas
 pub mod SameScope
 pub mod SettlementLemmas
 pub mod SoundLemmas
 pub mod TariffsLemmas
-pub mod ToldLemmas
 pub mod TokensLemmas
+pub mod ToldLemmas
 pub mod VerdictLemmas

@@ -168,8 +168,8 @@ module _ (config : Config) (known : Known) (keeps : KeepsLimits config known.acc
   no_entry = subst (KeepsLimits config) (sym (append-nil known.account)) keeps
 
   given_post : (cdr : Cdr) (cost : Option ℕ) → GivesPost config known KeepsAfter cdr cost
-  given_post cdr None = λ amount judged cdrs room. light (account.Credit (credit_of cdr amount known.period)) (λ provider currency. refl) (λ operator provider currency. refl)
-  given_post cdr (Some cost) = λ amount judged cdrs room within. keeps_charge config (charge_of cdr cost known.period) known.account keeps within
+  given_post cdr None = λ amount unknown taken cdrs room. light (account.Credit (credit_of cdr amount known.period)) (λ provider currency. refl) (λ operator provider currency. refl)
+  given_post cdr (Some cost) = λ unknown registered cdrs room within. keeps_charge config (charge_of cdr cost known.period) known.account keeps within
 
   given : (told : Command) → Gives config known KeepsAfter told
   given (command.PutTariff tariff) = λ room. no_entry

@@ -19,7 +19,7 @@ use Rattle.plain_house.specs.Legal.{IsGiven, IsLegal}
 use Rattle.plain_house.specs.LegalEntries.{IsLegalAccount, IsLegalBook, LegalListsHaveLegalEntries}
 use Rattle.plain_house.specs.LegalLists.{KeepsLimits, LegalListsCanBeNetted, LegalListsKeepLimits}
 use Rattle.plain_house.specs.Own.{BooksAreOfOwnEntries, EventsAreOfTheirCommand, IsOfCommand, VerdictsAreOfOwnEntries, is_in_book_of, of_account, of_operator, own_account, own_book, own_known}
-use Rattle.plain_house.specs.Room.{is_entry_of, own_entries}
+use Rattle.plain_house.specs.Full.{is_entry_of, own_entries}
 use Rattle.plain_house.specs.Verdict.{Verdict}
 use Rattle.plain_house.proofs.DatedLemmas.{are_dated}
 use Rattle.plain_house.proofs.ExposureLater.{entries_push}

@@ -19,7 +19,7 @@ use Rattle.plain_house.specs.declared.entry.BookEntry.TheVariants as book
 use Rattle.plain_house.specs.Booked.{Booked, booked}
 use Rattle.plain_house.specs.LegalLists.{CanBeNetted}
 use Rattle.plain_house.specs.Obligations.{is_of_period, obligation_of}
-use Rattle.plain_house.specs.Room.{is_cdr_of}
+use Rattle.plain_house.specs.Full.{is_cdr_of}
 use Rattle.plain_house.proofs.SameScope.{FoldedParty, is_party_of, same_folded_party}
 use Rattle.plain_house.proofs.SettlementLemmas.{party_symm}
 use Rattle.plain_house.proofs.SoundLemmas.{AreSound, IsSound}

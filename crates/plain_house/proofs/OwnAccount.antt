@@ -27,12 +27,12 @@ use Rattle.plain_house.specs.declared.scope.Scope.{Scope}
 use Rattle.plain_house.specs.Booked.{booked_as}
 use Rattle.plain_house.specs.Entries.{account_entries, book_entries, charge_of, period_of}
 use Rattle.plain_house.specs.Exposure.{ends_debt, ends_hold, exposure_of, of_pair, of_provider, open_holds, released_hold}
-use Rattle.plain_house.specs.House.{as_configured, exposed, hold_for, is_hold_of, lacks_credit, passes, reference_text}
+use Rattle.plain_house.specs.House.{provider_as_configured, exposed, hold_for, is_hold_of, lacks_credit, passes, reference_text}
 use Rattle.plain_house.specs.Legal.{IsLegal}
 use Rattle.plain_house.specs.LegalLists.{LegalCdrsAreCharged, LegalCreditsAreTakenBack}
 use Rattle.plain_house.specs.Own.{AccountsAreOfOwnEntries, IsOfOwnEntries, own_account}
 use Rattle.plain_house.specs.Posting.{above, above_if_any, over_limit}
-use Rattle.plain_house.specs.Room.{is_account_full, is_entry_of, own_entries}
+use Rattle.plain_house.specs.Full.{is_account_full, is_entry_of, own_entries}
 use Rattle.plain_house.specs.Settlements.{is_settled, settled_debt, settles_same}
 use Rattle.plain_house.specs.Tokens.{is_token, token_in, tokens, validity}
 use Rattle.plain_house.proofs.BookedOnce.{are_ended_by_own, first_of_three, party_itself}
@@ -79,7 +79,7 @@ hold_is_entry provider (account.Settlement settlement) h = absurd (cc)
 hold_of_own : (config : Config) (ask : Authorize) (entries : List AccountEntry) → hold_for config ask (own_entries ask.provider entries) ≡ hold_for config ask entries
 hold_of_own config ask entries =
     let hold : List ℕ → Hold = λ reference. record { operator = ask.operator; provider = ask.provider; currency = ask.currency; amount = hold_of config ask.provider ask.currency; reference = reference } in
-    ap (λ n. hold (reference_text (as_configured config ask.provider) (n + 1)))
+    ap (λ n. hold (reference_text (provider_as_configured config ask.provider) (n + 1)))
     (count_kept (is_hold_of ask.provider) (is_entry_of ask.provider) (hold_is_entry ask.provider) entries)
 
 released_of_own : (release : Release) (entries : List AccountEntry) → released_hold (own_entries release.provider entries) release ≡ released_hold entries release

@@ -16,8 +16,8 @@ use Rattle.plain_house.specs.declared.entry.BookEntry.TheVariants as book
 use Rattle.plain_house.specs.Booked.{Booked, booked, booked_as, booked_in, credits, has_id, is_credited}
 use Rattle.plain_house.specs.Exposure.{names}
 use Rattle.plain_house.specs.Own.{BooksAreOfOwnEntries, is_in_book_of, own_book}
-use Rattle.plain_house.specs.Posting.{as_judged, credited_amount, judged_cdr, judged_credit, original_of, unless_booked}
-use Rattle.plain_house.specs.Room.{is_cdr_of, is_version_of}
+use Rattle.plain_house.specs.Posting.{booked_already, credited_amount, judged_by, judged_cdr, judged_credit, original_of}
+use Rattle.plain_house.specs.Full.{is_cdr_of, is_version_of}
 use Rattle.plain_house.specs.Tariffs.{is_registered, lacks_registered, same_version, stored_version, tariff_versions, version_in}
 use Rattle.plain_house.proofs.BookedOnce.{party_itself}
 use Rattle.plain_house.proofs.KeptLemmas.{count_kept, find_kept, flat_kept, none_of}
@@ -111,8 +111,8 @@ version_in_book operator (book.Credit cdr amount period) h = absurd (cc)
 
 -- ---- CDRs and Credit CDRs
 
-judged_of : (operator : Party) (entries : List BookEntry) (cdr : Cdr) (cost : ℕ) → same_party cdr.operator operator ≡ true → judged_cdr cdr cost (own_book operator entries) ≡ judged_cdr cdr cost entries
-judged_of operator entries cdr cost same = rw (its_booked operator entries cdr.operator same cdr.id, lacks operator entries cdr same)
+judged_of : (operator : Party) (entries : List BookEntry) (cdr : Cdr) → same_party cdr.operator operator ≡ true → judged_cdr cdr (own_book operator entries) ≡ judged_cdr cdr entries
+judged_of operator entries cdr same = rw (its_booked operator entries cdr.operator same cdr.id, lacks operator entries cdr same)
 
 find_passes : (p : Booked → Bool) (xs : List Booked) (found : Booked) → find p xs ≡ Some found → p found ≡ true
 find_passes p [] found e = absurd (cc)
@@ -148,7 +148,7 @@ module _ (operator : Party) (entries : List BookEntry) (credit : Cdr) (same : sa
 
   judged_credit_of : (config : Config) (period : ℕ) → judged_credit config period credit (own_book operator entries) ≡ judged_credit config period credit entries
   judged_credit_of config period =
-      ap₂ (λ found amount. unless_booked credit found (as_judged amount)) (its_booked operator entries credit.operator same credit.id) (its_amount config period)
+      ap₂ (λ found amount. judged_by (booked_already credit found) amount) (its_booked operator entries credit.operator same credit.id) (its_amount config period)
 
 pub books_of_own : BooksAreOfOwnEntries
 books_of_own operator entries = record {
@@ -160,5 +160,6 @@ books_of_own operator entries = record {
   versions_full = λ config. ap (nat_le config.limits.tariffs) (count_kept (is_version_of operator) (is_in_book_of operator) (version_in_book operator) entries);
   cdr = judged_of operator entries;
   credit = λ config period credit same. judged_credit_of operator entries credit same config period;
+  taken = λ config period credit same. its_amount operator entries credit same config period;
   spelling = λ party same. filter_agree (is_in_book_of party) (is_in_book_of operator) (λ entry. entry_along party operator entry same) entries;
 }

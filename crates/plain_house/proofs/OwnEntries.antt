@@ -13,7 +13,7 @@ use Rattle.plain_house.specs.declared.entry.AccountEntry.{AccountEntry}
 use Rattle.plain_house.specs.declared.entry.AccountEntry.TheVariants as account
 use Rattle.plain_house.specs.declared.entry.Charge.{Charge}
 use Rattle.plain_house.specs.Exposure.{charge_in, charges, charges_within, debts_of, ends_debt, ends_hold, holds_of, holds_within, is_by, is_owed, names, open_hold, open_holds, total_charged, total_held}
-use Rattle.plain_house.specs.Room.{is_entry_of, own_entries}
+use Rattle.plain_house.specs.Full.{is_entry_of, own_entries}
 use Rattle.plain_house.proofs.KeptLemmas.{IsWithin, filter_kept, flat_kept, none_of}
 use Rattle.plain_house.proofs.SameScope.{both_are, is_party_of, same_folded_party, FoldedParty}
 

@@ -1,8 +1,8 @@
 -- On a legal list a verdict is decided by the entries of the command's own operator and provider.
-use Rattle.std.proofs.Common.{◌≡◌, ℕ, ℤ, pos, length, List, [], ◌∷◌, Bool, refl, ap, ap₂, ◌∙◌, Option, None, Some, Ok, Err, if◌then◌else◌}
+use Rattle.std.proofs.Common.{◌≡◌, ℕ, ℤ, pos, length, List, [], ◌∷◌, Bool, refl, ap, ap₂, ◌∙◌, Option, None, Some, Result, Ok, Err}
 use Rattle.ocpi_types.specs.declared.cdr.Cdr.{Cdr}
 use Rattle.ocpi_types.specs.declared.config.Config.{Config}
-use Rattle.ocpi_types.specs.declared.refusal.Refusal.TheVariants as refusal
+use Rattle.ocpi_types.specs.declared.refusal.Refusal.{Refusal}
 use Rattle.ocpi_types.specs.declared.refusal.Store.TheVariants as store
 use Rattle.cdr_checks.specs.declared.request.Release.{Release}
 use Rattle.cdr_checks.specs.declared.request.Settlement.{Settlement}
@@ -12,17 +12,16 @@ use Rattle.plain_house.specs.declared.event.Event.{Event}
 use Rattle.plain_house.specs.declared.event.Event.TheVariants as event
 use Rattle.plain_house.specs.declared.event.Hold.{Hold}
 use Rattle.plain_house.specs.Booked.{Booked, booked_as}
-use Rattle.plain_house.specs.Entries.{account_entries, book_entries, charge_of, period_of}
+use Rattle.plain_house.specs.Entries.{account_entries, book_entries, period_of}
 use Rattle.plain_house.specs.Exposure.{released_hold}
-use Rattle.plain_house.specs.House.{allows, cdr_posted, credit_posted, found_of, hold_for, lacks_credit, order_says, post_of, release_of, stored_already, unless_covered, unless_open, unless_settled, unless_valid}
+use Rattle.plain_house.specs.House.{allows, cdr_posted, credit_posted, credit_taken, found_of, hold_for, lacks_credit, post_of, release_of, stored_already, unless_covered, unless_open, unless_settled, unless_valid}
 use Rattle.plain_house.specs.Known.{Known, known}
 use Rattle.plain_house.specs.Own.{AccountsAreOfOwnEntries, BooksAreOfOwnEntries, IsOfOwnAccount, IsOfOwnBook, VerdictsAreOfOwnEntries, own_account, own_book, own_known}
-use Rattle.plain_house.specs.Posting.{AccountSays, Judged, OrderSays, judged_cdr, judged_credit, over_limit, posted_at, unless_booked}
-use Rattle.plain_house.specs.Room.{first_full, is_account_full, is_order_full}
+use Rattle.plain_house.specs.Posting.{booked_already, credited_amount, unless_registered}
+use Rattle.plain_house.specs.Full.{first_full, is_account_full, is_order_full}
 use Rattle.plain_house.specs.Settlements.{is_settled, settled_debt}
-use Rattle.plain_house.specs.Tariffs.{lacks_registered}
 use Rattle.plain_house.specs.Tokens.{validity}
-use Rattle.plain_house.specs.Verdict.{Case, Verdict, accepts, refused_at, replies, unless}
+use Rattle.plain_house.specs.Verdict.{Case, Verdict, accepts, refused_at, refused_for, replies, unless}
 use Rattle.plain_house.proofs.BookedOnce.{party_itself}
 
 -- refused where the provider's account or the order is full
@@ -31,21 +30,10 @@ room_at config point is_full = refused_at (first_full ((store.Account, is_full) 
 
 -- ---- posts
 
--- what book and account say is the same, the account's part where the book does not reply by itself
-same_posted : (one other : Judged) (full again : Bool) (account now : AccountSays) (order : OrderSays) (accepted : ℤ → Verdict)
-    → one ≡ other → full ≡ again → account.is_full ≡ now.is_full → ((amount : ℤ) → other ≡ Ok amount → account.over_limit ≡ now.over_limit)
-    → posted_at one full account order accepted ≡ posted_at other again now order accepted
-same_posted one other full again account now order accepted judged is_full account_full over =
-    ap (λ (j : Judged). posted_at j full account order accepted) judged ∙ by other over
-  where
-    by : (j : Judged) → ((amount : ℤ) → j ≡ Ok amount → account.over_limit ≡ now.over_limit) → posted_at j full account order accepted ≡ posted_at j again now order accepted
-    by (Err reply) over = refl
-    by (Ok amount) over = rw (is_full, account_full, over amount refl)
-
--- a CDR that the book takes is not booked
-not_booked : (cdr : Cdr) (found : Option Booked) (judged : Judged) (amount : ℤ) → unless_booked cdr found judged ≡ Ok amount → found ≡ None
-not_booked cdr None judged amount h = refl
-not_booked cdr (Some found) judged amount h = absurd (cc)
+-- refused where a CDR finds no room
+abbrev cdr_room_at : Config → ℕ → Bool → Bool → Case
+cdr_room_at config point cdrs account =
+    refused_at (first_full ((store.Cdrs, cdrs) ∷ (store.Account, account) ∷ (store.Order, is_order_full config point) ∷ []))
 
 module _ (config : Config) (events : List Event) (cdr : Cdr) (books : IsOfOwnBook cdr.operator (book_entries events)) (accounts : IsOfOwnAccount config events cdr.cdr_token.provider) where
   abbrev own : Known
@@ -56,26 +44,34 @@ module _ (config : Config) (events : List Event) (cdr : Cdr) (books : IsOfOwnBoo
     period = period_of events;
   }
 
+  abbrev cdr_by : ℕ → Option Booked → Bool → Bool → Bool → Option Refusal → Verdict
+  cdr_by cost found lacks cdrs account over =
+      unless
+      (booked_already cdr found ∷ unless_registered lacks ∷ cdr_room_at config (length events) cdrs account ∷ refused_for over ∷ [])
+      (accepts (answer.Accepted (pos cost) (period_of events)) (event.Cdr cdr cost))
+
+  its_booking : booked_as cdr.operator cdr.id own.book ≡ booked_as cdr.operator cdr.id (book_entries events)
+  its_booking = books.booked cdr.id
+
+  -- a limit is asked of a CDR whose id is not booked
+  same_over : (cost : ℕ) (lacks cdrs account : Bool) (one other : Option Refusal) (found : Option Booked) → (found ≡ None → one ≡ other)
+      → cdr_by cost found lacks cdrs account one ≡ cdr_by cost found lacks cdrs account other
+  same_over cost lacks cdrs account one other None same = ap (cdr_by cost None lacks cdrs account) (same refl)
+  same_over cost lacks cdrs account one other (Some found) same = refl
+
   same_cdr : (cost : ℕ) → cdr_posted config own cdr cost ≡ cdr_posted config (known events) cdr cost
   same_cdr cost =
-      same_posted (judged_cdr cdr cost own.book) (judged_cdr cdr cost (book_entries events)) _ _
-      (record { is_full = is_account_full config cdr.cdr_token.provider own.account; over_limit = over_limit config (charge_of cdr cost (period_of events)) own.account })
-      (record { is_full = is_account_full config cdr.cdr_token.provider (account_entries events); over_limit = over_limit config (charge_of cdr cost (period_of events)) (account_entries events) })
-      (order_says config (known events)) (λ amount. accepts (answer.Accepted amount (period_of events)) (event.Cdr cdr cost))
-      (books.cdr cdr cost (party_itself cdr.operator)) (books.cdrs_full config) (accounts.full cdr.cdr_token.provider (party_itself cdr.cdr_token.provider))
-      (λ amount taken.
-      accounts.charge cdr cost (party_itself cdr.cdr_token.provider)
-      (not_booked cdr (booked_as cdr.operator cdr.id (book_entries events))
-      (if lacks_registered cdr (book_entries events) then Err (Err refusal.TariffNotRegistered) else Ok (pos cost)) amount taken))
+      rw (its_booking, books.registered cdr (party_itself cdr.operator), books.cdrs_full config, accounts.full cdr.cdr_token.provider (party_itself cdr.cdr_token.provider))
+      (same_over cost _ _ _ _ _ (booked_as cdr.operator cdr.id (book_entries events)) (accounts.charge cdr cost (party_itself cdr.cdr_token.provider)))
 
   same_credit : credit_posted config own cdr ≡ credit_posted config (known events) cdr
   same_credit =
-      same_posted (judged_credit config (period_of events) cdr own.book) (judged_credit config (period_of events) cdr (book_entries events)) _ _
-      (record { is_full = is_account_full config cdr.cdr_token.provider own.account; over_limit = None })
-      (record { is_full = is_account_full config cdr.cdr_token.provider (account_entries events); over_limit = None })
-      (order_says config (known events)) (λ amount. accepts (answer.Accepted amount (period_of events)) (event.Credit cdr amount))
-      (books.credit config (period_of events) cdr (party_itself cdr.operator)) (books.cdrs_full config) (accounts.full cdr.cdr_token.provider (party_itself cdr.cdr_token.provider))
-      (λ amount taken. refl)
+      rw (its_booking, books.taken config (period_of events) cdr (party_itself cdr.operator)) (same_taken (credited_amount config (period_of events) cdr (book_entries events)))
+    where
+      same_taken : (taken : Result ℤ Refusal) → unless (booked_already cdr (booked_as cdr.operator cdr.id (book_entries events)) ∷ []) (credit_taken config own cdr taken)
+          ≡ unless (booked_already cdr (booked_as cdr.operator cdr.id (book_entries events)) ∷ []) (credit_taken config (known events) cdr taken)
+      same_taken (Err why) = refl
+      same_taken (Ok amount) = rw (books.cdrs_full config, accounts.full cdr.cdr_token.provider (party_itself cdr.cdr_token.provider)) refl
 
   same_post : (cost : Option ℕ) → post_of config own cdr cost ≡ post_of config (known events) cdr cost
   same_post None = same_credit

@@ -31,13 +31,13 @@ use Rattle.plain_house.specs.declared.event.Hold.{Hold}
 use Rattle.plain_house.specs.Booked.{Booked, booked_as, is_credited}
 use Rattle.plain_house.specs.Entries.{charge_of}
 use Rattle.plain_house.specs.Exposure.{debts_of, exposure_of, holds_of, of_pair, of_provider, released_hold}
-use Rattle.plain_house.specs.House.{allows, found_of, hold_for, lacks_credit, no_room_for, positions_in, post_of, release_of, stored_already, unless_covered, unless_current, unless_open, unless_settled, unless_valid, verdict}
+use Rattle.plain_house.specs.House.{allows, cdr_posted, credit_posted, credit_taken, found_of, hold_for, lacks_credit, full_for, full_for_cdr, positions_in, post_of, release_of, stored_already, unless_covered, unless_current, unless_open, unless_settled, unless_valid, verdict}
 use Rattle.plain_house.specs.Known.{Known}
-use Rattle.plain_house.specs.Posting.{AccountSays, Judged, OrderSays, above, above_if_any, as_judged, credited_amount, is_in_window, judged_cdr, judged_credit, meets_original, original_of, over_limit, posted_at, taken_back, unless_booked}
+use Rattle.plain_house.specs.Posting.{above, above_if_any, booked_already, credited_amount, is_in_window, meets_original, original_of, over_limit, taken_back, unless_registered}
 use Rattle.plain_house.specs.Replies.{is_refusal_no_memory}
 use Rattle.netting_positions.specs.Statement.{statement_rows}
 use Rattle.plain_house.specs.Obligations.{obligations}
-use Rattle.plain_house.specs.Room.{are_periods_full, are_versions_full, first_full, is_account_full, is_order_full}
+use Rattle.plain_house.specs.Full.{are_cdrs_full, are_periods_full, are_versions_full, first_full, is_account_full, is_order_full}
 use Rattle.plain_house.specs.Settlements.{is_settled, settled_debt}
 use Rattle.plain_house.specs.Tariffs.{lacks_registered, stored_version}
 use Rattle.plain_house.specs.Tokens.{validity}
@@ -132,61 +132,61 @@ module _ (config : Config) (known : Known) (Is : Verdict → Type 0) (each : IsO
 
   -- ---- posts
 
-  abbrev JudgedIs : Judged → Type 0
-  JudgedIs (Ok amount) = Unit {0}
-  JudgedIs (Err reply) = Is (replies reply)
-
-  unless_booked_is : (cdr : Cdr) (found : Option Booked) (judged : Judged) → JudgedIs judged → JudgedIs (unless_booked cdr found judged)
-  unless_booked_is cdr None judged h = h
-  unless_booked_is cdr (Some found) judged h = by (same_cdr found.cdr cdr)
+  booked_is : (cdr : Cdr) (found : Option Booked) → CaseIs (booked_already cdr found)
+  booked_is cdr None = tt
+  booked_is cdr (Some found) = by (same_cdr found.cdr cdr)
     where
       by : (same : Bool) → Is (replies (if same then Ok (answer.Repeated found.amount found.period) else Err refusal.Conflict))
       by true = each.repeated found.amount found.period
       by false = each.refused refusal.Conflict refl
 
-  cdr_is : (cdr : Cdr) (cost : ℕ) (entries : List BookEntry) → JudgedIs (judged_cdr cdr cost entries)
-  cdr_is cdr cost entries =
-      unless_booked_is cdr (booked_as cdr.operator cdr.id entries) (if lacks_registered cdr entries then Err (Err refusal.TariffNotRegistered) else Ok (pos cost)) (by (lacks_registered cdr entries))
-    where
-      by : (lacks : Bool) → JudgedIs (if lacks then Err (Err refusal.TariffNotRegistered) else Ok (pos cost))
-      by true = each.refused refusal.TariffNotRegistered refl
-      by false = tt
+  registered_is : (lacks : Bool) → CaseIs (unless_registered lacks)
+  registered_is true = each.refused refusal.TariffNotRegistered refl
+  registered_is false = tt
 
-  back_is : (period : ℕ) (credit : Cdr) (credited : Bool) (original : Booked) → JudgedIs (as_judged (taken_back config period credit credited original))
+  room_is : (cdr : Cdr) → CaseIs (full_for_cdr config known cdr)
+  room_is cdr =
+      full_is (first_full ((store.Cdrs, are_cdrs_full config cdr.operator known.book) ∷ (store.Account, is_account_full config cdr.cdr_token.provider known.account) ∷ (store.Order, is_order_full config known.point) ∷ []))
+
+  cdr_is : (cdr : Cdr) (cost : ℕ) → Is (cdr_posted config known cdr cost)
+  cdr_is cdr cost =
+      let found = booked_as cdr.operator cdr.id known.book in
+      let over = over_limit config (charge_of cdr cost known.period) known.account in
+      is_unless (booked_already cdr found ∷ unless_registered (lacks_registered cdr known.book) ∷ full_for_cdr config known cdr ∷ refused_for over ∷ [])
+      (accepts (answer.Accepted (pos cost) known.period) (event.Cdr cdr cost))
+      (booked_is cdr found, (registered_is (lacks_registered cdr known.book), (room_is cdr, (over_is (charge_of cdr cost known.period) known.account, tt))))
+      (each.cdr (pos cost) cdr cost)
+
+  back_is : (period : ℕ) (credit : Cdr) (credited : Bool) (original : Booked) → Is (credit_taken config known credit (taken_back config period credit credited original))
   back_is period credit credited original =
       by (not (is_credit original.cdr)) (not credited) (is_in_window config.credit_window original.period period) (meets_original config credit original)
     where
-      by : (a b c d : Bool) → JudgedIs (as_judged (ensure a refusal.CreditOfCredit >>= λ _. (ensure b refusal.AlreadyCredited >>= λ _. (ensure c (refusal.TooLate original.period period) >>= λ _.
-          (ensure d refusal.CreditDiffers >>= λ _. Ok (neg_ℤ original.amount))))))
-      by true true true true = tt
+      by : (a b c d : Bool) → Is (credit_taken config known credit (ensure a refusal.CreditOfCredit >>= λ _. (ensure b refusal.AlreadyCredited >>= λ _.
+          (ensure c (refusal.TooLate original.period period) >>= λ _. (ensure d refusal.CreditDiffers >>= λ _. Ok (neg_ℤ original.amount))))))
+      by true true true true =
+          is_unless (full_for_cdr config known credit ∷ []) (accepts (answer.Accepted (neg_ℤ original.amount) known.period) (event.Credit credit (neg_ℤ original.amount)))
+          (room_is credit, tt) (each.credit (neg_ℤ original.amount) credit)
       by true true true false = each.refused refusal.CreditDiffers refl
       by true true false d = each.refused (refusal.TooLate original.period period) refl
       by true false c d = each.refused refusal.AlreadyCredited refl
       by false b c d = each.refused refusal.CreditOfCredit refl
 
-  credit_is : (period : ℕ) (credit : Cdr) (entries : List BookEntry) → JudgedIs (judged_credit config period credit entries)
-  credit_is period credit entries =
-      unless_booked_is credit (booked_as credit.operator credit.id entries) (as_judged (credited_amount config period credit entries)) (by (original_of credit entries))
+  taken_is : (period : ℕ) (credit : Cdr) (entries : List BookEntry) → Is (credit_taken config known credit (credited_amount config period credit entries))
+  taken_is period credit entries = by (original_of credit entries)
     where
-      by : (o : Option Booked) → JudgedIs (as_judged (or_refusal refusal.UnknownOriginal o >>= λ original. taken_back config period credit (is_credited original.cdr.operator original.cdr.id entries) original))
+      by : (o : Option Booked) → Is (credit_taken config known credit (or_refusal refusal.UnknownOriginal o >>= λ original. taken_back config period credit (is_credited original.cdr.operator original.cdr.id entries) original))
       by None = each.refused refusal.UnknownOriginal refl
       by (Some original) = back_is period credit (is_credited original.cdr.operator original.cdr.id entries) original
 
-  posted_is : (judged : Judged) (is_full : Bool) (account : AccountSays) (order : OrderSays) (accepted : ℤ → Verdict)
-      → JudgedIs judged → CaseIs (refused_for account.over_limit) → ((amount : ℤ) → Is (accepted amount))
-      → Is (posted_at judged is_full account order accepted)
-  posted_is (Err reply) is_full account order accepted judged over last = judged
-  posted_is (Ok amount) is_full account order accepted judged over last =
-      let stores = (store.Cdrs, is_full) ∷ (store.Account, account.is_full) ∷ (store.Order, order.is_full) ∷ [] in
-      is_unless (refused_at (first_full stores) ∷ refused_for account.over_limit ∷ []) (accepted amount) (full_is (first_full stores), (over, tt)) (last amount)
+  credit_is : (credit : Cdr) → Is (credit_posted config known credit)
+  credit_is credit =
+      let found = booked_as credit.operator credit.id known.book in
+      is_unless (booked_already credit found ∷ []) (credit_taken config known credit (credited_amount config known.period credit known.book))
+      (booked_is credit found, tt) (taken_is known.period credit known.book)
 
   post_is : (cdr : Cdr) (cost : Option ℕ) → Is (post_of config known cdr cost)
-  post_is cdr None =
-      posted_is (judged_credit config known.period cdr known.book) _ _ _ (λ amount. accepts (answer.Accepted amount known.period) (event.Credit cdr amount))
-      (credit_is known.period cdr known.book) tt (λ amount. each.credit amount cdr)
-  post_is cdr (Some cost) =
-      posted_is (judged_cdr cdr cost known.book) _ _ _ (λ amount. accepts (answer.Accepted amount known.period) (event.Cdr cdr cost))
-      (cdr_is cdr cost known.book) (over_is (charge_of cdr cost known.period) known.account) (λ amount. each.cdr amount cdr cost)
+  post_is cdr None = credit_is cdr
+  post_is cdr (Some cost) = cdr_is cdr cost
 
   -- ---- commands
 
@@ -196,7 +196,7 @@ module _ (config : Config) (known : Known) (Is : Verdict → Type 0) (each : IsO
   release_is : (release : Release) (hold : Option Hold) → Is (release_of config known release hold)
   release_is release None = each.refused refusal.UnknownHold refl
   release_is release (Some hold) =
-      is_unless (no_room_for config known release.provider ∷ []) (accepts (answer.Released (pos hold.amount)) (event.Released release))
+      is_unless (full_for config known release.provider ∷ []) (accepts (answer.Released (pos hold.amount)) (event.Released release))
       (full_is (room_for release.provider), tt) (each.released (pos hold.amount) release)
 
   found_is : (find : Find) (found : Option Booked) → Is (found_of find known.book found)
@@ -209,11 +209,11 @@ module _ (config : Config) (known : Known) (Is : Verdict → Type 0) (each : IsO
       is_unless (stored_already tariff (stored_version tariff known.book) ∷ refused_at (first_full stores) ∷ []) (accepts answer.Stored (event.Tariff tariff))
       (stored_is tariff (stored_version tariff known.book), (full_is (first_full stores), tt)) (each.tariff tariff)
   is_so (command.PutToken token) =
-      is_unless (no_room_for config known token.provider ∷ []) (accepts answer.Stored (event.Token token)) (full_is (room_for token.provider), tt) (each.token token)
+      is_unless (full_for config known token.provider ∷ []) (accepts answer.Stored (event.Token token)) (full_is (room_for token.provider), tt) (each.token token)
   is_so (command.Authorize ask) =
       let valid = validity ask.provider ask.uid ask.kind known.account in
       let lacks = lacks_credit config ask known.account in
-      is_unless (unless_valid valid ∷ no_room_for config known ask.provider ∷ unless_covered lacks ∷ []) (allows (hold_for config ask known.account))
+      is_unless (unless_valid valid ∷ full_for config known ask.provider ∷ unless_covered lacks ∷ []) (allows (hold_for config ask known.account))
       (valid_is valid, (full_is (room_for ask.provider), (covered_is lacks, tt))) (each.allowed (hold_for config ask known.account))
   is_so (command.Release release) = release_is release (released_hold known.account release)
   is_so (command.Post checked) = post_is checked.cdr checked.cost
@@ -224,7 +224,7 @@ module _ (config : Config) (known : Known) (Is : Verdict → Type 0) (each : IsO
       (refused_is (close.period == known.period) (refusal.NotCurrent known.period) refl, (full_is (first_full stores), tt)) (each.closed close.period)
   is_so (command.Settle settlement) =
       let settled = is_settled settlement known.account in
-      is_unless (unless_open settlement.period known.period ∷ unless_settled settled ∷ no_room_for config known settlement.provider ∷ [])
+      is_unless (unless_open settlement.period known.period ∷ unless_settled settled ∷ full_for config known settlement.provider ∷ [])
       (accepts (answer.Settled (pos (settled_debt settlement known.account))) (event.Settled settlement))
       (refused_is (nat_lt settlement.period known.period) refusal.PeriodOpen refl, (settled_is settled, (full_is (room_for settlement.provider), tt)))
       (each.settled (pos (settled_debt settlement known.account)) settlement)

@@ -22,9 +22,9 @@ use Rattle.plain_house.specs.Booked.{Booked, booked, booked_as, booked_in, has_i
 use Rattle.plain_house.specs.Known.{Known}
 use Rattle.plain_house.specs.Entries.{book_entry}
 use Rattle.plain_house.specs.Legal.{IsGivenBy}
-use Rattle.plain_house.specs.Posting.{judged_credit, original_of}
-use Rattle.plain_house.specs.Room.{are_cdrs_full, are_versions_full, is_cdr_of, is_version_of}
-use Rattle.plain_house.proofs.BookingLemmas.{credit_taken, taken_from}
+use Rattle.plain_house.specs.Posting.{credited_amount, original_of}
+use Rattle.plain_house.specs.Full.{are_cdrs_full, are_versions_full, is_cdr_of, is_version_of}
+use Rattle.plain_house.proofs.BookingLemmas.{taken_from}
 use Rattle.plain_house.proofs.EventLemmas.{Gives, GivesPost, event_has}
 use Rattle.plain_house.proofs.SameScope.{FoldedParty, is_party_of, same_folded_party}
 
@@ -155,12 +155,11 @@ module _ (law : PostsAreChecked) (config : Config) (known : Known) (sound : AreS
       ((ap is_some has.has_operator, has.has_provider, has.has_currency, within), room)
 
   with_credit : (checked : Checked) (amount : ℤ) → IsAdmitted config (command.Post checked)
-      → judged_credit config known.period checked.cdr known.book ≡ Ok amount → are_cdrs_full config checked.cdr.operator known.book ≡ false
+      → credited_amount config known.period checked.cdr known.book ≡ Ok amount → are_cdrs_full config checked.cdr.operator known.book ≡ false
       → IsSoundAfter (event.Credit checked.cdr amount)
-  with_credit checked amount admitted judged room =
+  with_credit checked amount admitted taken room =
       let has = law config checked admitted in
-      let taken = credit_taken config known.period checked.cdr known.book amount judged in
-      let found = taken_from config known.period checked.cdr known.book amount taken.1 in
+      let found = taken_from config known.period checked.cdr known.book amount taken in
       let original : IsSound config found.0 = original_sound config checked.cdr known.book found.0 sound.each found.1 in
       let same_size : unsigned_abs amount ≡ unsigned_abs found.0.amount = ap unsigned_abs found.2.negated ∙ abs_neg found.0.amount in
       let within : unsigned_abs amount ≤ 10 ^ 12 = subst (λ (n : ℕ). n ≤ 10 ^ 12) (sym same_size) original.3 in
@@ -176,8 +175,8 @@ module _ (law : PostsAreChecked) (config : Config) (known : Known) (sound : AreS
   given (command.Post checked) admitted = by checked.cost refl
     where
       by : (cost : Option ℕ) → checked.cost ≡ cost → GivesPost config known IsSoundAfter checked.cdr cost
-      by None is = λ amount judged room account. with_credit checked amount admitted judged room
-      by (Some cost) is = λ amount judged room account within. with_cdr checked cost admitted is room
+      by None is = λ amount unknown taken room account. with_credit checked amount admitted taken room
+      by (Some cost) is = λ unknown registered room account within. with_cdr checked cost admitted is room
   given (command.Close close) admitted = λ current. unbooked config known.book sound
   given (command.Settle settlement) admitted = λ room. unbooked config known.book sound
   given (command.Exposure ask) admitted = tt

@@ -1,5 +1,6 @@
 -- No verdict is want of memory; a reply tells whether an event is added; it has few rows.
-use Rattle.std.proofs.Common.{◌≡◌, ◌≤◌, ◌+◌, ◌*◌, ℕ, suc, List, [], ◌∷◌, ◌++◌, is_some, length, map, refl, ap, arith}
+use Rattle.std.proofs.Common.{◌≡◌, ◌≤◌, ◌*◌, ℕ, suc, List, [], ◌∷◌, is_some, length, map, refl, ap, arith}
+use Rattle.std.proofs.lemmas.List.{length-append}
 use Rattle.ocpi_types.specs.declared.config.Config.{Config}
 use Rattle.ocpi_types.specs.declared.party.Party.{Party}
 use Rattle.netting_positions.specs.declared.obligation.Obligation.{Obligation}
@@ -64,10 +65,6 @@ tell_events config known told = is_so config known Tells (each_tells config know
 
 -- ---- rows
 
-length_joined : {X : Type 0} (xs ys : List X) → length (xs ++ ys) ≡ length xs + length ys
-length_joined [] ys = omega arith
-length_joined (x ∷ xs) ys = omega (arith, length_joined xs ys)
-
 length_mapped : {X Y : Type 0} (f : X → Y) (xs : List X) → length (map f xs) ≡ length xs
 length_mapped f [] = refl
 length_mapped f (x ∷ xs) = ap suc (length_mapped f xs)
@@ -77,7 +74,7 @@ length_of_positions among [] owed = omega arith
 length_of_positions among (currency ∷ currencies) owed =
     let first = map (position owed currency) among in
     let rest = net_positions among currencies owed in
-    omega (arith, length_joined first rest, length_mapped (position owed currency) among, length_of_positions among currencies owed)
+    omega (arith, length-append first rest, length_mapped (position owed currency) among, length_of_positions among currencies owed)
 
 module _ (law : StatementsAreShort) (config : Config) (known : Known) (netted : CanBeNetted config known.book) where
   abbrev most : ℕ

@@ -1,8 +1,9 @@
 -- The reply to a command by what is known, and the event that it adds.
-use Rattle.std.specs.Prelude.{ℕ, ◌+◌, ◌==◌, pos, Bool, true, false, ◌||◌, List, [], ◌∷◌, ◌++◌, nat_lt, count_by, length, if◌then◌else◌, Option, Some, None, unwrap_or, option_map, codes, decimal, Ok, Err}
+use Rattle.std.specs.Prelude.{ℕ, ℤ, ◌+◌, ◌==◌, pos, Bool, true, false, ◌||◌, List, [], ◌∷◌, ◌++◌, nat_lt, count_by, length, if◌then◌else◌, Option, Some, None, unwrap_or, option_map, codes, decimal, Result, Ok, Err}
 use Rattle.ocpi_types.specs.declared.cdr.Cdr.{Cdr}
 use Rattle.ocpi_types.specs.declared.config.Config.{Config}
 use Rattle.ocpi_types.specs.declared.party.Party.{Party}
+use Rattle.ocpi_types.specs.declared.refusal.Refusal.{Refusal}
 use Rattle.ocpi_types.specs.declared.refusal.Refusal.TheVariants as refusal
 use Rattle.ocpi_types.specs.declared.refusal.Store.TheVariants as store
 use Rattle.ocpi_types.specs.declared.tariff.Tariff.{Tariff}
@@ -35,13 +36,13 @@ use Rattle.plain_house.specs.Entries.{charge_of}
 use Rattle.plain_house.specs.Exposure.{of_provider, of_pair, released_hold, holds_of, debts_of, exposure_of}
 use Rattle.plain_house.specs.Known.{Known, known}
 use Rattle.plain_house.specs.Obligations.{obligations}
-use Rattle.plain_house.specs.Posting.{Judged, OrderSays, judged_cdr, judged_credit, over_limit, posted}
+use Rattle.plain_house.specs.Posting.{booked_already, credited_amount, over_limit, unless_registered}
 use Rattle.plain_house.specs.Replies.{Reply, Follows, stamped, with_event}
-use Rattle.plain_house.specs.Room.{are_cdrs_full, are_periods_full, are_versions_full, is_account_full, is_order_full, first_full}
+use Rattle.plain_house.specs.Full.{are_cdrs_full, are_periods_full, are_versions_full, is_account_full, is_order_full, first_full}
 use Rattle.plain_house.specs.Settlements.{is_settled, settled_debt}
-use Rattle.plain_house.specs.Tariffs.{stored_version}
+use Rattle.plain_house.specs.Tariffs.{lacks_registered, stored_version}
 use Rattle.plain_house.specs.Tokens.{validity}
-use Rattle.plain_house.specs.Verdict.{Verdict, Case, replies, accepts, refused_at, unless}
+use Rattle.plain_house.specs.Verdict.{Verdict, Case, replies, accepts, refused_at, refused_for, unless}
 
 -- ---- put_tariff
 
@@ -60,13 +61,13 @@ tariff_put config known tariff =
 -- ---- put_token
 
 -- refused where an entry of the provider's account finds no room
-abbrev pub no_room_for : Config → Known → Party → Case
-no_room_for config known provider =
+abbrev pub full_for : Config → Known → Party → Case
+full_for config known provider =
     refused_at (first_full ((store.Account, is_account_full config provider known.account) ∷ (store.Order, is_order_full config known.point) ∷ []))
 
 abbrev pub token_put : Config → Known → Token → Verdict
 token_put config known token =
-    unless (no_room_for config known token.provider ∷ []) (accepts answer.Stored (event.Token token))
+    unless (full_for config known token.provider ∷ []) (accepts answer.Stored (event.Token token))
 
 -- ---- authorize
 
@@ -79,8 +80,8 @@ is_hold_of provider (account.Credit credit) = false
 is_hold_of provider (account.Settlement settlement) = false
 
 -- a provider as it is configured
-abbrev pub as_configured : Config → Party → Party
-as_configured config party = unwrap_or (option_map (λ provider. provider.party) (provider_of config party)) party
+abbrev pub provider_as_configured : Config → Party → Party
+provider_as_configured config party = unwrap_or (option_map (λ provider. provider.party) (provider_of config party)) party
 
 abbrev pub reference_text : Party → ℕ → List ℕ
 reference_text party number = party.country_code ++ (party.party_id ++ (codes "-" ++ decimal number))
@@ -88,7 +89,7 @@ reference_text party number = party.country_code ++ (party.party_id ++ (codes "-
 -- the reference of the provider's next authorisation: its codes and the count of its authorisations so far plus 1
 abbrev pub next_reference : Config → Party → List AccountEntry → List ℕ
 next_reference config provider entries =
-    reference_text (as_configured config provider) (count_by (is_hold_of provider) entries + 1)
+    reference_text (provider_as_configured config provider) (count_by (is_hold_of provider) entries + 1)
 
 abbrev pub passes : Option ℕ → ℕ → Bool
 passes None amount = false
@@ -127,7 +128,7 @@ allows hold = accepts (answer.Allowed hold.reference) (event.Authorised hold)
 abbrev pub authorized : Config → Known → Authorize → Verdict
 authorized config known ask =
     unless
-    (unless_valid (validity ask.provider ask.uid ask.kind known.account) ∷ no_room_for config known ask.provider
+    (unless_valid (validity ask.provider ask.uid ask.kind known.account) ∷ full_for config known ask.provider
     ∷ unless_covered (lacks_credit config ask known.account) ∷ [])
     (allows (hold_for config ask known.account))
 
@@ -137,38 +138,34 @@ authorized config known ask =
 abbrev pub release_of : Config → Known → Release → Option Hold → Verdict
 release_of config known release None = replies (Err refusal.UnknownHold)
 release_of config known release (Some hold) =
-    unless (no_room_for config known release.provider ∷ [])
+    unless (full_for config known release.provider ∷ [])
     (accepts (answer.Released (pos hold.amount)) (event.Released release))
 
 -- ---- post
 
-abbrev pub order_says : Config → Known → OrderSays
-order_says config known = record { is_full = is_order_full config known.point; period = known.period }
-
--- by what the operator's book says
-abbrev pub cdr_judged : Config → Known → Cdr → ℕ → Judged → Verdict
-cdr_judged config known cdr cost judged =
-    posted
-    (record { judged = judged; is_full = are_cdrs_full config cdr.operator known.book })
-    (record { is_full = is_account_full config cdr.cdr_token.provider known.account; over_limit = over_limit config (charge_of cdr cost known.period) known.account })
-    (order_says config known)
-    (λ amount. accepts (answer.Accepted amount known.period) (event.Cdr cdr cost))
+-- refused where a CDR finds no room in its operator's book, its provider's account or the order
+abbrev pub full_for_cdr : Config → Known → Cdr → Case
+full_for_cdr config known cdr =
+    refused_at (first_full ((store.Cdrs, are_cdrs_full config cdr.operator known.book) ∷ (store.Account, is_account_full config cdr.cdr_token.provider known.account) ∷ (store.Order, is_order_full config known.point) ∷ []))
 
 abbrev pub cdr_posted : Config → Known → Cdr → ℕ → Verdict
-cdr_posted config known cdr cost = cdr_judged config known cdr cost (judged_cdr cdr cost known.book)
+cdr_posted config known cdr cost =
+    unless
+    (booked_already cdr (booked_as cdr.operator cdr.id known.book) ∷ unless_registered (lacks_registered cdr known.book)
+    ∷ full_for_cdr config known cdr ∷ refused_for (over_limit config (charge_of cdr cost known.period) known.account) ∷ [])
+    (accepts (answer.Accepted (pos cost) known.period) (event.Cdr cdr cost))
 
--- a Credit CDR passes no limit
-abbrev pub credit_judged : Config → Known → Cdr → Judged → Verdict
-credit_judged config known credit judged =
-    posted
-    (record { judged = judged; is_full = are_cdrs_full config credit.operator known.book })
-    (record { is_full = is_account_full config credit.cdr_token.provider known.account; over_limit = None })
-    (order_says config known)
-    (λ amount. accepts (answer.Accepted amount known.period) (event.Credit credit amount))
+-- by the amount that a Credit CDR takes back, or why it takes none; it passes no limit
+abbrev pub credit_taken : Config → Known → Cdr → Result ℤ Refusal → Verdict
+credit_taken config known credit (Err refusal) = replies (Err refusal)
+credit_taken config known credit (Ok amount) =
+    unless (full_for_cdr config known credit ∷ [])
+    (accepts (answer.Accepted amount known.period) (event.Credit credit amount))
 
 abbrev pub credit_posted : Config → Known → Cdr → Verdict
 credit_posted config known credit =
-    credit_judged config known credit (judged_credit config known.period credit known.book)
+    unless (booked_already credit (booked_as credit.operator credit.id known.book) ∷ [])
+    (credit_taken config known credit (credited_amount config known.period credit known.book))
 
 -- by what its session costs, which a Credit CDR has not
 abbrev pub post_of : Config → Known → Cdr → Option ℕ → Verdict
@@ -207,7 +204,7 @@ abbrev pub settled : Config → Known → Settlement → Verdict
 settled config known settlement =
     unless
     (unless_open settlement.period known.period ∷ unless_settled (is_settled settlement known.account)
-    ∷ no_room_for config known settlement.provider ∷ [])
+    ∷ full_for config known settlement.provider ∷ [])
     (accepts (answer.Settled (pos (settled_debt settlement known.account))) (event.Settled settlement))
 
 -- ---- exposure, find and statement

@@ -12,7 +12,7 @@ use Rattle.plain_house.specs.Known.{Known}
 use Rattle.plain_house.specs.Legal.{IsGivenBy, IsLegal}
 use Rattle.plain_house.specs.LegalLists.{CanBeNetted, IsCharged, IsTakenBack, KeepsLimits}
 use Rattle.plain_house.specs.Own.{own_account, own_book}
-use Rattle.plain_house.specs.Room.{is_cdr_of, is_entry_of, is_version_of}
+use Rattle.plain_house.specs.Full.{is_cdr_of, is_entry_of, is_version_of}
 
 -- ---- books
 

@@ -13,7 +13,7 @@ pub mod Own
 pub mod Posting
 pub mod Replies
 pub mod ReplyRoom
-pub mod Room
+pub mod Full
 pub mod Settlements
 pub mod State
 pub mod Tariffs

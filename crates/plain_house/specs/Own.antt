@@ -26,8 +26,8 @@ use Rattle.plain_house.specs.Exposure.{debts_of, exposure_of, holds_of, released
 use Rattle.plain_house.specs.House.{exposed, hold_for, lacks_credit, verdict}
 use Rattle.plain_house.specs.Known.{Known, known}
 use Rattle.plain_house.specs.Legal.{IsLegal}
-use Rattle.plain_house.specs.Posting.{judged_cdr, judged_credit, over_limit}
-use Rattle.plain_house.specs.Room.{are_cdrs_full, are_versions_full, is_account_full, own_entries}
+use Rattle.plain_house.specs.Posting.{credited_amount, judged_cdr, judged_credit, over_limit}
+use Rattle.plain_house.specs.Full.{are_cdrs_full, are_versions_full, is_account_full, own_entries}
 use Rattle.plain_house.specs.Settlements.{is_settled, settled_debt}
 use Rattle.plain_house.specs.Tariffs.{lacks_registered, stored_version}
 use Rattle.plain_house.specs.Tokens.{validity}
@@ -52,8 +52,9 @@ pub record IsOfOwnBook (operator : Party) (entries : List BookEntry) : Type 0 wh
   pub registered : (cdr : Cdr) → same_party cdr.operator operator ≡ true → lacks_registered cdr (own_book operator entries) ≡ lacks_registered cdr entries
   pub cdrs_full : (config : Config) → are_cdrs_full config operator (own_book operator entries) ≡ are_cdrs_full config operator entries
   pub versions_full : (config : Config) → are_versions_full config operator (own_book operator entries) ≡ are_versions_full config operator entries
-  pub cdr : (cdr : Cdr) (cost : ℕ) → same_party cdr.operator operator ≡ true → judged_cdr cdr cost (own_book operator entries) ≡ judged_cdr cdr cost entries
+  pub cdr : (cdr : Cdr) → same_party cdr.operator operator ≡ true → judged_cdr cdr (own_book operator entries) ≡ judged_cdr cdr entries
   pub credit : (config : Config) (period : ℕ) (credit : Cdr) → same_party credit.operator operator ≡ true → judged_credit config period credit (own_book operator entries) ≡ judged_credit config period credit entries
+  pub taken : (config : Config) (period : ℕ) (credit : Cdr) → same_party credit.operator operator ≡ true → credited_amount config period credit (own_book operator entries) ≡ credited_amount config period credit entries
   pub spelling : (party : Party) → same_party party operator ≡ true → own_book party entries ≡ own_book operator entries
 
 -- so it is with each list of entries

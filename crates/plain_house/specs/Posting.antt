@@ -6,7 +6,6 @@ use Rattle.ocpi_types.specs.declared.cdr.Cdr.{Cdr}
 use Rattle.ocpi_types.specs.declared.config.Config.{Config}
 use Rattle.ocpi_types.specs.declared.refusal.Refusal.{Refusal}
 use Rattle.ocpi_types.specs.declared.refusal.Refusal.TheVariants as refusal
-use Rattle.ocpi_types.specs.declared.refusal.Store.TheVariants as store
 use Rattle.ocpi_types.specs.Cdr.{is_credit}
 use Rattle.ocpi_types.specs.Config.{limit_of, pair_limit_of}
 use Rattle.ocpi_types.specs.Currency.{same_currency}
@@ -22,29 +21,27 @@ use Rattle.plain_house.specs.declared.entry.BookEntry.{BookEntry}
 use Rattle.plain_house.specs.declared.entry.Charge.{Charge}
 use Rattle.plain_house.specs.Booked.{Booked, booked_as, is_credited}
 use Rattle.plain_house.specs.Exposure.{of_provider, of_pair, exposure_of}
-use Rattle.plain_house.specs.Room.{first_full}
 use Rattle.plain_house.specs.Tariffs.{lacks_registered}
-use Rattle.plain_house.specs.Verdict.{Verdict, replies, refused_at, refused_for, unless}
+use Rattle.plain_house.specs.Verdict.{Case, first_reply}
 
 -- ---- what the operator's book says
 
--- the amount at which it would be booked, or the reply to it
-abbrev pub Judged : Type 0
-Judged = Result ℤ (Result Answer Refusal)
+-- its id is booked already, with the same content or with another
+abbrev pub booked_already : Cdr → Option Booked → Case
+booked_already cdr None = None
+booked_already cdr (Some found) =
+    Some (if same_cdr found.cdr cdr then Ok (answer.Repeated found.amount found.period) else Err refusal.Conflict)
 
--- the reply to a CDR whose id is booked already
-abbrev pub reply_to_booked : Booked → Cdr → Result Answer Refusal
-reply_to_booked found cdr =
-    if same_cdr found.cdr cdr then Ok (answer.Repeated found.amount found.period) else Err refusal.Conflict
+-- a tariff of it is not registered
+abbrev pub unless_registered : Bool → Case
+unless_registered true = Some (Err refusal.TariffNotRegistered)
+unless_registered false = None
 
-abbrev pub unless_booked : Cdr → Option Booked → Judged → Judged
-unless_booked cdr None judged = judged
-unless_booked cdr (Some found) judged = Err (reply_to_booked found cdr)
-
-abbrev pub judged_cdr : Cdr → ℕ → List BookEntry → Judged
-judged_cdr cdr cost entries =
-    unless_booked cdr (booked_as cdr.operator cdr.id entries)
-    (if lacks_registered cdr entries then Err (Err refusal.TariffNotRegistered) else Ok (pos cost))
+-- what the book replies to a CDR by itself
+abbrev pub judged_cdr : Cdr → List BookEntry → Case
+judged_cdr cdr entries =
+    first_reply
+    (booked_already cdr (booked_as cdr.operator cdr.id entries) ∷ unless_registered (lacks_registered cdr entries) ∷ [])
 
 -- the CDR that a Credit CDR names
 abbrev pub original_of : Cdr → List BookEntry → Option Booked
@@ -77,14 +74,16 @@ credited_amount config period credit entries = do
   original ← or_refusal refusal.UnknownOriginal (original_of credit entries)
   taken_back config period credit (is_credited original.cdr.operator original.cdr.id entries) original
 
-abbrev pub as_judged : Result ℤ Refusal → Judged
-as_judged (Ok amount) = Ok amount
-as_judged (Err refusal) = Err (Err refusal)
+-- the amount, or what is replied by the book
+abbrev pub judged_by : Case → Result ℤ Refusal → Result ℤ (Result Answer Refusal)
+judged_by (Some reply) amount = Err reply
+judged_by None (Ok amount) = Ok amount
+judged_by None (Err refusal) = Err (Err refusal)
 
-abbrev pub judged_credit : Config → ℕ → Cdr → List BookEntry → Judged
+-- the amount at which the book takes a Credit CDR, or what it replies by itself
+abbrev pub judged_credit : Config → ℕ → Cdr → List BookEntry → Result ℤ (Result Answer Refusal)
 judged_credit config period credit entries =
-    unless_booked credit (booked_as credit.operator credit.id entries)
-    (as_judged (credited_amount config period credit entries))
+    judged_by (booked_already credit (booked_as credit.operator credit.id entries)) (credited_amount config period credit entries)
 
 -- ---- what the provider's account says
 
@@ -103,29 +102,3 @@ over_limit config charge entries =
     option_or
     (above (limit_of config charge.provider charge.currency) (exposure_of (of_provider charge.provider charge.currency) (entries ++ account.Charge charge ∷ [])) false)
     (above_if_any (pair_limit_of config charge.operator charge.provider charge.currency) (exposure_of (of_pair charge.operator charge.provider charge.currency) (entries ++ account.Charge charge ∷ [])))
-
--- ---- the verdict
-
-pub record BookSays : Type 0 where
-  pub judged : Judged
-  pub is_full : Bool
-
-pub record AccountSays : Type 0 where
-  pub is_full : Bool
-  pub over_limit : Option Refusal
-
-pub record OrderSays : Type 0 where
-  pub is_full : Bool
-  pub period : ℕ
-
--- where the book does not reply by itself
-abbrev pub posted_at : Judged → Bool → AccountSays → OrderSays → (ℤ → Verdict) → Verdict
-posted_at (Err reply) is_full account order accepted = replies reply
-posted_at (Ok amount) is_full account order accepted =
-    unless
-    (refused_at (first_full ((store.Cdrs, is_full) ∷ (store.Account, account.is_full) ∷ (store.Order, order.is_full) ∷ []))
-    ∷ refused_for account.over_limit ∷ []) (accepted amount)
-
--- what these three say together; the last gives what is accepted at an amount
-abbrev pub posted : BookSays → AccountSays → OrderSays → (ℤ → Verdict) → Verdict
-posted book account order accepted = posted_at book.judged book.is_full account order accepted

@@ -38,9 +38,7 @@ is_no_memory (Err refused) = is_refusal_no_memory refused.refusal
 abbrev pub IsTold : Result Answer Refusal → Type 0
 IsTold reply = (at : ℕ) → is_no_memory (stamped at reply) ≡ false
 
--- the reply is the verdict's and the list has its event, or memory was refused and the list is as before
+-- in one case the reply is the verdict's and the list has its event; in the other memory was refused and the list is as before
 pub record Follows (verdict : Verdict) (events : List Event) (reply : Reply) (now : List Event) : Type 0 where
-  pub reply_is : is_no_memory reply ≡ false → reply ≡ stamped (length events) verdict.reply
-  pub events_are : is_no_memory reply ≡ false → now ≡ with_event events verdict.event
-  pub refused_is : is_no_memory reply ≡ true → reply ≡ no_memory
-  pub unchanged : is_no_memory reply ≡ true → now ≡ events
+  pub told : is_no_memory reply ≡ false → (reply ≡ stamped (length events) verdict.reply) × (now ≡ with_event events verdict.event)
+  pub refused : is_no_memory reply ≡ true → (reply ≡ no_memory) × (now ≡ events)

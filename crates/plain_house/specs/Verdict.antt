@@ -30,7 +30,13 @@ refused_for found = option_map (λ refusal. Err refusal) found
 abbrev pub refused_at : Option Store → Case
 refused_at full = option_map (λ what. Err (refusal.Full what)) full
 
--- the reply of the first case that holds; where none does, the verdict
+-- the reply of the first case that holds
+abbrev pub first_reply : List Case → Case
+first_reply [] = None
+first_reply (None ∷ cases) = first_reply cases
+first_reply (Some reply ∷ cases) = Some reply
+
+-- the same as a verdict; where none holds, the verdict that is given
 abbrev pub unless : List Case → Verdict → Verdict
 unless [] verdict = verdict
 unless (None ∷ cases) verdict = unless cases verdict

@@ -17,12 +17,12 @@ mod close;
 mod credit;
 mod exposure;
 mod find;
+mod full;
 mod post;
 mod put_tariff;
 mod put_token;
 mod release;
 mod replies;
-mod room;
 mod settle;
 mod statement;
 

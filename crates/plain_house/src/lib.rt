@@ -1,25 +1,28 @@
 //! A house of one list of events: its reply to a command is the meaning that every other house is proved against.
 #![tactic(auto)]
 
+// What every house shares.
 mod answer;
-mod booked;
 mod booked_amount;
-mod debts;
 mod entry;
 mod entry_laws;
 mod event;
 mod exact;
 mod hold_reference;
-mod holds;
-mod house;
 mod laws;
-mod obligations;
-mod periods;
 mod posting;
 mod replies;
 mod reply_room;
 mod scope;
 mod sequential;
+
+// The house of one list, and what it scans its list for.
+mod booked;
+mod debts;
+mod holds;
+mod house;
+mod obligations;
+mod periods;
 mod tariffs;
 mod tokens;
 

@@ -1,8 +1,8 @@
 //! What is said of a CDR or a Credit CDR by what is booked and owed.
 
-ghost use Rattle.std.specs.Prelude.{◌≡◌, ◌<◌, ◌^◌, false, IfErr};
+ghost use Rattle.std.specs.Prelude.{◌≡◌, ◌<◌, ◌^◌, false, IfErr, Some};
 ghost use Rattle.plain_house.specs.Booked.{shown_booked};
-ghost use Rattle.plain_house.specs.Posting.{above, is_in_window, meets_original, reply_to_booked, taken_back};
+ghost use Rattle.plain_house.specs.Posting.{above, booked_already, is_in_window, meets_original, taken_back};
 ghost use Rattle.plain_house.specs.Replies.{IsTold, is_refusal_no_memory};
 
 use super::answer::Answer;
@@ -14,7 +14,7 @@ use ocpi_types::{AtMost, Cdr, Config, Refusal, same_cdr};
 
 /// The reply to a CDR whose id is booked already.
 pub fn reply_to_booked(found: &BookedCdr<'_>, cdr: &Cdr) -> Result<Answer, Refusal>
-    ensures value { result ≡ reply_to_booked (shown_booked found.now) cdr.now }
+    ensures value { Some result ≡ booked_already cdr.now (Some (shown_booked found.now)) }
     ensures told { IsTold result }
 {
     if same_cdr(found.cdr, cdr) {

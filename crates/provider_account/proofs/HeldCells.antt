@@ -14,7 +14,7 @@ use Rattle.plain_house.specs.declared.scope.Scope.{Scope}
 use Rattle.plain_house.specs.Exposure.{holds_within, of_provider}
 use Rattle.plain_house.specs.Exposure as scope
 use Rattle.provider_account.specs.declared.held.HeldKey.{HeldKey}
-use Rattle.provider_account.specs.declared.sums.Sums.{Sums}
+use Rattle.provider_account.specs.declared.sums.SumsByKey.{SumsByKey}
 use Rattle.provider_account.specs.Inner.Held.{held_at, key_of, same_held}
 use Rattle.provider_account.specs.Inner.Sums.{IsSet, sum_at}
 
@@ -27,15 +27,15 @@ same_held_laws =
     (and_equiv (on_equiv (λ (key : HeldKey). key.provider) same_party_laws) (on_equiv (λ (key : HeldKey). key.currency) nat_list_eq_equiv))
 
 -- keys that are the same have one sum
-sum_same : (held : Sums HeldKey) (a b : HeldKey) → same_held a b ≡ true → sum_at same_held held a ≡ sum_at same_held held b
+sum_same : (held : SumsByKey HeldKey) (a b : HeldKey) → same_held a b ≡ true → sum_at same_held held a ≡ sum_at same_held held b
 sum_same held a b e i = unwrap_or (lookup (λ key. same_held_laws.congr a b key e i) held.cells.entries) 0
 
-changed : (held : Sums HeldKey) (op : ℕ → ℕ) (key q : HeldKey) (b : Bool) → same_held key q ≡ b
+changed : (held : SumsByKey HeldKey) (op : ℕ → ℕ) (key q : HeldKey) (b : Bool) → same_held key q ≡ b
     → cond {A = ℕ} b (op (sum_at same_held held key)) (sum_at same_held held q) ≡ cond {A = ℕ} b (op (sum_at same_held held q)) (sum_at same_held held q)
 changed held op key q true e = ap op (sum_same held key q e)
 changed held op key q false e = refl
 
-module _ (op : ℕ → ℕ) (hold : Hold) (first second third : Sums HeldKey)
+module _ (op : ℕ → ℕ) (hold : Hold) (first second third : SumsByKey HeldKey)
     (all : IsSet same_held first (key_of None hold) (op (sum_at same_held first (key_of None hold))) second)
     (pair : IsSet same_held second (key_of (Some hold.operator) hold) (op (sum_at same_held second (key_of (Some hold.operator) hold))) third) where
   -- with all operators
@@ -71,6 +71,6 @@ pub within_pair : (hold : Hold) → holds_within (scope.of_pair hold.operator ho
 within_pair hold i = (same_party_laws.refl hold.operator i && same_party_laws.refl hold.provider i) && nat_list_eq_equiv.refl hold.currency i
 
 -- what is set under the key of all operators leaves that of the pair
-pub pair_stays : (hold : Hold) (first second : Sums HeldKey) (sum : ℕ) → IsSet same_held first (key_of None hold) sum second
+pub pair_stays : (hold : Hold) (first second : SumsByKey HeldKey) (sum : ℕ) → IsSet same_held first (key_of None hold) sum second
     → sum_at same_held second (key_of (Some hold.operator) hold) ≡ sum_at same_held first (key_of (Some hold.operator) hold)
 pair_stays hold first second sum set = set (key_of (Some hold.operator) hold)

@@ -3,24 +3,22 @@
 ghost use Rattle.std.specs.Prelude.{◌≡◌, ◌+◌, ◌-◌, ◌^◌, ◌<◌, ◌≤◌, pos, [], ◌∷◌, ◌++◌, OnOk, OnErr, count_by, true, false};
 ghost use Rattle.ocpi_json.specs.Folded.{same_folded};
 ghost use Rattle.plain_house.specs.Exposure.{exposure_of, of_provider, released_hold};
-ghost use Rattle.plain_house.specs.House.{exposed, hold_for, is_hold_of, lacks_credit, reference_text};
-ghost use Rattle.plain_house.specs.Posting.{over_limit};
-ghost use Rattle.plain_house.specs.Room.{is_account_full};
-ghost use Rattle.plain_house.specs.Settlements.{is_settled, settled_debt};
+ghost use Rattle.plain_house.specs.House.{is_hold_of, reference_text};
+ghost use Rattle.plain_house.specs.Settlements.{is_settled};
 ghost use Rattle.plain_house.specs.Tokens.{validity};
 ghost use Rattle.plain_house.specs.declared.entry.AccountEntry.TheVariants as account;
 ghost use Rattle.provider_account.specs.Inner.Holds.{IsNext};
 ghost use Rattle.provider_account.specs.Inner.Parts.{AreLimited};
 
-use super::limits;
-use super::next_hold::next_hold;
+mod limits;
+mod next_hold;
+
 use super::parts::Parts;
-use cdr_checks::{Authorize, ExposureOf, Release, Settlement};
-use exact_money::Amount;
+use cdr_checks::{Release, Settlement};
 use ocpi_json::ci_text::CiText;
-use ocpi_types::{Config, Party, Refusal, Token, TokenKind};
+use ocpi_types::{Party, Token, TokenKind};
 use plain_house::{
-    AccountEntry, Answer, Charge, Credit, Hold, entries_add_at_most, exposures_in_any_spelling,
+    AccountEntry, Charge, Credit, Hold, entries_add_at_most, exposures_in_any_spelling,
 };
 use std::alloc::{AllocError, Global};
 use std::marker::Model;
@@ -71,40 +69,11 @@ impl Account {
         self.parts.tokens.validity(provider, uid, kind)
     }
 
-    /// The provider has as many entries as the configuration allows.
-    pub fn is_full(&self, config: &Config, provider: &Party) -> bool
-        ensures { result ≡ is_account_full config.now provider.now self.now.entries }
-    {
-        limits::is_full(&self.parts, self.entries.as_slice(), config, provider)
-    }
-
-    /// The hold would pass the provider's credit limit, or its limit with the operator.
-    pub fn lacks_credit(&self, config: &Config, ask: &Authorize) -> bool
-        ensures { result ≡ lacks_credit config.now ask.now self.now.entries }
-    {
-        limits::lacks_credit(&self.parts, self.entries.as_slice(), config, ask)
-    }
-
-    /// The hold that would be placed, under the provider's next reference.
-    pub fn hold_for(&self, config: &Config, ask: &Authorize) -> Hold
-        ensures value { result ≡ hold_for config.now ask.now self.now.entries }
-        ensures numbered { same_folded result.reference (reference_text ask.now.provider (count_by (is_hold_of ask.now.provider) self.now.entries + 1)) ≡ true }
-    {
-        next_hold(&self.parts, self.entries.as_slice(), config, ask)
-    }
-
     /// The open hold that the release ends.
     pub fn released_hold(&self, release: &Release) -> Option<Hold>
         ensures { result ≡ released_hold self.now.entries release.now }
     {
         self.parts.holds.released(release)
-    }
-
-    /// With the charge added, an exposure would be above its limit.
-    pub fn over_limit(&self, config: &Config, charge: &Charge) -> Option<Refusal>
-        ensures { result ≡ over_limit config.now charge.now self.now.entries }
-    {
-        limits::over_limit(&self.parts, self.entries.as_slice(), config, charge)
     }
 
     /// The provider's period is settled in that currency.
@@ -114,20 +83,6 @@ impl Account {
         self.parts
             .debts
             .is_settled(self.entries.as_slice(), settlement)
-    }
-
-    /// The debt that the settlement ends.
-    pub fn settled_debt(&self, settlement: &Settlement) -> Amount
-        ensures { result ≡ pos (settled_debt settlement.now self.now.entries) }
-    {
-        limits::settled_debt(&self.parts, self.entries.as_slice(), settlement)
-    }
-
-    /// What a provider holds and owes, and its limit.
-    pub fn exposure(&self, config: &Config, ask: &ExposureOf) -> Answer
-        ensures { result ≡ exposed config.now ask.now self.now.entries }
-    {
-        limits::exposed(&self.parts, self.entries.as_slice(), config, ask)
     }
 
     /// Makes room for one more entry.

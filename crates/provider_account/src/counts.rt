@@ -4,21 +4,21 @@ ghost use Rattle.std.specs.Prelude.{◌≡◌, ◌+◌, ◌-◌, ◌<◌, List, 
 ghost use Rattle.indexmap.specs.IndexMap.{spare};
 ghost use Rattle.ocpi_types.specs.Party.{same_party};
 ghost use Rattle.plain_house.specs.House.{is_hold_of};
-ghost use Rattle.plain_house.specs.Room.{is_entry_of};
+ghost use Rattle.plain_house.specs.Full.{is_entry_of};
 ghost use Rattle.plain_house.specs.declared.entry.AccountEntry.{AccountEntry};
 ghost use Rattle.provider_account.specs.Inner.Counts.{HasRoomForCounts, IsFew, KnowsCounts};
 ghost use Rattle.provider_account.specs.Inner.Sums.{sum_at};
 
-use super::sums::Sums;
+use super::sums::SumsByKey;
 use ocpi_types::Party;
 use plain_house::AccountEntry;
 use std::alloc::{AllocError, Global};
 
 /// How many entries each provider has, and how many of them are holds.
 #[derive(Drop)]
-pub(crate) struct Counts {
-    pub entries: Sums<Party>,
-    pub holds: Sums<Party>,
+pub(crate) struct AccountCounts {
+    pub entries: SumsByKey<Party>,
+    pub holds: SumsByKey<Party>,
 }
 
 // Whose account the entry is of.
@@ -36,7 +36,7 @@ fn provider_of(entry: &AccountEntry) -> Party
 }
 
 // Counts one more of the provider.
-fn count(counts: &mut Sums<Party>, provider: Party)
+fn count(counts: &mut SumsByKey<Party>, provider: Party)
     requires room { 0 < spare counts.old.cells }
     requires few { IsFew counts.old }
     ensures { (other : Party) → sum_at same_party counts.new other ≡ sum_at same_party counts.old other + (if same_party provider other then 1 else 0) }
@@ -44,13 +44,13 @@ fn count(counts: &mut Sums<Party>, provider: Party)
     counts.add(provider, 1);
 }
 
-impl Counts {
-    pub(crate) fn new(alloc: Global) -> Counts
+impl AccountCounts {
+    pub(crate) fn new(alloc: Global) -> AccountCounts
         ensures { KnowsCounts result [] }
     {
-        Counts {
-            entries: Sums::new(alloc),
-            holds: Sums::new(alloc),
+        AccountCounts {
+            entries: SumsByKey::new(alloc),
+            holds: SumsByKey::new(alloc),
         }
     }
 

@@ -22,7 +22,7 @@ use plain_house::{AccountEntry, Charge, Credit, Scope};
 use std::alloc::{AllocError, Global};
 
 fn add_owed(owed: &mut Owed, ended: &Ended, charge: &Charge)
-    requires room { 4 ≤ spare owed.old.amounts }
+    requires room { 4 ≤ spare owed.old.amounts.cells }
     requires fits { (key : DebtKey) → amount_of owed.old.amounts key ≤ 10 ^ 15 }
     ensures { (key : DebtKey) → amount_of owed.new.amounts key ≡ amount_of owed.old.amounts key + still_counted ended.now charge.now key }
 {

@@ -6,7 +6,7 @@ ghost use Rattle.plain_house.specs.Exposure.{holds_within};
 ghost use Rattle.plain_house.specs.declared.scope.Scope.{Scope};
 ghost use Rattle.provider_account.specs.Inner.Held.{held_at, key_of};
 
-use super::sums::Sums;
+use super::sums::SumsByKey;
 use ocpi_types::{Currency, Party};
 use plain_house::{Hold, Scope};
 
@@ -29,7 +29,7 @@ fn key_of(operator: Option<Party>, hold: &Hold) -> HeldKey
 }
 
 /// What is held within the scope.
-pub(crate) fn held_within(held: &Sums<HeldKey>, scope: &Scope) -> u64
+pub(crate) fn held_within(held: &SumsByKey<HeldKey>, scope: &Scope) -> u64
     ensures { result ≡ held_at held.now scope.now }
 {
     held.get(&HeldKey {
@@ -40,7 +40,7 @@ pub(crate) fn held_within(held: &Sums<HeldKey>, scope: &Scope) -> u64
 }
 
 /// Adds the hold where it counts.
-pub(crate) fn add(held: &mut Sums<HeldKey>, hold: &Hold)
+pub(crate) fn add(held: &mut SumsByKey<HeldKey>, hold: &Hold)
     requires room { 1 < spare held.old.cells }
     requires fits { (scope : Scope) → held_at held.old scope + hold.now.amount < 2 ^ 64 }
     ensures { (scope : Scope) → held_at held.new scope ≡ (if holds_within scope hold.now then held_at held.old scope + hold.now.amount else held_at held.old scope) }
@@ -51,7 +51,7 @@ pub(crate) fn add(held: &mut Sums<HeldKey>, hold: &Hold)
 }
 
 /// Takes the hold off where it counts.
-pub(crate) fn take_off(held: &mut Sums<HeldKey>, hold: &Hold)
+pub(crate) fn take_off(held: &mut SumsByKey<HeldKey>, hold: &Hold)
     requires { (scope : Scope) → holds_within scope hold.now ≡ true → hold.now.amount ≤ held_at held.old scope }
     ensures { (scope : Scope) → held_at held.new scope ≡ (if holds_within scope hold.now then held_at held.old scope - hold.now.amount else held_at held.old scope) }
 {

@@ -11,7 +11,7 @@ ghost use Rattle.provider_account.specs.Inner.Held.{held_at};
 ghost use Rattle.provider_account.specs.Inner.Holds.{AreCovered, HasRoomForHolds, IsCovered, IsNext, IsNumbered, KnowsHolds, key_of_hold, key_of_release, open_ended, open_under, open_used, same_hold, without};
 
 use super::held::{HeldKey, add, held_within, take_off};
-use super::sums::Sums;
+use super::sums::SumsByKey;
 use cdr_checks::Release;
 use indexmap::IndexMap;
 use ocpi_json::ci_text::CiText;
@@ -31,7 +31,7 @@ pub(crate) struct HoldKey {
 #[derive(Drop)]
 pub(crate) struct Holds {
     pub open: IndexMap<HoldKey, Hold>,
-    pub held: Sums<HeldKey>,
+    pub held: SumsByKey<HeldKey>,
 }
 
 fn key_of(hold: &Hold) -> HoldKey
@@ -50,7 +50,7 @@ impl Holds {
     {
         Holds {
             open: IndexMap::new(alloc),
-            held: Sums::new(alloc),
+            held: SumsByKey::new(alloc),
         }
     }
 

@@ -9,8 +9,6 @@ mod debts;
 mod ended;
 mod held;
 mod holds;
-mod limits;
-mod next_hold;
 mod owed;
 mod parts;
 mod sums;

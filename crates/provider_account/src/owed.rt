@@ -6,7 +6,7 @@ ghost use Rattle.provider_account.specs.Inner.DebtKeys.{counted, covers};
 ghost use Rattle.provider_account.specs.Inner.Owed.{amount_of, in_period, part_of};
 
 use super::debt_keys::{DebtKey, PeriodKey};
-use indexmap::IndexMap;
+use super::sums::SumsByKey;
 use ocpi_types::Party;
 use plain_house::Charge;
 use std::alloc::{AllocError, Global};
@@ -14,7 +14,7 @@ use std::alloc::{AllocError, Global};
 /// What is owed, in ten-thousandths; what is missing is 0.
 #[derive(Drop)]
 pub(crate) struct Owed {
-    pub amounts: IndexMap<DebtKey, u64>,
+    pub amounts: SumsByKey<DebtKey>,
 }
 
 impl Owed {
@@ -22,52 +22,46 @@ impl Owed {
         ensures { (key : DebtKey) → amount_of result.amounts key ≡ 0 }
     {
         Owed {
-            amounts: IndexMap::new(alloc),
+            amounts: SumsByKey::new(alloc),
         }
     }
 
     pub(crate) fn amount(&self, key: &DebtKey) -> u64
         ensures { result ≡ amount_of self.now.amounts key.now }
     {
-        self.amounts.get(key).copied().unwrap_or(0)
+        self.amounts.get(key)
     }
 
     pub(crate) fn add(&mut self, key: &DebtKey, amount: u64)
-        requires room { 0 < spare self.old.amounts }
+        requires room { 0 < spare self.old.amounts.cells }
         requires fits { amount_of self.old.amounts key.now + amount < 2 ^ 64 }
         ensures amounts { (other : DebtKey) → amount_of self.new.amounts other ≡ amount_of self.old.amounts other + part_of key.now other amount }
-        ensures room { spare self.old.amounts ≤ spare self.new.amounts + 1 }
+        ensures room { spare self.old.amounts.cells ≤ spare self.new.amounts.cells + 1 }
     {
         let _operator = key.operator;
-        if let Some(sum) = self.amounts.get_mut(key) {
-            *sum += amount;
-            return;
-        }
-        self.amounts.insert(*key, amount).unwrap();
+        self.amounts.add(*key, amount);
     }
 
     pub(crate) fn take(&mut self, key: &DebtKey, amount: u64)
         requires { amount ≤ amount_of self.old.amounts key.now }
         ensures amounts { (other : DebtKey) → amount_of self.new.amounts other + part_of key.now other amount ≡ amount_of self.old.amounts other }
-        ensures room { spare self.old.amounts ≤ spare self.new.amounts }
+        ensures room { spare self.old.amounts.cells ≤ spare self.new.amounts.cells }
     {
-        if let Some(sum) = self.amounts.get_mut(key) {
-            *sum -= amount;
-        }
+        self.amounts.take(key, amount);
     }
 
     /// Room for one more charge.
     pub(crate) fn reserve(&mut self) -> Result<(), AllocError>
-        ensures unchanged { self.new.amounts.entries ≡ self.old.amounts.entries }
-        ensures ok { OnOk result (4 ≤ spare self.new.amounts) }
-        ensures room { spare self.old.amounts ≤ spare self.new.amounts }
+        ensures kept { (key : DebtKey) → amount_of self.new.amounts key ≡ amount_of self.old.amounts key }
+        ensures ok { OnOk result (4 ≤ spare self.new.amounts.cells) }
+        ensures room { spare self.old.amounts.cells ≤ spare self.new.amounts.cells }
     {
         self.amounts.reserve(4)
     }
 
     /// The charge is owed.
     pub(crate) fn add_charge(&mut self, charge: &Charge)
-        requires room { 4 ≤ spare self.old.amounts }
+        requires room { 4 ≤ spare self.old.amounts.cells }
         requires fits { (key : DebtKey) → amount_of self.old.amounts key ≤ 10 ^ 15 }
         ensures { (key : DebtKey) → amount_of self.new.amounts key ≡ amount_of self.old.amounts key + counted charge.now key }
     {

@@ -7,7 +7,7 @@ ghost use Rattle.plain_house.specs.declared.entry.AccountEntry.TheVariants as ac
 ghost use Rattle.provider_account.specs.Inner.Holds.{IsNext};
 ghost use Rattle.provider_account.specs.Inner.Parts.{AreLimited, HasRoom, Knows};
 
-use super::counts::Counts;
+use super::counts::AccountCounts;
 use super::debts::Debts;
 use super::holds::Holds;
 use super::tokens::Tokens;
@@ -18,7 +18,7 @@ use std::alloc::{AllocError, Global};
 #[derive(Drop)]
 pub(crate) struct Parts {
     pub tokens: Tokens,
-    pub counts: Counts,
+    pub counts: AccountCounts,
     pub holds: Holds,
     pub debts: Debts,
 }
@@ -29,7 +29,7 @@ impl Parts {
     {
         Parts {
             tokens: Tokens::new(alloc),
-            counts: Counts::new(alloc),
+            counts: AccountCounts::new(alloc),
             holds: Holds::new(alloc),
             debts: Debts::new(alloc),
         }

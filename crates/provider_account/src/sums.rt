@@ -10,15 +10,15 @@ use std::hash::Hash;
 
 /// A sum for each key, 0 where none was set.
 #[derive(Drop)]
-pub(crate) struct Sums<K: Eq + Hash> {
+pub(crate) struct SumsByKey<K: Eq + Hash> {
     pub cells: IndexMap<K, u64>,
 }
 
-impl<K: Eq + Hash + Drop> Sums<K> {
-    pub(crate) fn new(alloc: Global) -> Sums<K>
+impl<K: Eq + Hash + Drop> SumsByKey<K> {
+    pub(crate) fn new(alloc: Global) -> SumsByKey<K>
         ensures { (key : K) → sum_at K.eq result key ≡ 0 }
     {
-        Sums {
+        SumsByKey {
             cells: IndexMap::new(alloc),
         }
     }
@@ -55,7 +55,8 @@ impl<K: Eq + Hash + Drop> Sums<K> {
     /// Lowers the sum of a key.
     pub(crate) fn take(&mut self, key: &K, amount: u64)
         requires { amount ≤ sum_at K.eq self.old key.now }
-        ensures { IsSet K.eq self.old key.now (sum_at K.eq self.old key.now - amount) self.new }
+        ensures set { IsSet K.eq self.old key.now (sum_at K.eq self.old key.now - amount) self.new }
+        ensures room { spare self.old.cells ≤ spare self.new.cells }
     {
         if let Some(sum) = self.cells.get_mut(key) {
             *sum -= amount;

@@ -7,7 +7,7 @@ use Rattle.request_lines.specs.declared.progress.Progress.{Progress}
 use Rattle.request_lines.specs.declared.faults.ScriptFault.{ScriptFault}
 use Rattle.request_lines.specs.declared.faults.ScriptFault.TheVariants.{Read, Write, NoMemory, LineTooLong}
 use Rattle.request_lines.specs.Lines.{lines_of, whole_lines, last_line, IsShort, HasNoNewline, with_newline}
-use Rattle.request_lines.specs.Answering.{Rule, Run, Input, LinesRead, IsComplete, lines_read, IsDone, IsFault, StopsAtRead, StopsAtWrite, StopsForMemory, is_write_fault}
+use Rattle.request_lines.specs.Answering.{Rule, Run, Input, LinesRead, IsComplete, lines_read, AreAllAnswered, IsFault, StopsAtRead, StopsAtWrite, StopsForMemory, is_write_fault}
 use Rattle.request_lines.specs.Inner.Progress.{Stops, CannotKeep, IsUnderWay, lines_from, whole_from, rest_from, read_from, read_line, read_last}
 use Rattle.request_lines.proofs.LinesLemmas.{whole_from-append, rest_from-append, lines_from-append, whole_from_start, lines_from_start, lines_end, first_line_of}
 use Rattle.request_lines.proofs.LineLaws.{whole-line, rest-line, lines-line, whole-none, rest-none, lines-none}
@@ -293,7 +293,7 @@ pub at_read : {A : Type 0} (rule : Rule A) (input : Input) (run : Run A) (part :
 at_read rule input run part progress p cause = record { answered = rw (whole_from_start input.bytes) at p.answered; each_short = rw (whole_from_start input.bytes) at p.each_short; cause = cause }
 
 pub done : {A : Type 0} (rule : Rule A) → Joins rule → (a b c : A) (bytes written part line text : List ℕ) (progress : Progress) (lines size : ℕ) → IsUnderWay rule bytes (record { start = a; written = written; now = b }) part progress → size ≡ length bytes → line ≡ part →
-    rule.answers b (last_line line) text c → lines ≡ progress.lines + length (last_line line) → IsDone rule bytes (record { start = a; written = written ++ text; now = c }) (record { lines = lines; bytes = size })
+    rule.answers b (last_line line) text c → lines ≡ progress.lines + length (last_line line) → AreAllAnswered rule bytes (record { start = a; written = written ++ text; now = c }) (record { lines = lines; bytes = size })
 done rule more a b c bytes written part line text progress lines size p same e h l =
     let all : lines_of bytes ≡ whole_from [] bytes ++ last_line line = lines_end bytes line (e ∙ p.part_is) in
     record {

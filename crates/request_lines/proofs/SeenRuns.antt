@@ -5,7 +5,7 @@ use Rattle.plain_house.specs.declared.event.Event.{Event}
 use Rattle.request_lines.specs.declared.faults.Count.{Count}
 use Rattle.request_lines.specs.declared.faults.ScriptFault.{ScriptFault}
 use Rattle.request_lines.specs.declared.faults.ScriptFault.TheVariants.{Read, Write, NoMemory, LineTooLong}
-use Rattle.request_lines.specs.Answering.{Rule, Run, Input, IsDone, IsFault, GivesUpAtFirst}
+use Rattle.request_lines.specs.Answering.{Rule, Run, Input, AreAllAnswered, IsFault, GivesUpAtFirst}
 use Rattle.request_lines.specs.Script.{after, answers_to, list_after, script_rule}
 use Rattle.request_lines.specs.Inner.InTurn.{AnswersInTurn}
 
@@ -28,8 +28,8 @@ left_seen rule shown seen Stays shows a b others complete s (inl e) = (rw e s, i
 left_seen rule shown seen Stays shows a b others complete s (inr h) =
     let g = gave_up_first rule shown seen Stays shows a b others s h.1 in (g.0, inr (h.0, g.1))
 
-done_seen : {A B : Type 0} (rule : Rule A) (shown : Rule B) (seen : A → B) (Stays : A → Type 0) → Shows rule shown seen Stays → (bytes : List ℕ) (run : Run A) (count : Count) → Stays run.start → IsDone rule bytes run count →
-    Stays run.now × IsDone shown bytes (seen_run seen run) count
+done_seen : {A B : Type 0} (rule : Rule A) (shown : Rule B) (seen : A → B) (Stays : A → Type 0) → Shows rule shown seen Stays → (bytes : List ℕ) (run : Run A) (count : Count) → Stays run.start → AreAllAnswered rule bytes run count →
+    Stays run.now × AreAllAnswered shown bytes (seen_run seen run) count
 done_seen rule shown seen Stays shows bytes run count s h =
     let step = shows.answers run.start run.now _ run.written s h.answered in
     (step.0, record { answered = step.1; each_short = h.each_short; lines_is = h.lines_is; bytes_is = h.bytes_is })
@@ -94,7 +94,7 @@ fault_seen rule shown seen Stays shows input run (LineTooLong number) s h =
     )
 
 pub stays : {A B : Type 0} (rule : Rule A) (shown : Rule B) (seen : A → B) (Stays : A → A → Type 0) → ((s : A) → Shows rule shown seen (Stays s)) → (result : Result Count ScriptFault) (calls : ℕ) (bytes : List ℕ) (has_failed : Bool) (at_end : Type 0) (start now : A) (written : List ℕ) →
-    MatchResult result (λ count. IsDone rule bytes (record { start = start; written = written; now = now }) count)
+    MatchResult result (λ count. AreAllAnswered rule bytes (record { start = start; written = written; now = now }) count)
     (λ fault. IsFault rule (record { calls = calls; bytes = bytes; has_failed = has_failed; at_end = at_end }) (record { start = start; written = written; now = now }) fault) → Stays start start → Stays start now
 stays rule shown seen Stays shows (Ok count) calls bytes has_failed at_end start now written h s =
     (done_seen rule shown seen (Stays start) (shows start) bytes (record { start = start; written = written; now = now }) count s h).0
@@ -102,9 +102,9 @@ stays rule shown seen Stays shows (Err fault) calls bytes has_failed at_end star
     (fault_seen rule shown seen (Stays start) (shows start) (record { calls = calls; bytes = bytes; has_failed = has_failed; at_end = at_end }) (record { start = start; written = written; now = now }) fault s h).0
 
 pub told_seen : {A B : Type 0} (rule : Rule A) (shown : Rule B) (seen : A → B) (Stays : A → A → Type 0) → ((s : A) → Shows rule shown seen (Stays s)) → (result : Result Count ScriptFault) (calls : ℕ) (bytes : List ℕ) (has_failed : Bool) (at_end : Type 0) (start now : A) (written : List ℕ) (left : B) →
-    MatchResult result (λ count. IsDone rule bytes (record { start = start; written = written; now = now }) count)
+    MatchResult result (λ count. AreAllAnswered rule bytes (record { start = start; written = written; now = now }) count)
     (λ fault. IsFault rule (record { calls = calls; bytes = bytes; has_failed = has_failed; at_end = at_end }) (record { start = start; written = written; now = now }) fault) → Stays start start → left ≡ seen now →
-    MatchResult result (λ count. IsDone shown bytes (record { start = seen start; written = written; now = left }) count)
+    MatchResult result (λ count. AreAllAnswered shown bytes (record { start = seen start; written = written; now = left }) count)
     (λ fault. IsFault shown (record { calls = calls; bytes = bytes; has_failed = has_failed; at_end = at_end }) (record { start = seen start; written = written; now = left }) fault)
 told_seen rule shown seen Stays shows (Ok count) calls bytes has_failed at_end start now written left h s e =
     rw e (done_seen rule shown seen (Stays start) (shows start) bytes (record { start = start; written = written; now = now }) count s h).1

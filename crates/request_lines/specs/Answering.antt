@@ -38,7 +38,7 @@ abbrev pub IsComplete : LinesRead → ℕ → Type 0
 IsComplete read others = (others < read.whole) ⊎ read.at_end
 
 -- all lines of the bytes are answered, and counted
-pub record IsDone {A : Type 0} (rule : Rule A) (bytes : List ℕ) (run : Run A) (count : Count) : Type 0 where
+pub record AreAllAnswered {A : Type 0} (rule : Rule A) (bytes : List ℕ) (run : Run A) (count : Count) : Type 0 where
   pub answered : rule.answers run.start (lines_of bytes) run.written run.now
   pub each_short : All IsShort (lines_of bytes)
   pub lines_is : count.lines ≡ length (lines_of bytes)

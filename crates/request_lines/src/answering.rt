@@ -1,6 +1,6 @@
 ghost use Rattle.std.specs.Prelude.{◌≡◌, ℕ, ◌+◌, ◌^◌, ◌<◌, ◌≤◌, List, [], ◌∷◌, ◌++◌, length, take, true, false, IfOk, OnOk, OnErr, IfErr, MatchResult, All};
 ghost use Rattle.request_lines.specs.Lines.{IsShort, HasNoNewline, last_line, with_newline};
-ghost use Rattle.request_lines.specs.Answering.{Rule, IsDone, IsFault, is_read_fault, is_write_fault};
+ghost use Rattle.request_lines.specs.Answering.{Rule, AreAllAnswered, IsFault, is_read_fault, is_write_fault};
 ghost use Rattle.request_lines.specs.Inner.Progress.{HasAnswered, HasStopped, CannotKeep, state, read_line, read_last, read_from, whole_from, rest_from};
 
 use super::faults::{Count, Failed, ScriptFault};
@@ -198,7 +198,7 @@ fn run_by_parts<R: Source, W: Sink, A: Answerer>(
     ensures told { (calls : ℕ) × (bytes : List ℕ) × (written : List ℕ) × (calls ≤ 2 ^ 40)
         × R.gives reader.old calls bytes reader.new × W.takes writer.old written writer.new
         × MatchResult result
-        (λ count. IsDone A.rule bytes (record { start = answerer.old; written = written; now = answerer.new }) count)
+        (λ count. AreAllAnswered A.rule bytes (record { start = answerer.old; written = written; now = answerer.new }) count)
         (λ fault. IsFault A.rule
         (record { calls = calls; bytes = bytes; has_failed = R.failed reader.new; at_end = R.at_end reader.new })
         (record { start = answerer.old; written = written; now = answerer.new }) fault) }
@@ -245,7 +245,7 @@ pub fn run_lines<R: Source, W: Sink, A: Answerer>(
     ensures told { (calls : ℕ) × (bytes : List ℕ) × (written : List ℕ) × (calls ≤ 2 ^ 40)
         × R.gives reader.old calls bytes reader.new × W.takes writer.old written writer.new
         × MatchResult result
-        (λ count. IsDone A.rule bytes (record { start = answerer.old; written = written; now = answerer.new }) count)
+        (λ count. AreAllAnswered A.rule bytes (record { start = answerer.old; written = written; now = answerer.new }) count)
         (λ fault. IsFault A.rule
         (record { calls = calls; bytes = bytes; has_failed = R.failed reader.new; at_end = R.at_end reader.new })
         (record { start = answerer.old; written = written; now = answerer.new }) fault) }

@@ -1,5 +1,5 @@
 ghost use Rattle.std.specs.Prelude.{◌≡◌, ◌≤◌, ◌^◌, ℕ, List, true, false, OnOk, IfErr, MatchResult};
-ghost use Rattle.request_lines.specs.Answering.{IsDone, IsFault, is_read_fault, is_write_fault};
+ghost use Rattle.request_lines.specs.Answering.{AreAllAnswered, IsFault, is_read_fault, is_write_fault};
 ghost use Rattle.request_lines.specs.Script.{script_rule};
 
 use super::answering::{Answerer, run_lines};
@@ -59,7 +59,7 @@ pub fn run_script_by<R: Source, W: Sink, S: Sequential, A: Respond>(
     ensures told { (calls : ℕ) × (bytes : List ℕ) × (written : List ℕ) × (calls ≤ 2 ^ 40)
         × R.gives reader.old calls bytes reader.new × W.takes writer.old written writer.new
         × MatchResult result
-        (λ count. IsDone (script_rule config.now) bytes
+        (λ count. AreAllAnswered (script_rule config.now) bytes
         (record { start = S.events house.old; written = written; now = S.events house.new }) count)
         (λ fault. IsFault (script_rule config.now)
         (record { calls = calls; bytes = bytes; has_failed = R.failed reader.new; at_end = R.at_end reader.new })
@@ -95,7 +95,7 @@ pub fn run_script<R: Source, W: Sink, S: Sequential>(
     ensures told { (calls : ℕ) × (bytes : List ℕ) × (written : List ℕ) × (calls ≤ 2 ^ 40)
         × R.gives reader.old calls bytes reader.new × W.takes writer.old written writer.new
         × MatchResult result
-        (λ count. IsDone (script_rule config.now) bytes
+        (λ count. AreAllAnswered (script_rule config.now) bytes
         (record { start = S.events house.old; written = written; now = S.events house.new }) count)
         (λ fault. IsFault (script_rule config.now)
         (record { calls = calls; bytes = bytes; has_failed = R.failed reader.new; at_end = R.at_end reader.new })

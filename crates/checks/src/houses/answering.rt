@@ -1,7 +1,7 @@
 //! The lines of a reader, answered by a house of the kind that is asked for.
 
 ghost use Rattle.std.specs.Prelude.{◌≡◌, ◌≤◌, ◌^◌, ℕ, List, MatchResult};
-ghost use Rattle.request_lines.specs.Answering.{IsDone, IsFault};
+ghost use Rattle.request_lines.specs.Answering.{AreAllAnswered, IsFault};
 ghost use Rattle.request_lines.specs.Script.{script_rule};
 
 use super::again::Again;
@@ -27,7 +27,7 @@ fn run<R: Source, W: Sink, S: Sequential>(
     ensures told { (calls : ℕ) × (bytes : List ℕ) × (written : List ℕ) × (calls ≤ 2 ^ 40)
         × R.gives reader.old calls bytes reader.new × W.takes writer.old written writer.new
         × MatchResult result
-        (λ count. IsDone (script_rule config.now) bytes
+        (λ count. AreAllAnswered (script_rule config.now) bytes
         (record { start = S.events house.old; written = written; now = S.events house.new }) count)
         (λ fault. IsFault (script_rule config.now)
         (record { calls = calls; bytes = bytes; has_failed = R.failed reader.new; at_end = R.at_end reader.new })

@@ -5,7 +5,8 @@ use Rattle.std.specs.declared.cmp.Ordering.{Ordering}
 use Rattle.std.specs.declared.cmp.Ordering.TheVariants.{Less, Equal, Greater}
 use Rattle.ocpi_types.specs.declared.party.Party.{Party}
 use Rattle.netting_positions.specs.Netting.{is_configured, is_payable, is_receivable, total_size}
-use Rattle.netting_positions.specs.Statement.{key_order, statement_rows}
+use Rattle.netting_positions.specs.Statement.{statement_rows}
+use Rattle.netting_positions.specs.StatementKeys.{key_order}
 use Rattle.netting_positions.specs.Inner.Rows.{counted}
 use Rattle.netting_positions.specs.declared.obligation.Obligation.{Obligation}
 use Rattle.netting_positions.specs.declared.row.Key.{Key}

@@ -1,5 +1,6 @@
 -- The members of a CDR in groups, as they are read.
-use Rattle.std.specs.Prelude.{Result, Ok}
+use Rattle.std.specs.Prelude.{◌≡◌, true, ◌||◌, is_some, pos, int_le, nat_le, length, Result, Ok}
+use Rattle.std.specs.List.{list_all}
 use Rattle.json.specs.Json.{Json as Data}
 use Rattle.ocpi_json.specs.Fields.{required, optional, as_ci_text, as_number, as_parsed}
 use Rattle.ocpi_json.specs.Members.{◌>>=◌}
@@ -8,12 +9,15 @@ use Rattle.ocpi_json.specs.declared.name.Name.{Name}
 use Rattle.ocpi_json.specs.declared.name.Name.TheVariants as name
 use Rattle.ocpi_types.specs.Cdr.{session_token_at, tariffs_at, periods_at, cost_at, credit_at}
 use Rattle.ocpi_types.specs.CdrToken.{method_of}
+use Rattle.ocpi_types.specs.ChargingPeriod.{has_volumes_in_range}
 use Rattle.ocpi_types.specs.Currency.{currency_of}
+use Rattle.ocpi_types.specs.Members.{true_or}
 use Rattle.ocpi_types.specs.Party.{party_at}
-use Rattle.ocpi_types.specs.declared.cdr.Authorised.{Authorised}
+use Rattle.ocpi_types.specs.declared.cdr.reading.Authorised.{Authorised}
 use Rattle.ocpi_types.specs.declared.cdr.Cdr.{Cdr}
-use Rattle.ocpi_types.specs.declared.cdr.Opening.{Opening}
-use Rattle.ocpi_types.specs.declared.cdr.Totals.{Totals}
+use Rattle.ocpi_types.specs.declared.cdr.reading.Opening.{Opening}
+use Rattle.ocpi_types.specs.declared.cdr.reading.Parts.{Parts}
+use Rattle.ocpi_types.specs.declared.cdr.reading.Totals.{Totals}
 
 unfoldable pub opening_at : Data → Result Opening Name
 opening_at node = do
@@ -51,27 +55,51 @@ totals_at node = do
     last_updated = last_updated;
   })
 
-unfoldable pub cdr_in_parts : Data → Result Cdr Name
-cdr_in_parts node = do
+unfoldable pub parts_at : Data → Result Parts Name
+parts_at node = do
   opening ← opening_at node
   authorised ← authorised_at node
   tariffs ← tariffs_at node
   charging_periods ← periods_at node
   totals ← totals_at node
-  Ok (record {
-    operator = opening.operator;
-    id = opening.id;
-    start_date_time = opening.start_date_time;
-    end_date_time = opening.end_date_time;
-    cdr_token = authorised.cdr_token;
-    auth_method = authorised.auth_method;
-    authorization_reference = authorised.authorization_reference;
-    currency = authorised.currency;
-    tariffs = tariffs;
-    charging_periods = charging_periods;
-    total_cost = totals.total_cost;
-    total_energy = totals.total_energy;
-    total_time = totals.total_time;
-    credit = totals.credit;
-    last_updated = totals.last_updated;
-  })
+  Ok (record { opening = opening; authorised = authorised; tariffs = tariffs; charging_periods = charging_periods; totals = totals })
+
+-- the CDR of these members, in which what is tested between them holds
+abbrev pub cdr_with : (parts : Parts)
+    → (is_some parts.totals.credit || nat_le (length parts.opening.id) 36) ≡ true
+    → (is_some parts.totals.credit || list_all has_volumes_in_range parts.charging_periods) ≡ true
+    → (is_some parts.totals.credit || int_le (pos 0) parts.totals.total_energy) ≡ true
+    → Cdr
+cdr_with parts id_in_range volumes_in_range energy_in_range = record {
+  operator = parts.opening.operator;
+  id = parts.opening.id;
+  start_date_time = parts.opening.start_date_time;
+  end_date_time = parts.opening.end_date_time;
+  cdr_token = parts.authorised.cdr_token;
+  auth_method = parts.authorised.auth_method;
+  authorization_reference = parts.authorised.authorization_reference;
+  currency = parts.authorised.currency;
+  tariffs = parts.tariffs;
+  charging_periods = parts.charging_periods;
+  total_cost = parts.totals.total_cost;
+  total_energy = parts.totals.total_energy;
+  total_time = parts.totals.total_time;
+  credit = parts.totals.credit;
+  last_updated = parts.totals.last_updated;
+  id_in_range = id_in_range;
+  volumes_in_range = volumes_in_range;
+  energy_in_range = energy_in_range;
+}
+
+-- it, or the first that does not hold
+abbrev pub cdr_of : Parts → Result Cdr Name
+cdr_of parts = do
+  id_in_range ← true_or name.Id (is_some parts.totals.credit || nat_le (length parts.opening.id) 36)
+  volumes_in_range ← true_or name.Volume (is_some parts.totals.credit || list_all has_volumes_in_range parts.charging_periods)
+  energy_in_range ← true_or name.TotalEnergy (is_some parts.totals.credit || int_le (pos 0) parts.totals.total_energy)
+  Ok (cdr_with parts id_in_range volumes_in_range energy_in_range)
+
+unfoldable pub cdr_in_parts : Data → Result Cdr Name
+cdr_in_parts node = do
+  parts ← parts_at node
+  cdr_of parts

@@ -5,25 +5,25 @@ use Rattle.ocpi_json.specs.Fields.{required, optional, as_whole}
 use Rattle.ocpi_json.specs.Members.{◌>>=◌}
 use Rattle.ocpi_json.specs.declared.name.Name.{Name}
 use Rattle.ocpi_json.specs.declared.name.Name.TheVariants as name
-use Rattle.ocpi_types.specs.ConfigText.{known_at, platforms_at, house_limits_at, pair_limits_at, credit_window_at}
+use Rattle.ocpi_types.specs.ConfigText.{listed_at, platforms_at, house_limits_at, pair_limits_at, credit_window_at}
 use Rattle.ocpi_types.specs.declared.config.Config.{Config}
-use Rattle.ocpi_types.specs.declared.config.parts.Known.{Known}
+use Rattle.ocpi_types.specs.declared.config.parts.Listed.{Listed}
 use Rattle.ocpi_types.specs.declared.config.reading.Stated.{Stated}
 
-unfoldable pub stated_at : ℕ → Known → Data → Result Stated Name
-stated_at version known node = do
-  platforms ← platforms_at known node
+unfoldable pub stated_at : ℕ → Listed → Data → Result Stated Name
+stated_at version listed node = do
+  platforms ← platforms_at listed node
   limits ← house_limits_at node
-  pair_limits ← pair_limits_at version known node
+  pair_limits ← pair_limits_at version listed node
   credit_window ← credit_window_at version node
   Ok (record { platforms = platforms; limits = limits; pair_limits = pair_limits; credit_window = credit_window })
 
-abbrev pub config_from : ℕ → Known → Stated → Config
-config_from tolerance known stated = record {
+abbrev pub config_from : ℕ → Listed → Stated → Config
+config_from tolerance listed stated = record {
   tolerance = tolerance;
-  currencies = known.currencies;
-  operators = known.operators;
-  providers = known.providers;
+  currencies = listed.currencies;
+  operators = listed.operators;
+  providers = listed.providers;
   platforms = stated.platforms;
   limits = stated.limits;
   pair_limits = stated.pair_limits;
@@ -34,6 +34,6 @@ unfoldable pub config_in_parts : Data → Result Config Name
 config_in_parts node = do
   version ← required (as_whole 1 2) name.Version node
   tolerance ← optional (as_whole 0 1_000_000_000_000) name.Tolerance node
-  known ← known_at node
-  stated ← stated_at version known node
-  Ok (config_from (unwrap_or tolerance 100) known stated)
+  listed ← listed_at node
+  stated ← stated_at version listed node
+  Ok (config_from (unwrap_or tolerance 100) listed stated)

@@ -25,13 +25,13 @@ const MOST_ITEMS: usize = 1_048_576;
 
 /// The currencies and parties of a configuration, which its other parts name.
 #[derive(Drop)]
-pub struct Known {
+pub struct Listed {
     pub currencies: Distinct<Currency, 16>,
     pub operators: Distinct<Operator, 64>,
     pub providers: Distinct<Provider, 64>,
 }
 
-/// A type whose values stand in nodes, name what is known, and take no memory.
+/// A type whose values stand in nodes, name what is listed, and take no memory.
 pub trait FromNodeWith<C>: Sized {
     ghost use Rattle.std.specs.Prelude.{◌≡◌, Result};
     ghost use Rattle.json.specs.Json.{Json as Data};
@@ -40,11 +40,11 @@ pub trait FromNodeWith<C>: Sized {
 
     ghost at_with: { C → Data → Result Self Name };
 
-    fn from_node_with(known: &C, node: &Node) -> Result<Self, Name>
-        ensures { result ≡ at_with known.now (view node.now) };
+    fn from_node_with(listed: &C, node: &Node) -> Result<Self, Name>
+        ensures { result ≡ at_with listed.now (view node.now) };
 }
 
-/// A type whose values stand in nodes, name what is known, and take memory.
+/// A type whose values stand in nodes, name what is listed, and take memory.
 pub trait FromNodeWithIn<C>: Sized {
     ghost use Rattle.std.specs.Prelude.{Result};
     ghost use Rattle.json.specs.Json.{Json as Data};
@@ -54,21 +54,21 @@ pub trait FromNodeWithIn<C>: Sized {
 
     ghost at_with: { C → Data → Result Self Name };
 
-    fn from_node_with_in(alloc: Global, known: &C, node: &Node) -> Result<Self, FieldFault>
-        ensures { Finds result (at_with known.now (view node.now)) };
+    fn from_node_with_in(alloc: Global, listed: &C, node: &Node) -> Result<Self, FieldFault>
+        ensures { Finds result (at_with listed.now (view node.now)) };
 }
 
 /// The values that stand in the nodes, in order.
 pub fn read_each_with<C, T: FromNodeWith<C> + Drop>(
     alloc: Global,
-    known: &C,
+    listed: &C,
     nodes: &[Node],
 ) -> Result<Sequence<T>, FieldFault>
-    ensures { Finds result (each (T.at_with known.now) (map view nodes.now)) }
+    ensures { Finds result (each (T.at_with listed.now) (map view nodes.now)) }
 {
     let mut values = Sequence::with_capacity(alloc, nodes.len())?;
     for node in nodes {
-        values.push(T::from_node_with(known, node)?)?;
+        values.push(T::from_node_with(listed, node)?)?;
     }
     Ok(values)
 }
@@ -76,14 +76,14 @@ pub fn read_each_with<C, T: FromNodeWith<C> + Drop>(
 /// The same of a type whose values take memory.
 pub fn read_each_with_in<C, T: FromNodeWithIn<C> + Drop>(
     alloc: Global,
-    known: &C,
+    listed: &C,
     nodes: &[Node],
 ) -> Result<Sequence<T>, FieldFault>
-    ensures { Finds result (each (T.at_with known.now) (map view nodes.now)) }
+    ensures { Finds result (each (T.at_with listed.now) (map view nodes.now)) }
 {
     let mut values = Sequence::with_capacity(alloc, nodes.len())?;
     for node in nodes {
-        values.push(T::from_node_with_in(alloc, known, node)?)?;
+        values.push(T::from_node_with_in(alloc, listed, node)?)?;
     }
     Ok(values)
 }
@@ -98,26 +98,26 @@ fn currency(currencies: &[Currency], node: &Node) -> Result<Currency, Name>
 }
 
 #[tactic(auto, unfolding(crate::specs::ConfigParts::operator_at))]
-fn operator(known: &Known, node: &Node) -> Result<Party, Name>
-    ensures { result ≡ operator_at known.now (view node.now) }
+fn operator(listed: &Listed, node: &Node) -> Result<Party, Name>
+    ensures { result ≡ operator_at listed.now (view node.now) }
 {
     let operator = members::party(node, Name::Operator)?;
-    let is_known = operator_among(known.operators.as_slice(), &operator).is_some();
+    let is_known = operator_among(listed.operators.as_slice(), &operator).is_some();
     ensure(is_known, Name::Operator)?;
     Ok(operator)
 }
 
 #[tactic(auto, unfolding(crate::specs::ConfigParts::provider_at))]
-fn provider(known: &Known, node: &Node) -> Result<Party, Name>
-    ensures { result ≡ provider_at known.now (view node.now) }
+fn provider(listed: &Listed, node: &Node) -> Result<Party, Name>
+    ensures { result ≡ provider_at listed.now (view node.now) }
 {
     let provider = members::party(node, Name::Provider)?;
-    let is_known = provider_among(known.providers.as_slice(), &provider).is_some();
+    let is_known = provider_among(listed.providers.as_slice(), &provider).is_some();
     ensure(is_known, Name::Provider)?;
     Ok(provider)
 }
 
-impl Known {
+impl Listed {
     ghost use Rattle.std.specs.Prelude.{◌≡◌};
     ghost use Rattle.ocpi_types.specs.ConfigParts.{has_party};
 
@@ -183,20 +183,20 @@ impl FromNodeWithIn<Distinct<Currency, 16>> for Provider {
     }
 }
 
-impl FromNodeWith<Known> for Party {
+impl FromNodeWith<Listed> for Party {
     ghost use Rattle.ocpi_types.specs.ConfigParts.{platform_party_at};
 
     ghost at_with = { platform_party_at };
 
     #[tactic(auto, unfolding(crate::specs::ConfigParts::platform_party_at))]
-    fn from_node_with(known: &Known, node: &Node) -> Result<Party, Name> {
+    fn from_node_with(listed: &Listed, node: &Node) -> Result<Party, Name> {
         let party = members::party_in(node, Name::Parties)?;
-        ensure(known.has_party(&party), Name::Parties)?;
+        ensure(listed.has_party(&party), Name::Parties)?;
         Ok(party)
     }
 }
 
-impl FromNodeWithIn<Known> for Platform {
+impl FromNodeWithIn<Listed> for Platform {
     ghost use Rattle.ocpi_types.specs.ConfigParts.{platform_at};
 
     ghost at_with = { platform_at };
@@ -204,27 +204,27 @@ impl FromNodeWithIn<Known> for Platform {
     #[tactic(auto, unfolding(crate::specs::ConfigParts::platform_at))]
     fn from_node_with_in(
         alloc: Global,
-        known: &Known,
+        listed: &Listed,
         node: &Node,
     ) -> Result<Platform, FieldFault> {
         let name = fields::ci_text(node, Name::Name)?;
         let nodes = fields::list_or_empty(node, Name::Parties, MOST_ITEMS)?;
-        let parties = read_each_with(alloc, known, nodes)?;
+        let parties = read_each_with(alloc, listed, nodes)?;
         let hub = fields::flag_or_none(node, Name::Hub)?.unwrap_or(false);
         Ok(Platform { name, parties, hub })
     }
 }
 
-impl FromNodeWith<Known> for PairLimit {
+impl FromNodeWith<Listed> for PairLimit {
     ghost use Rattle.ocpi_types.specs.ConfigParts.{pair_limit_at};
 
     ghost at_with = { pair_limit_at };
 
     #[tactic(auto, unfolding(crate::specs::ConfigParts::pair_limit_at))]
-    fn from_node_with(known: &Known, node: &Node) -> Result<PairLimit, Name> {
-        let operator = operator(known, node)?;
-        let provider = provider(known, node)?;
-        let currency = currency(known.currencies.as_slice(), node)?;
+    fn from_node_with(listed: &Listed, node: &Node) -> Result<PairLimit, Name> {
+        let operator = operator(listed, node)?;
+        let provider = provider(listed, node)?;
+        let currency = currency(listed.currencies.as_slice(), node)?;
         let limit = at_most(node, Name::Limit, 0)?;
         Ok(PairLimit {
             operator,

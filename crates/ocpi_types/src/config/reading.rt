@@ -4,9 +4,9 @@ ghost use Rattle.std.specs.Prelude.{◌≡◌};
 ghost use Rattle.json.specs.Value.{value_view as view};
 ghost use Rattle.ocpi_json.specs.Faults.{Finds};
 ghost use Rattle.ocpi_types.specs.Inner.ConfigStated.{config_from, config_in_parts, stated_at};
-ghost use Rattle.ocpi_types.specs.ConfigText.{currencies_at, known_at, operators_at, providers_at, platforms_at, house_limits_at, pair_limits_at, stated_pair_limits_at, credit_window_at};
+ghost use Rattle.ocpi_types.specs.ConfigText.{currencies_at, listed_at, operators_at, providers_at, platforms_at, house_limits_at, pair_limits_at, stated_pair_limits_at, credit_window_at};
 
-use super::parts::{Known, read_each_with, read_each_with_in};
+use super::parts::{Listed, read_each_with, read_each_with_in};
 use super::{Config, Limits, Operator, PairLimit, Platform, Provider, Tolerance};
 use crate::bounded::AtMost;
 use crate::currency::Currency;
@@ -89,13 +89,13 @@ fn read_providers(
 #[tactic(auto, unfolding(crate::specs::ConfigText::platforms_at))]
 fn read_platforms(
     alloc: Global,
-    known: &Known,
+    listed: &Listed,
     node: &Node,
 ) -> Result<Distinct<Platform, 128>, FieldFault>
-    ensures { Finds result (platforms_at known.now (view node.now)) }
+    ensures { Finds result (platforms_at listed.now (view node.now)) }
 {
     let nodes = fields::list(node, Name::Platforms, 1, 128)?;
-    let platforms = read_each_with_in(alloc, known, nodes)?;
+    let platforms = read_each_with_in(alloc, listed, nodes)?;
     Ok(Distinct::new(platforms, Name::Platforms)?)
 }
 
@@ -110,13 +110,13 @@ fn read_limits(node: &Node) -> Result<Limits, Name>
 #[tactic(auto, unfolding(crate::specs::ConfigText::stated_pair_limits_at))]
 fn read_stated_pair_limits(
     alloc: Global,
-    known: &Known,
+    listed: &Listed,
     node: &Node,
 ) -> Result<Distinct<PairLimit, 4096>, FieldFault>
-    ensures { Finds result (stated_pair_limits_at known.now (view node.now)) }
+    ensures { Finds result (stated_pair_limits_at listed.now (view node.now)) }
 {
     let nodes = fields::list_or_empty(node, Name::PairLimits, 4096)?;
-    let pair_limits = read_each_with(alloc, known, nodes)?;
+    let pair_limits = read_each_with(alloc, listed, nodes)?;
     Ok(Distinct::new(pair_limits, Name::PairLimits)?)
 }
 
@@ -124,13 +124,13 @@ fn read_stated_pair_limits(
 fn read_pair_limits(
     alloc: Global,
     version: u64,
-    known: &Known,
+    listed: &Listed,
     node: &Node,
 ) -> Result<Distinct<PairLimit, 4096>, FieldFault>
-    ensures { Finds result (pair_limits_at version known.now (view node.now)) }
+    ensures { Finds result (pair_limits_at version listed.now (view node.now)) }
 {
     if version == 2 {
-        read_stated_pair_limits(alloc, known, node)
+        read_stated_pair_limits(alloc, listed, node)
     } else {
         Ok(Distinct::empty(alloc))
     }
@@ -153,14 +153,14 @@ fn usual_tolerance() -> Tolerance
     AtMost::new(100).unwrap()
 }
 
-#[tactic(auto, unfolding(crate::specs::ConfigText::known_at))]
-fn read_known(alloc: Global, node: &Node) -> Result<Known, FieldFault>
-    ensures { Finds result (known_at (view node.now)) }
+#[tactic(auto, unfolding(crate::specs::ConfigText::listed_at))]
+fn read_listed(alloc: Global, node: &Node) -> Result<Listed, FieldFault>
+    ensures { Finds result (listed_at (view node.now)) }
 {
     let currencies = read_currencies(alloc, node)?;
     let operators = read_operators(alloc, node)?;
     let providers = read_providers(alloc, &currencies, node)?;
-    Ok(Known {
+    Ok(Listed {
         currencies,
         operators,
         providers,
@@ -180,14 +180,14 @@ struct Stated {
 fn read_stated(
     alloc: Global,
     version: u64,
-    known: &Known,
+    listed: &Listed,
     node: &Node,
 ) -> Result<Stated, FieldFault>
-    ensures { Finds result (stated_at version known.now (view node.now)) }
+    ensures { Finds result (stated_at version listed.now (view node.now)) }
 {
-    let platforms = read_platforms(alloc, known, node)?;
+    let platforms = read_platforms(alloc, listed, node)?;
     let limits = read_limits(node)?;
-    let pair_limits = read_pair_limits(alloc, version, known, node)?;
+    let pair_limits = read_pair_limits(alloc, version, listed, node)?;
     let credit_window = read_credit_window(version, node)?;
     Ok(Stated {
         platforms,
@@ -197,14 +197,14 @@ fn read_stated(
     })
 }
 
-fn config_of(tolerance: Tolerance, known: Known, stated: Stated) -> Config
-    ensures { result ≡ config_from tolerance known stated }
+fn config_of(tolerance: Tolerance, listed: Listed, stated: Stated) -> Config
+    ensures { result ≡ config_from tolerance listed stated }
 {
     Config {
         tolerance,
-        currencies: known.currencies,
-        operators: known.operators,
-        providers: known.providers,
+        currencies: listed.currencies,
+        operators: listed.operators,
+        providers: listed.providers,
         platforms: stated.platforms,
         limits: stated.limits,
         pair_limits: stated.pair_limits,
@@ -218,9 +218,9 @@ fn read_parts(alloc: Global, node: &Node) -> Result<Config, FieldFault>
 {
     let version = fields::whole(node, Name::Version, 1, 2)?;
     let tolerance = at_most_or_none(node, Name::Tolerance, 0)?.unwrap_or(usual_tolerance());
-    let known = read_known(alloc, node)?;
-    let stated = read_stated(alloc, version, &known, node)?;
-    Ok(config_of(tolerance, known, stated))
+    let listed = read_listed(alloc, node)?;
+    let stated = read_stated(alloc, version, &listed, node)?;
+    Ok(config_of(tolerance, listed, stated))
 }
 
 impl FromNodeIn for Config {

@@ -3,16 +3,16 @@ use Rattle.std.specs.Prelude.{◌≡◌, ℕ, List, count_by, unwrap_or}
 use Rattle.indexmap.specs.IndexMap.{get}
 use Rattle.ocpi_types.specs.Party.{same_party}
 use Rattle.ocpi_types.specs.declared.party.Party.{Party}
-use Rattle.plain_house.specs.Room.{is_cdr_of, is_version_of}
+use Rattle.plain_house.specs.Full.{is_cdr_of, is_version_of}
 use Rattle.plain_house.specs.declared.entry.BookEntry.{BookEntry}
-use Rattle.operator_book.specs.declared.counts.Tally.{Tally}
+use Rattle.operator_book.specs.declared.counts.CountsByOperator.{CountsByOperator}
 
-abbrev pub counted : Tally → Party → ℕ
+abbrev pub counted : CountsByOperator → Party → ℕ
 counted tally operator = unwrap_or (get same_party tally.counts operator) 0
 
 -- those that the entries have
-abbrev pub CountsCdrs : Tally → List BookEntry → Type 0
+abbrev pub CountsCdrs : CountsByOperator → List BookEntry → Type 0
 CountsCdrs tally entries = (operator : Party) → counted tally operator ≡ count_by (is_cdr_of operator) entries
 
-abbrev pub CountsVersions : Tally → List BookEntry → Type 0
+abbrev pub CountsVersions : CountsByOperator → List BookEntry → Type 0
 CountsVersions tally entries = (operator : Party) → counted tally operator ≡ count_by (is_version_of operator) entries

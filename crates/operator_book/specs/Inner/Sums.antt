@@ -9,7 +9,7 @@ use Rattle.netting_positions.specs.declared.obligation.Obligation.{Obligation}
 use Rattle.plain_house.specs.Obligations.{obligations}
 use Rattle.plain_house.specs.declared.entry.BookEntry.{BookEntry}
 use Rattle.operator_book.specs.declared.keys.SumKey.{SumKey}
-use Rattle.operator_book.specs.declared.sums.Sums.{Sums}
+use Rattle.operator_book.specs.declared.sums.OwedSums.{OwedSums}
 
 abbrev pub same_sum_key : SumKey → SumKey → Bool
 same_sum_key a b =
@@ -23,6 +23,6 @@ sum_among key obligations =
     then Some (owed_between key.operator key.provider key.currency obligations) else None
 
 -- each key has the sum of its obligations, if there are any; an entry adds at most 10^12 to those of a period
-pub record SumsUp (sums : Sums) (entries : List BookEntry) : Type 0 where
+pub record SumsUp (sums : OwedSums) (entries : List BookEntry) : Type 0 where
   pub sums_are : (key : SumKey) → get same_sum_key sums.rows key ≡ sum_among key (obligations key.period entries)
   pub small : (period : ℕ) → total_size (obligations period entries) ≤ 10 ^ 12 * length entries

@@ -2,14 +2,14 @@
 
 ghost use Rattle.std.specs.Prelude.{◌≡◌, ℕ, true, false, [], ◌∷◌, Some, None};
 ghost use Rattle.cdr_checks.specs.declared.request.Command.TheVariants.{Authorize as AuthorizeCommand};
-ghost use Rattle.plain_house.specs.House.{allows, hold_for, lacks_credit, no_room_for, unless_covered};
+ghost use Rattle.plain_house.specs.House.{allows, hold_for, lacks_credit, full_for, unless_covered};
 ghost use Rattle.plain_house.specs.declared.event.Event.TheVariants as event;
 ghost use Rattle.plain_house.specs.Verdict.{unless};
 ghost use Rattle.period_order.specs.Decided.{AccountTakes, AccountTakesAny, Decides, event_of, order_with, replied_by, seen};
 ghost use Rattle.period_order.specs.Order.{current_of};
 
+use super::full::full_for_provider;
 use super::outcomes::{accepted, refused, replied};
-use super::room::full_for_provider;
 use crate::decided::Outcome;
 use crate::numbers::in_account;
 use crate::order::Order;
@@ -33,7 +33,7 @@ fn hold_within(config: &Config, ask: &Authorize, account: &Account) -> Hold
 // Authorises a valid token.
 fn grant(config: &Config, ask: &Authorize, account: &Account, order: &mut Order) -> Outcome
     requires { order.old.has_room ≡ true }
-    ensures outcome { result ≡ replied_by (unless (no_room_for config.now (seen [] account.now.entries order.old) ask.now.provider
+    ensures outcome { result ≡ replied_by (unless (full_for config.now (seen [] account.now.entries order.old) ask.now.provider
         ∷ unless_covered (lacks_credit config.now ask.now account.now.entries) ∷ []) (allows (hold_for config.now ask.now account.now.entries))) }
     ensures takes { AccountTakesAny (Some account.now) (current_of order.old) (event_of result) }
     ensures order { order.new ≡ order_with config.now None (Some account.now) order.old result }

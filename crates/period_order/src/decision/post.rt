@@ -3,16 +3,20 @@
 ghost use Rattle.std.specs.Prelude.{◌≡◌, ◌≤◌, ◌^◌, ◌++◌, [], ◌∷◌, true, length, pos, Some, None, Ok};
 ghost use Rattle.cdr_checks.specs.declared.request.Command.TheVariants.{Post};
 ghost use Rattle.plain_house.specs.declared.entry.AccountEntry.TheVariants.{Charge as ChargeEntry};
+ghost use Rattle.plain_house.specs.Entries.{charge_of};
 ghost use Rattle.plain_house.specs.Exposure.{exposure_of, of_provider};
 ghost use Rattle.plain_house.specs.Posting.{over_limit};
-ghost use Rattle.plain_house.specs.House.{cdr_judged, cdr_posted, credit_judged, credit_posted};
+ghost use Rattle.plain_house.specs.House.{cdr_posted, credit_posted, credit_taken, full_for_cdr};
+ghost use Rattle.plain_house.specs.Verdict.{accepts, refused_for, unless};
+ghost use Rattle.plain_house.specs.declared.answer.Answer.TheVariants.{Accepted};
+ghost use Rattle.plain_house.specs.declared.event.Event.TheVariants.{Cdr as CdrEvent};
 ghost use Rattle.period_order.specs.declared.order_entry.OrderEntry.TheVariants as entry;
 ghost use Rattle.period_order.specs.Decided.{AccountTakesAny, Decides, event_of, order_with, replied_by, seen};
 ghost use Rattle.period_order.specs.Order.{current_of};
 ghost use Rattle.period_order.specs.Places.{in_account, in_book};
 
+use super::full::full_for_cdr;
 use super::outcomes::{accepted, refused, replied};
-use super::room::full_for_cdr;
 use crate::decided::Outcome;
 use crate::numbers::{in_account, in_book};
 use crate::order::Order;
@@ -54,7 +58,9 @@ fn take_cdr(
     order: &mut Order,
 ) -> Outcome
     requires { order.old.has_room ≡ true }
-    ensures outcome { result ≡ replied_by (cdr_judged config.now (seen book.now.entries account.now.entries order.old) cdr cost (Ok (pos cost))) }
+    ensures outcome { result ≡ replied_by (unless (full_for_cdr config.now (seen book.now.entries account.now.entries order.old) cdr
+        ∷ refused_for (over_limit config.now (charge_of cdr cost (current_of order.old)) account.now.entries) ∷ [])
+        (accepts (Accepted (pos cost) (current_of order.old)) (CdrEvent cdr cost))) }
     ensures takes { AccountTakesAny (Some account.now) (current_of order.old) (event_of result) }
     ensures order { order.new ≡ order_with config.now (Some book.now) (Some account.now) order.old result }
 {
@@ -84,7 +90,7 @@ fn take_credit(
     order: &mut Order,
 ) -> Outcome
     requires { order.old.has_room ≡ true }
-    ensures outcome { result ≡ replied_by (credit_judged config.now (seen book.now.entries account.now.entries order.old) credit (Ok booked)) }
+    ensures outcome { result ≡ replied_by (credit_taken config.now (seen book.now.entries account.now.entries order.old) credit (Ok booked)) }
     ensures takes { AccountTakesAny (Some account.now) (current_of order.old) (event_of result) }
     ensures order { order.new ≡ order_with config.now (Some book.now) (Some account.now) order.old result }
 {
@@ -101,6 +107,7 @@ fn take_credit(
     accepted(Answer::Accepted { amount, period }, event)
 }
 
+#[tactic(auto, using(crate::proofs::PostLemmas::cdr_replied, crate::proofs::PostLemmas::cdr_left))]
 fn post_cdr(
     config: &Config,
     cdr: Cdr,
@@ -114,12 +121,13 @@ fn post_cdr(
     ensures takes { AccountTakesAny (Some account.now) (current_of order.old) (event_of result) }
     ensures order { order.new ≡ order_with config.now (Some book.now) (Some account.now) order.old result }
 {
-    match book.judge_cdr(&cdr, cost) {
-        Ok(_) => take_cdr(config, cdr, cost, book, account, order),
-        Err(reply) => replied(reply),
+    match book.judge_cdr(&cdr) {
+        Some(reply) => replied(reply),
+        None => take_cdr(config, cdr, cost, book, account, order),
     }
 }
 
+#[tactic(auto, using(crate::proofs::PostLemmas::credit_replied, crate::proofs::PostLemmas::credit_left))]
 fn post_credit(
     config: &Config,
     credit: Cdr,

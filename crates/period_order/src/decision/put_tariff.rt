@@ -4,8 +4,8 @@ ghost use Rattle.std.specs.Prelude.{◌≡◌, true, Some, None};
 ghost use Rattle.cdr_checks.specs.declared.request.Command.TheVariants.{PutTariff};
 ghost use Rattle.period_order.specs.Decided.{Decides, order_with};
 
+use super::full::full_for_tariff;
 use super::outcomes::{accepted, refused, replied};
-use super::room::full_for_tariff;
 use crate::decided::Outcome;
 use crate::numbers::in_book;
 use crate::order::Order;

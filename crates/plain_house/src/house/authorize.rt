@@ -6,14 +6,14 @@ ghost use Rattle.cdr_checks.specs.declared.request.Command.TheVariants.{Authoriz
 ghost use Rattle.plain_house.specs.Entries.{account_entries};
 ghost use Rattle.plain_house.specs.Exposure.{exposure_of, of_pair};
 ghost use Rattle.plain_house.specs.Known.{known};
-ghost use Rattle.plain_house.specs.House.{Does, allows, hold_for, is_hold_of, lacks_credit, next_reference, no_room_for, passes, unless_covered};
+ghost use Rattle.plain_house.specs.House.{Does, allows, hold_for, is_hold_of, lacks_credit, next_reference, full_for, passes, unless_covered};
 ghost use Rattle.plain_house.specs.Inner.Scanned.{event_is_hold_of};
 ghost use Rattle.plain_house.specs.LegalLists.{KeepsLimits};
 ghost use Rattle.plain_house.specs.Replies.{Follows};
 ghost use Rattle.plain_house.specs.Verdict.{unless};
 
+use super::full::full_for_provider;
 use super::replies::{add, refused, replied};
-use super::room::full_for_provider;
 use crate::answer::{Answer, Refused, Replied};
 use crate::debts::exposure_of;
 use crate::event::{Event, Hold};
@@ -103,7 +103,7 @@ fn hold_for(config: &Config, events: &[Event], ask: &Authorize) -> Hold
 // Authorises a valid token.
 fn grant(config: &Config, events: &mut Vec<Event>, ask: &Authorize) -> Result<Replied, Refused>
     requires { KeepsLimits config.now (account_entries events.old.items) }
-    ensures { Follows (unless (no_room_for config.now (known events.old.items) ask.now.provider
+    ensures { Follows (unless (full_for config.now (known events.old.items) ask.now.provider
         ∷ unless_covered (lacks_credit config.now ask.now (account_entries events.old.items)) ∷ [])
         (allows (hold_for config.now ask.now (account_entries events.old.items)))) events.old.items result events.new.items }
 {

@@ -7,8 +7,8 @@ ghost use Rattle.plain_house.specs.House.{Does};
 ghost use Rattle.plain_house.specs.LegalLists.{CanBeNetted};
 ghost use Rattle.plain_house.specs.Replies.{Follows};
 
+use super::full::full_for_close;
 use super::replies::{add, refused};
-use super::room::full_for_close;
 use crate::answer::{Answer, Refused, Replied};
 use crate::event::Event;
 use crate::obligations::positions_in;

@@ -1,20 +1,23 @@
 //! Posting a CDR or a Credit CDR.
 
-ghost use Rattle.std.specs.Prelude.{◌≡◌, ◌<◌, ◌≤◌, ◌^◌, [], ◌∷◌, ◌++◌, Ok, IfErr, pos};
+ghost use Rattle.std.specs.Prelude.{◌≡◌, ◌<◌, ◌≤◌, ◌^◌, [], ◌∷◌, ◌++◌, Ok, pos};
 ghost use Rattle.ocpi_types.specs.Config.{pair_limit_of};
 ghost use Rattle.cdr_checks.specs.declared.request.Command.TheVariants.{Post};
-ghost use Rattle.plain_house.specs.Entries.{account_entries, book_entries, period_of};
+ghost use Rattle.plain_house.specs.Entries.{account_entries, book_entries, charge_of, period_of};
 ghost use Rattle.plain_house.specs.Exposure.{exposure_of, of_pair};
 ghost use Rattle.plain_house.specs.Known.{known};
-ghost use Rattle.plain_house.specs.House.{Does, cdr_judged, cdr_posted, credit_judged, credit_posted};
+ghost use Rattle.plain_house.specs.House.{Does, cdr_posted, credit_posted, credit_taken, full_for_cdr};
 ghost use Rattle.plain_house.specs.LegalLists.{KeepsLimits};
-ghost use Rattle.plain_house.specs.Posting.{above, above_if_any, judged_cdr, judged_credit, over_limit};
-ghost use Rattle.plain_house.specs.Replies.{Follows, IsTold};
+ghost use Rattle.plain_house.specs.Posting.{above, above_if_any, credited_amount, over_limit};
+ghost use Rattle.plain_house.specs.Replies.{Follows};
+ghost use Rattle.plain_house.specs.Verdict.{accepts, refused_for, unless};
+ghost use Rattle.plain_house.specs.declared.answer.Answer.TheVariants.{Accepted};
 ghost use Rattle.plain_house.specs.declared.entry.AccountEntry.TheVariants as account;
+ghost use Rattle.plain_house.specs.declared.event.Event.TheVariants.{Cdr as CdrEvent};
 
 use super::credit::credited_amount;
+use super::full::full_for_cdr;
 use super::replies::{add, refused};
-use super::room::full_for_cdr;
 use crate::answer::{Answer, Refused, Replied};
 use crate::booked::booked_as;
 use crate::booked_amount::BookedAmount;
@@ -28,42 +31,6 @@ use crate::scope::Scope;
 use crate::tariffs::lacks_registered;
 use cdr_checks::Checked;
 use ocpi_types::{Cdr, Config, Cost, Refusal};
-
-// The amount at which the book takes a CDR, or its reply.
-fn judged_cdr(
-    events: &[Event],
-    cdr: &Cdr,
-    cost: Cost,
-) -> Result<BookedAmount, Result<Answer, Refusal>>
-    ensures value { result ≡ judged_cdr cdr.now cost (book_entries events.now) }
-    ensures told { IfErr result (λ reply. IsTold reply) }
-{
-    if let Some(found) = booked_as(events, &cdr.operator, &cdr.id) {
-        return Err(reply_to_booked(&found, cdr));
-    }
-    if lacks_registered(events, cdr) {
-        return Err(Err(Refusal::TariffNotRegistered));
-    }
-    Ok(BookedAmount::of_cost(cost))
-}
-
-// The same of a Credit CDR.
-fn judged_credit(
-    config: &Config,
-    events: &[Event],
-    credit: &Cdr,
-) -> Result<BookedAmount, Result<Answer, Refusal>>
-    ensures value { result ≡ judged_credit config.now (period_of events.now) credit.now (book_entries events.now) }
-    ensures told { IfErr result (λ reply. IsTold reply) }
-{
-    if let Some(found) = booked_as(events, &credit.operator, &credit.id) {
-        return Err(reply_to_booked(&found, credit));
-    }
-    match credited_amount(config, events, period_of(events), credit) {
-        Ok(amount) => Ok(amount),
-        Err(refusal) => Err(Err(refusal)),
-    }
-}
 
 // The refusal where an exposure with the charge added is above its limit.
 fn above_with(
@@ -121,7 +88,9 @@ fn book_cdr(
     cost: Cost,
 ) -> Result<Replied, Refused>
     requires { KeepsLimits config.now (account_entries events.old.items) }
-    ensures { Follows (cdr_judged config.now (known events.old.items) cdr cost (Ok (pos cost))) events.old.items result events.new.items }
+    ensures { Follows (unless (full_for_cdr config.now (known events.old.items) cdr
+        ∷ refused_for (over_limit config.now (charge_of cdr cost (period_of events.old.items)) (account_entries events.old.items)) ∷ [])
+        (accepts (Accepted (pos cost) (period_of events.old.items)) (CdrEvent cdr cost))) events.old.items result events.new.items }
 {
     let at = events.len();
     if let Some(what) = full_for_cdr(config, events.as_slice(), &cdr) {
@@ -149,10 +118,14 @@ fn post_cdr(
     requires { KeepsLimits config.now (account_entries events.old.items) }
     ensures { Follows (cdr_posted config.now (known events.old.items) cdr cost) events.old.items result events.new.items }
 {
-    match judged_cdr(events.as_slice(), &cdr, cost) {
-        Ok(_) => book_cdr(config, events, cdr, cost),
-        Err(reply) => stamped(events.len() as u64, reply),
+    let at = events.len();
+    if let Some(found) = booked_as(events.as_slice(), &cdr.operator, &cdr.id) {
+        return stamped(at as u64, reply_to_booked(&found, &cdr));
     }
+    if lacks_registered(events.as_slice(), &cdr) {
+        return Err(refused(at, Refusal::TariffNotRegistered));
+    }
+    book_cdr(config, events, cdr, cost)
 }
 
 // Books a Credit CDR that its operator's book takes.
@@ -162,7 +135,7 @@ fn book_credit(
     credit: Cdr,
     booked: BookedAmount,
 ) -> Result<Replied, Refused>
-    ensures { Follows (credit_judged config.now (known events.old.items) credit (Ok booked)) events.old.items result events.new.items }
+    ensures { Follows (credit_taken config.now (known events.old.items) credit (Ok booked)) events.old.items result events.new.items }
 {
     let at = events.len();
     if let Some(what) = full_for_cdr(config, events.as_slice(), &credit) {
@@ -180,13 +153,26 @@ fn book_credit(
     )
 }
 
+// A Credit CDR whose id is not booked.
+fn take_credit(config: &Config, events: &mut Vec<Event>, credit: Cdr) -> Result<Replied, Refused>
+    ensures { Follows (credit_taken config.now (known events.old.items) credit (credited_amount config.now (period_of events.old.items) credit (book_entries events.old.items))) events.old.items result events.new.items }
+{
+    let at = events.len();
+    let period = period_of(events.as_slice());
+    match credited_amount(config, events.as_slice(), period, &credit) {
+        Ok(amount) => book_credit(config, events, credit, amount),
+        Err(refusal) => Err(refused(at, refusal)),
+    }
+}
+
 fn post_credit(config: &Config, events: &mut Vec<Event>, credit: Cdr) -> Result<Replied, Refused>
     ensures { Follows (credit_posted config.now (known events.old.items) credit) events.old.items result events.new.items }
 {
-    match judged_credit(config, events.as_slice(), &credit) {
-        Ok(amount) => book_credit(config, events, credit, amount),
-        Err(reply) => stamped(events.len() as u64, reply),
+    let at = events.len() as u64;
+    if let Some(found) = booked_as(events.as_slice(), &credit.operator, &credit.id) {
+        return stamped(at, reply_to_booked(&found, &credit));
     }
+    take_credit(config, events, credit)
 }
 
 pub fn post(config: &Config, events: &mut Vec<Event>, checked: Checked) -> Result<Replied, Refused>

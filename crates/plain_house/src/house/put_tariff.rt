@@ -4,8 +4,8 @@ ghost use Rattle.std.specs.Prelude.{◌≡◌};
 ghost use Rattle.cdr_checks.specs.declared.request.Command.TheVariants.{PutTariff};
 ghost use Rattle.plain_house.specs.House.{Does};
 
+use super::full::full_for_tariff;
 use super::replies::{add, refused, replied};
-use super::room::full_for_tariff;
 use crate::answer::{Answer, Refused, Replied};
 use crate::event::Event;
 use crate::tariffs::stored_version;

@@ -3,8 +3,8 @@
 ghost use Rattle.cdr_checks.specs.declared.request.Command.TheVariants.{Release as ReleaseCommand};
 ghost use Rattle.plain_house.specs.House.{Does};
 
+use super::full::full_for_provider;
 use super::replies::{add, refused};
-use super::room::full_for_provider;
 use crate::answer::{Answer, Refused, Replied};
 use crate::event::Event;
 use crate::holds::released_hold;

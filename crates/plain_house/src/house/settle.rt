@@ -7,8 +7,8 @@ ghost use Rattle.plain_house.specs.House.{Does};
 ghost use Rattle.plain_house.specs.LegalLists.{KeepsLimits};
 ghost use Rattle.plain_house.specs.Settlements.{settled_debt};
 
+use super::full::full_for_provider;
 use super::replies::{add, refused};
-use super::room::full_for_provider;
 use crate::answer::{Answer, Refused, Replied};
 use crate::debts::{is_settled, settled_debt};
 use crate::event::Event;

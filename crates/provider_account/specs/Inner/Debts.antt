@@ -42,7 +42,7 @@ pub record KnowsDebts (debts : Debts) (entries : List AccountEntry) : Type 0 whe
 
 -- room for what one more entry needs
 pub record HasRoomForDebts (debts : Debts) : Type 0 where
-  pub owed : 4 ≤ map.spare debts.owed.amounts
+  pub owed : 4 ≤ map.spare debts.owed.amounts.cells
   pub credited : 0 < set.spare debts.ended.credited
   pub settled : 0 < set.spare debts.ended.settled
   pub charged : 0 < map.spare debts.charged.places

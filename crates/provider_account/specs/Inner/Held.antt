@@ -7,7 +7,7 @@ use Rattle.ocpi_types.specs.Party.{same_party}
 use Rattle.plain_house.specs.declared.event.Hold.{Hold}
 use Rattle.plain_house.specs.declared.scope.Scope.{Scope}
 use Rattle.provider_account.specs.declared.held.HeldKey.{HeldKey}
-use Rattle.provider_account.specs.declared.sums.Sums.{Sums}
+use Rattle.provider_account.specs.declared.sums.SumsByKey.{SumsByKey}
 use Rattle.provider_account.specs.Inner.Sums.{sum_at}
 
 -- the same provider and currency, with the same operator or with all
@@ -22,5 +22,5 @@ abbrev pub key_of : Option Party → Hold → HeldKey
 key_of operator hold = record { operator = operator; provider = hold.provider; currency = hold.currency }
 
 -- what is held within the scope
-abbrev pub held_at : Sums HeldKey → Scope → ℕ
+abbrev pub held_at : SumsByKey HeldKey → Scope → ℕ
 held_at held scope = sum_at same_held held (key_of_scope scope)

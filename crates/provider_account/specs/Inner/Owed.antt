@@ -1,15 +1,15 @@
 -- The sums of what is owed, by their keys.
 use Rattle.std.specs.Prelude.{ℕ, Option, if◌then◌else◌}
-use Rattle.std.specs.Option.{unwrap_or}
-use Rattle.indexmap.specs.IndexMap.{IndexMap, get}
 use Rattle.provider_account.specs.declared.debt_keys.DebtKey.{DebtKey}
 use Rattle.provider_account.specs.declared.debt_keys.PeriodKey.{PeriodKey}
 use Rattle.ocpi_types.specs.declared.party.Party.{Party}
+use Rattle.provider_account.specs.declared.sums.SumsByKey.{SumsByKey}
 use Rattle.provider_account.specs.Inner.DebtKeys.{same_key}
+use Rattle.provider_account.specs.Inner.Sums.{sum_at}
 
 -- what stands at a key, 0 where nothing does
-abbrev pub amount_of : {S : Type 0} → IndexMap DebtKey ℕ S → DebtKey → ℕ
-amount_of amounts key = unwrap_or (get same_key amounts key) 0
+abbrev pub amount_of : SumsByKey DebtKey → DebtKey → ℕ
+amount_of amounts key = sum_at same_key amounts key
 
 -- what a change at a key is at another
 abbrev pub part_of : DebtKey → DebtKey → ℕ → ℕ

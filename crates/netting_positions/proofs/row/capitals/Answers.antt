@@ -1,6 +1,6 @@
 use Rattle.std.proofs.Common.{◌≡◌, ap, sym, subst, ◌∙◌}
 use Rattle.std.specs.Str.{IsUtf8}
-use Rattle.netting_positions.specs.Statement.{capitals}
+use Rattle.netting_positions.specs.StatementKeys.{capitals}
 use Rattle.netting_positions.proofs.Capitals.{capitals_fit, ok_if, printable_capitals, printable_utf8}
 use Rattle.netting_positions.proofs.row.capitals.Goals as goal
 

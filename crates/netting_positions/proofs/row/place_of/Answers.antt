@@ -1,6 +1,6 @@
 use Rattle.std.proofs.lemmas.Fn.{always_returns_same}
 use Rattle.netting_positions.specs.Inner.StatedRows.{row_key}
-use Rattle.netting_positions.specs.Statement.{key_order}
+use Rattle.netting_positions.specs.StatementKeys.{key_order}
 use Rattle.netting_positions.proofs.row.place_of.Goals as goal
 
 pub returns-clause-position : goal.returns-clause-position

@@ -11,7 +11,7 @@ use Rattle.netting_positions.specs.declared.obligation.Obligation.{Obligation}
 use Rattle.netting_positions.specs.declared.row.Key.{Key}
 use Rattle.netting_positions.specs.declared.row.StatementRow.{StatementRow}
 use Rattle.netting_positions.specs.Inner.StatedRows.{row_key, row_with, rows_with, zero_row}
-use Rattle.netting_positions.specs.Statement.{key_order}
+use Rattle.netting_positions.specs.StatementKeys.{key_order}
 use Rattle.netting_positions.proofs.RowSearch.{put_found, put_new, searchable}
 use Rattle.netting_positions.proofs.statement.add_to_row.Goals as goal
 

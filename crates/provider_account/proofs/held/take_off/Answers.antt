@@ -11,12 +11,12 @@ take-requires c =
 pub take-requires-2 : goal.take-requires-2
 take-requires-2 c =
     let hold = c.args.hold.now in
-    let stays = pair_stays hold c.args.held.now c.take.new.self _ (rw c.key_of.ensures at c.take.ensures) in
+    let stays = pair_stays hold c.args.held.now c.take.new.self _ (rw c.key_of.ensures at c.take.ensures.set) in
     rw (c.key_of-2.ensures, c.get-amount.ensures.value, stays) (c.requires (of_pair hold.operator hold.provider hold.currency) (within_pair hold))
 
 pub returns : goal.returns
 returns c =
     let hold = c.args.hold.now in
     both_set (λ sum. sum - hold.amount) hold c.args.held.now c.take.new.self c.take-2.new.self
-    (rw (c.key_of.ensures, c.get-amount.ensures.value) at c.take.ensures)
-    (rw (c.key_of-2.ensures, c.get-amount.ensures.value) at c.take-2.ensures)
+    (rw (c.key_of.ensures, c.get-amount.ensures.value) at c.take.ensures.set)
+    (rw (c.key_of-2.ensures, c.get-amount.ensures.value) at c.take-2.ensures.set)

@@ -4,7 +4,7 @@ use Rattle.netting_positions.specs.declared.row.StatementRow.{StatementRow}
 use Rattle.netting_positions.specs.Inner.StatedRows.{row_key}
 use Rattle.netting_positions.specs.Netting.{is_configured, size, total_size}
 use Rattle.netting_positions.specs.State.{PlainStatement}
-use Rattle.netting_positions.specs.Statement.{key_order}
+use Rattle.netting_positions.specs.StatementKeys.{key_order}
 use Rattle.netting_positions.proofs.StatedLemmas.{has_place, rows_sorted, stated_of_key, stated_of_others, stated_rooms}
 use Rattle.netting_positions.proofs.statement.StatementTableObligationTable.add.Goals as goal
 use Rattle.netting_positions.proofs.statement.StatementTableObligationTable.add.Goals.{in-Some, in_default}

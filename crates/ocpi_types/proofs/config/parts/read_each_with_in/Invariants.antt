@@ -5,4 +5,4 @@ use Rattle.ocpi_types.proofs.Eaches.{behind_items}
 use Rattle.ocpi_types.proofs.config.parts.read_each_with_in.Given as goal
 
 abbrev pub invariant-loop-node : goal.invariant-loop-node
-invariant-loop-node g l = each (g.T.FromNodeWithIn.at_with l.known) (map view l.nodes) ≡ behind_items l.values (each (g.T.FromNodeWithIn.at_with l.known) (map view (drop l.node-index l.nodes)))
+invariant-loop-node g l = each (g.T.FromNodeWithIn.at_with l.listed) (map view l.nodes) ≡ behind_items l.values (each (g.T.FromNodeWithIn.at_with l.listed) (map view (drop l.node-index l.nodes)))

@@ -8,4 +8,4 @@ use Rattle.ocpi_types.proofs.config.reading.read_platforms.Goals as goal
 
 pub new-requires : goal.new-requires
 new-requires c =
-    (omega arith, values_within (platform_at c.args.known.now) view 1 128 name.Platforms (view c.args.node.now) c.in_ok-nodes.nodes.now c.in_ok-platforms.platforms c.in_ok-nodes.ensures c.in_ok-platforms.ensures)
+    (omega arith, values_within (platform_at c.args.listed.now) view 1 128 name.Platforms (view c.args.node.now) c.in_ok-nodes.nodes.now c.in_ok-platforms.platforms c.in_ok-nodes.ensures c.in_ok-platforms.ensures)

@@ -8,4 +8,4 @@ use Rattle.ocpi_types.proofs.config.reading.read_stated_pair_limits.Goals as goa
 
 pub new-requires : goal.new-requires
 new-requires c =
-    (omega arith, optional_values_within (pair_limit_at c.args.known.now) view 4096 name.PairLimits (view c.args.node.now) c.in_ok-nodes.nodes.now c.in_ok-pair_limits.pair_limits c.in_ok-nodes.ensures c.in_ok-pair_limits.ensures)
+    (omega arith, optional_values_within (pair_limit_at c.args.listed.now) view 4096 name.PairLimits (view c.args.node.now) c.in_ok-nodes.nodes.now c.in_ok-pair_limits.pair_limits c.in_ok-nodes.ensures c.in_ok-pair_limits.ensures)

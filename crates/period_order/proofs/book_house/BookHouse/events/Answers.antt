@@ -1,4 +1,4 @@
-use Rattle.std.proofs.Common.{◌≡◌, ℕ, Err, sym, ap, ◌∙◌, subst}
+use Rattle.std.proofs.Common.{ℕ, Err, ap, ◌∙◌, subst}
 use Rattle.period_order.specs.Inner.Kept.{kept_events}
 use Rattle.period_order.specs.Resolved.{entries_of_accounts, entries_of_books}
 use Rattle.period_order.specs.Resolves.{FailsAt, Resolves}

@@ -6,7 +6,7 @@ use Rattle.period_order.specs.declared.order_entry.OrderEntry.{OrderEntry}
 use Rattle.period_order.specs.declared.order_entry.OrderEntry.TheVariants as entry
 use Rattle.period_order.specs.Inner.Kept.{kept_events}
 use Rattle.period_order.specs.Inner.Named.{IsNamed}
-use Rattle.period_order.specs.Order.{is_close}
+use Rattle.period_order.specs.Order.{is_close_entry}
 use Rattle.period_order.specs.Resolved.{entries_of_accounts, entries_of_books}
 use Rattle.period_order.specs.Resolves.{Resolves}
 use Rattle.period_order.proofs.ResolvedLemmas.{kept_resolves}
@@ -26,10 +26,10 @@ returns c =
     let events : List Event = kept_events c.self.inside.books.items c.self.inside.accounts.items c.self.inside.order in
     let kept : OrderEntry = c.in-Some.entry.now in
     let resolves : Resolves books accounts order events = kept_resolves c.orders_resolve.ensures _ _ _ _ _ c.self.invariant in
-    let current : count_by is_close order ≡ period_of events =
-    ap (count_by is_close) c.self.invariant.order_is ∙ (c.orders_are_counted.ensures c.self.inside.config events).closes in
+    let current : count_by is_close_entry order ≡ period_of events =
+    ap (count_by is_close_entry) c.self.invariant.order_is ∙ (c.orders_are_counted.ensures c.self.inside.config events).closes in
     let at : slice_get order (length order - 1) ≡ Some kept = ap (λ (l : List OrderEntry). slice_get l (length l - 1)) (sym c.entries.ensures) ∙ sym c.in-Some.ensures.value in
-    let which : ((kept ≡ entry.Close) × (c.match-entry.period ≡ count_by is_close order - 1)) ⊎ ((kept ≡ entry.Close → ⊥) × (c.match-entry.period ≡ count_by is_close order)) =
+    let which : ((kept ≡ entry.Close) × (c.match-entry.period ≡ count_by is_close_entry order - 1)) ⊎ ((kept ≡ entry.Close → ⊥) × (c.match-entry.period ≡ count_by is_close_entry order)) =
     elim c.match-entry.branch [
       | in-Close w ↦ inl (w.in-Close.is, w.period-is ∙ ap (λ n. n - 1) w.current.ensures)
       | in_default-entry w ↦ inr (w.in_default-entry.not-Close, w.period-is ∙ w.current-period.ensures)
@@ -39,4 +39,4 @@ returns c =
     (subst (λ a. IfOk c.named.result (IsNamed (entries_of_books c.as_slice.result.now) (entries_of_accounts a) c.match-entry.period kept)) c.as_slice-2.ensures.value c.named.ensures) in
     subst (λ (house : State). IfOk c.named.result (λ last. last ≡ slice_get house.events (length house.events - 1))) c.self.view_is
     (if_ok c.named.result (IsNamed books accounts c.match-entry.period kept) (λ last. last ≡ slice_get events (length events - 1))
-    (λ found is. last_is books accounts order events kept (count_by is_close order) c.match-entry.period found resolves at current which is) named)
+    (λ found is. last_is books accounts order events kept (count_by is_close_entry order) c.match-entry.period found resolves at current which is) named)

@@ -1,6 +1,0 @@
-use Rattle.json.specs.Value.{value_view as view}
-use Rattle.ocpi_types.proofs.InParts.{cdr}
-use Rattle.ocpi_types.proofs.cdr.read_members.Goals as goal
-
-pub returns : goal.returns
-returns c = rw (cdr (view c.args.node.now)) c.read_parts.ensures
