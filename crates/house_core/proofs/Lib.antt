@@ -1,0 +1,12 @@
+pub mod Abandoning
+pub mod Deciding
+pub mod EachStep
+pub mod EntryHouse
+pub mod Folds
+pub mod HouseLaws
+pub mod Keeping
+pub mod LocalLemmas
+pub mod Ordering
+pub mod StepLemmas
+pub mod TimeLemmas
+pub mod Wholes

@@ -1,0 +1,240 @@
+-- Calls that do not overlap keep their order.
+use Rattle.std.proofs.Common.{◌≡◌, ◌≢◌, ◌≤◌, ℕ, List, [], ◌∷◌, Bool, true, false, if◌then◌else◌, refl, sym, ap, subst, ◌∙◌, length, Option, None, Some, is_none, option_map, option_to_list, slice_get, slice_set, length-append, arith, ⊎_elim}
+use Rattle.std.specs.Option.{option_and_then}
+use Rattle.std.proofs.lemmas.Bool.{cases_eq}
+use Rattle.std.proofs.lemmas.Option.{none-some, same_Some}
+use Rattle.ocpi_types.specs.declared.config.Config.{Config}
+use Rattle.ocpi_types.specs.declared.config.Operator.{Operator}
+use Rattle.cdr_checks.specs.declared.request.Command.{Command}
+use Rattle.plain_house.specs.declared.entry.BookEntry.{BookEntry}
+use Rattle.plain_house.specs.Replies.{stamped}
+use Rattle.house_core.specs.declared.call.Call.{Call}
+use Rattle.house_core.specs.declared.finished.Done.TheVariants as done
+use Rattle.house_core.specs.declared.stage.Carried.{Carried}
+use Rattle.house_core.specs.declared.stage.Stage.{Stage}
+use Rattle.house_core.specs.declared.stage.Stage.TheVariants as stage
+use Rattle.house_core.specs.Locks.{Lock, held, lock_at}
+use Rattle.house_core.proofs.Wholes.{get-set_other, get-set_same}
+use Rattle.house_core.specs.declared.finished.Finished.{Finished}
+use Rattle.house_core.specs.declared.step.Step.{Step}
+use Rattle.std.specs.List.{AllByRecursion}
+use Rattle.house_core.specs.OneHouse.{IsWaiting, KeepTime, after, finished}
+use Rattle.house_core.proofs.Folds.{each-append}
+use Rattle.house_core.specs.Steps.{Change, abandon, change_by, changed, collect_at, collected, end, ended, ended_by, finishes, known_to, of_account, of_book, of_call, order, put_account, put_book, step, take_account, take_book}
+use Rattle.house_core.specs.declared.step.Action.{Action}
+use Rattle.house_core.specs.declared.step.Action.TheVariants as action
+use Rattle.house_core.specs.Calls.{ReplyDue, begun, for_account, for_book, held_account, held_book, ordered, ready, reply_due, reply_due_at, waiting, wanted_account, wanted_book}
+use Rattle.house_core.specs.World.{PlainWorld}
+
+-- the order never shrinks
+changed_longer : (world : PlainWorld) (number : ℕ) (o : Option Change) → length world.order ≤ length (changed world number o).order
+changed_longer world number None = omega arith
+changed_longer world number (Some change) = omega (arith, length-append world.order (option_to_list change.entry))
+
+pub step_longer : (world : PlainWorld) (one : Step) → length world.order ≤ length (step world one).order
+step_longer world one = changed_longer world one.call _
+
+pub after_longer : (world : PlainWorld) (steps : List Step) → length world.order ≤ length (after world steps).order
+after_longer world [] = omega arith
+after_longer world (one ∷ later) =
+    let here : length world.order ≤ length (step world one).order = step_longer world one in
+    let rest : length (step world one).order ≤ length (after (step world one) later).order = after_longer (step world one) later in
+    omega (arith, here, rest)
+
+-- ---- what has begun behind a number of events
+
+-- where the call has begun, so many events were there
+abbrev pub Late : ℕ → Call → Type 0
+Late n call = waiting call.stage ≡ None → n ≤ call.begin
+
+-- what is so of what is made of what is given
+made : {X : Type 0} (f : X → Change) (o : Option X) (change : Change) (P : Change → Type 0) → ((x : X) → o ≡ Some x → P (f x)) → option_map f o ≡ Some change → P change
+made f None change P all h = absurd (none-some change h)
+made f (Some x) change P all h = subst P (same_Some (f x) change h) (all x refl)
+
+made_then : {X : Type 0} (f : X → Option Change) (o : Option X) (change : Change) (P : Change → Type 0) → ((x : X) → o ≡ Some x → f x ≡ Some change → P change) → option_and_then f o ≡ Some change → P change
+made_then f None change P all h = absurd (none-some change h)
+made_then f (Some x) change P all h = all x refl h
+
+where_free : (free : Bool) (given change : Change) (P : Change → Type 0) → P given → (if free then Some given else None) ≡ Some change → P change
+where_free true given change P holds h = subst P (same_Some given change h) holds
+where_free false given change P holds h = absurd (none-some change h)
+
+only_if : {X : Type 0} (b : Bool) (o : Option X) (x : X) → (if b then o else None) ≡ Some x → o ≡ Some x
+only_if true o x h = h
+only_if false o x h = absurd (none-some x h)
+
+made_end : {X : Type 0} {n number point : ℕ} (f : X → Finished) (o : Option X) (g : Finished) → ((x : X) → o ≡ Some x → ((f x).call ≡ number) × (n ≤ (f x).begin) × ((f x).end ≡ point))
+    → option_map f o ≡ Some g → (g.call ≡ number) × (n ≤ g.begin) × (g.end ≡ point)
+made_end f None g all h = absurd (none-some g h)
+made_end {n = n} {number = number} {point = point} f (Some x) g all h =
+    subst (λ (y : Finished). (y.call ≡ number) × (n ≤ y.begin) × (y.end ≡ point)) (same_Some (f x) g h) (all x refl)
+
+begun_waits : (s : Stage) (own : Command) → begun s ≡ Some own → waiting s ≡ None
+begun_waits (stage.Waiting c) own h = absurd (none-some own h)
+begun_waits (stage.Begun c) own h = refl
+begun_waits (stage.Ordered c) own h = refl
+begun_waits (stage.Netting c) own h = refl
+begun_waits (stage.Stating c) own h = refl
+begun_waits stage.Ended own h = refl
+
+ordered_waits : (s : Stage) (c : Carried) → ordered s ≡ Some c → waiting s ≡ None
+ordered_waits (stage.Waiting c) own h = absurd (none-some own h)
+ordered_waits (stage.Begun c) own h = refl
+ordered_waits (stage.Ordered c) own h = refl
+ordered_waits (stage.Netting c) own h = refl
+ordered_waits (stage.Stating c) own h = refl
+ordered_waits stage.Ended own h = refl
+
+told_waits : (has_lock : Bool) (s : Stage) (t : ReplyDue) → reply_due_at has_lock s ≡ Some t → waiting s ≡ None
+told_waits b (stage.Waiting c) own h = absurd (none-some own h)
+told_waits b (stage.Begun c) own h = refl
+told_waits b (stage.Ordered c) own h = refl
+told_waits b (stage.Netting c) own h = refl
+told_waits b (stage.Stating c) own h = refl
+told_waits b stage.Ended own h = refl
+
+collected_waits : (config : Config) (n : ℕ) (operator : Operator) (entries : List BookEntry) (s next : Stage) → collected config n operator entries s ≡ Some next → waiting s ≡ None
+collected_waits config n operator entries (stage.Waiting c) next h = absurd (none-some next h)
+collected_waits config n operator entries (stage.Begun c) next h = refl
+collected_waits config n operator entries (stage.Ordered c) next h = refl
+collected_waits config n operator entries (stage.Netting c) next h = refl
+collected_waits config n operator entries (stage.Stating c) next h = refl
+collected_waits config n operator entries stage.Ended next h = refl
+
+module _ (n : ℕ) (world : PlainWorld) (within : n ≤ length world.order) (number : ℕ) (call : Call) (late : Late n call) where
+  abbrev LateChange : Change → Type 0
+  LateChange change = Late n change.call
+
+  change_late : (a : Action) (change : Change) → change_by world number call a ≡ Some change → LateChange change
+  change_late action.Begin change h =
+      made (λ (own : Command). of_call (record call { begin = length world.order; stage = stage.Begun own })) (waiting call.stage) change LateChange (λ x e. λ w. within) h
+  change_late action.TakeBook change h =
+      made_then (take_book number call) (lock_at world.books (wanted_book call)) change LateChange
+      (λ lock e g. where_free (is_none lock.holder) (of_book (record call { has_book = true }) (held number lock)) change LateChange late g) h
+  change_late action.TakeAccount change h =
+      made_then (take_account number call) (lock_at world.accounts (wanted_account call)) change LateChange
+      (λ lock e g. where_free (is_none lock.holder) (of_account (record call { has_account = true }) (held number lock)) change LateChange late g) h
+  change_late action.Order change h =
+      made (order world.config (known_to world call) call) (ready call) change LateChange
+      (λ own e. λ w. late (begun_waits call.stage own (only_if _ (begun call.stage) own e))) h
+  change_late action.PutAccount change h =
+      made_then (λ (c : Carried). option_map (put_account call c) (lock_at world.accounts call.account)) (for_account call) change LateChange
+      (λ c e g. made (put_account call c) (lock_at world.accounts call.account) change LateChange (λ lock e. late) g) h
+  change_late action.PutBook change h =
+      made_then (λ (c : Carried). option_map (put_book call c) (lock_at world.books call.book)) (for_book call) change LateChange
+      (λ c e g. made (put_book call c) (lock_at world.books call.book) change LateChange (λ lock f. λ w. late (ordered_waits call.stage c (only_if _ (ordered call.stage) c e))) g) h
+  change_late (action.Collect operator) change h = by (slice_get world.config.operators operator) (slice_get world.books operator) h
+    where
+      free : (b : Bool) (party : Operator) (entries : List BookEntry)
+          → (if b then option_map (λ (s : Stage). of_call (record call { stage = s })) (collected world.config operator party entries call.stage) else None) ≡ Some change → Late n change.call
+      free true party entries g =
+          made (λ (s : Stage). of_call (record call { stage = s })) (collected world.config operator party entries call.stage) change (λ c. Late n c.call)
+          (λ s e. λ w. late (collected_waits world.config operator party entries call.stage s e)) g
+      free false party entries g = absurd (none-some change g)
+
+      by : (party : Option Operator) (lock : Option (Lock BookEntry)) → collect_at world.config operator call party lock ≡ Some change → Late n change.call
+      by None lock g = absurd (none-some change g)
+      by (Some party) None g = absurd (none-some change g)
+      by (Some party) (Some lock) g = free (is_none lock.holder) party lock.entries g
+  change_late action.Abandon change h =
+      made (λ (own : Command). abandon call (lock_at world.books (held_book call)) (lock_at world.accounts (held_account call))) (begun call.stage) change LateChange
+      (λ own e. λ w. late (begun_waits call.stage own e)) h
+  change_late action.End change h =
+      made (λ (t : ReplyDue). end call) (reply_due call) change LateChange (λ t e. λ w. late (told_waits _ call.stage t e)) h
+
+-- the call of that number, if it is there
+abbrev pub LateAt : ℕ → ℕ → PlainWorld → Type 0
+LateAt n c world = (call : Call) → slice_get world.calls c ≡ Some call → Late n call
+
+step_late : (n c : ℕ) (world : PlainWorld) (one : Step) → n ≤ length world.order → LateAt n c world → LateAt n c (step world one)
+step_late n c world one within late = by (slice_get world.calls one.call) refl
+  where
+    put : (call : Call) → slice_get world.calls one.call ≡ Some call → (o : Option Change) → change_by world one.call call one.action ≡ o → LateAt n c (changed world one.call o)
+    put call is None e other there = late other there
+    put call is (Some change) e other there = ⊎_elim
+        (λ (same : c ≡ one.call).
+        subst (Late n) (same_Some change.call other (sym (get-set_same world.calls one.call change.call call is) ∙ ap (slice_get (slice_set world.calls one.call change.call)) (sym same) ∙ there))
+        (change_late n world within one.call call (late call (ap (slice_get world.calls) same ∙ is)) one.action change e))
+        (λ (apart : c ≢ one.call). late other (sym (get-set_other world.calls one.call c change.call apart) ∙ there))
+        (cases_eq c one.call)
+
+    by : (o : Option Call) → slice_get world.calls one.call ≡ o → LateAt n c (changed world one.call (option_and_then (λ (call : Call). change_by world one.call call one.action) o))
+    by None e other there = late other there
+    by (Some call) e other there = put call e (change_by world one.call call one.action) refl other there
+
+-- ---- calls that end
+
+ended_late : (n : ℕ) (world : PlainWorld) (number : ℕ) (call : Call) → Late n call → (a : Action) (f : Finished) → ended_by world number call a ≡ Some f → (f.call ≡ number) × (n ≤ f.begin) × (f.end ≡ length world.order)
+ended_late n world number call late action.Begin f h = absurd (none-some f h)
+ended_late n world number call late action.TakeBook f h = absurd (none-some f h)
+ended_late n world number call late action.TakeAccount f h = absurd (none-some f h)
+ended_late n world number call late action.Order f h = absurd (none-some f h)
+ended_late n world number call late action.PutAccount f h = absurd (none-some f h)
+ended_late n world number call late action.PutBook f h = absurd (none-some f h)
+ended_late n world number call late (action.Collect operator) f h = absurd (none-some f h)
+ended_late n world number call late action.Abandon f h =
+    made_end (λ (own : Command). ended world number call done.Abandoned) (begun call.stage) f (λ own e. (refl, late (begun_waits call.stage own e), refl)) h
+ended_late n world number call late action.End f h =
+    made_end (λ (t : ReplyDue). ended world number call (done.Answered t.point (stamped t.point t.reply))) (reply_due call) f (λ t e. (refl, late (told_waits _ call.stage t e), refl)) h
+
+-- a step ends a call that has begun so late, at the number of events
+finishes_late : (n : ℕ) (world : PlainWorld) (one : Step) (f : Finished) → finishes world one ≡ Some f → (LateAt n f.call world → n ≤ f.begin) × (f.end ≡ length world.order)
+finishes_late n world one f h = by (slice_get world.calls one.call) refl h
+  where
+    by : (o : Option Call) → slice_get world.calls one.call ≡ o → option_and_then (λ (call : Call). ended_by world one.call call one.action) o ≡ Some f
+        → (LateAt n f.call world → n ≤ f.begin) × (f.end ≡ length world.order)
+    by None e g = absurd (none-some f g)
+    by (Some call) e g = (
+      (λ late. let found = ended_late n world one.call call (late call (ap (slice_get world.calls) (ended_late 0 world one.call call (λ w. omega arith) one.action f g).0 ∙ e)) one.action f g in found.1),
+      (ended_late 0 world one.call call (λ w. omega arith) one.action f g).2,
+    )
+
+module _ (n : ℕ) (Meant : ℕ → Type 0) where
+  one_late : (world : PlainWorld) → ((c : ℕ) → Meant c → LateAt n c world) → (one : Step) (o : Option Finished) → finishes world one ≡ o → AllByRecursion (λ f. Meant f.call → n ≤ f.begin) (option_to_list o)
+  one_late world late one None e = tt
+  one_late world late one (Some f) e = ((λ meant. (finishes_late n world one f e).0 (late f.call meant)), tt)
+
+  all_late : (world : PlainWorld) (steps : List Step) → n ≤ length world.order → ((c : ℕ) → Meant c → LateAt n c world) → AllByRecursion (λ f. Meant f.call → n ≤ f.begin) (finished world steps)
+  all_late world [] within late = tt
+  all_late world (one ∷ later) within late =
+      let longer : length world.order ≤ length (step world one).order = step_longer world one in
+      each-append (λ (f : Finished). Meant f.call → n ≤ f.begin) (option_to_list (finishes world one)) (finished (step world one) later)
+      (one_late world late one (finishes world one) refl)
+      (all_late (step world one) later (omega (arith, within, longer)) (λ c meant. step_late n c world one within (late c meant)))
+
+-- what has ended did so at no more events than there are then
+all_ended : (world : PlainWorld) (steps : List Step) → AllByRecursion (λ f. f.end ≤ length (after world steps).order) (finished world steps)
+all_ended world [] = tt
+all_ended world (one ∷ later) =
+    each-append (λ (f : Finished). f.end ≤ length (after (step world one) later).order) (option_to_list (finishes world one)) (finished (step world one) later)
+    (first (finishes world one) refl) (all_ended (step world one) later)
+  where
+    first : (o : Option Finished) → finishes world one ≡ o → AllByRecursion (λ f. f.end ≤ length (after (step world one) later).order) (option_to_list o)
+    first None e = tt
+    first (Some f) e =
+        let at : f.end ≡ length world.order = (finishes_late 0 world one f e).1 in
+        let here : length world.order ≤ length (step world one).order = step_longer world one in
+        let rest : length (step world one).order ≤ length (after (step world one) later).order = after_longer (step world one) later in
+        (omega (arith, at, here, rest), tt)
+
+each_then : {X : Type 0} (P Q : X → Type 0) (xs : List X) → ((x : X) → P x → Q x) → AllByRecursion P xs → AllByRecursion Q xs
+each_then P Q [] all h = tt
+each_then P Q (x ∷ xs) all h = (all x h.0, each_then P Q xs all h.1)
+
+not_begun : (n : ℕ) (o : Option Call) (call : Call) → IsWaiting o → o ≡ Some call → Late n call
+not_begun n None call w e none = absurd (none-some call e)
+not_begun n (Some other) call w e none = absurd (none-some w.0 (sym none ∙ ap (λ (c : Call). waiting c.stage) (sym (same_Some other call e)) ∙ w.1))
+
+-- where one call has ended before another begins, its end is not behind the other's begin
+pub keeps_time : (world : PlainWorld) (steps : List Step) → KeepTime world steps
+keeps_time world steps earlier later split =
+    let middle : PlainWorld = after world earlier in
+    let n : ℕ = length middle.order in
+    let Meant : ℕ → Type 0 = λ c. IsWaiting (slice_get middle.calls c) in
+    let begins : AllByRecursion (λ f. Meant f.call → n ≤ f.begin) (finished middle later) =
+    all_late n Meant middle later (omega arith) (λ c meant call there. not_begun n (slice_get middle.calls c) call meant there) in
+    each_then (λ (one : Finished). one.end ≤ n) (λ (one : Finished). AllByRecursion (λ another. Meant another.call → one.end ≤ another.begin) (finished middle later)) (finished world earlier)
+    (λ one ended. each_then (λ (another : Finished). Meant another.call → n ≤ another.begin) (λ (another : Finished). Meant another.call → one.end ≤ another.begin) (finished middle later)
+    (λ another late meant. let begun_late : n ≤ another.begin = late meant in omega (arith, ended, begun_late)) begins)
+    (all_ended world earlier)

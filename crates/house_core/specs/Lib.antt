@@ -1,0 +1,11 @@
+pub mod Calls
+pub mod Collections
+pub mod Events
+pub mod Inner
+pub mod Laws
+pub mod Locks
+pub mod OneHouse
+pub mod Start
+pub mod Steps
+pub mod StepTable
+pub mod World

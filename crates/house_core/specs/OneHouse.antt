@@ -1,0 +1,105 @@
+-- What is promised of a list of steps: that the calls are answered as one house over one list of events answers.
+use Rattle.std.specs.Prelude.{◌≡◌, ◌≤◌, ◌+◌, ℕ, ℤ, pos, List, [], ◌∷◌, ◌++◌, length, map, Option, Some, None, slice_get}
+use Rattle.std.specs.List.{AllByRecursion}
+use Rattle.std.specs.Option.{option_to_list}
+use Rattle.ocpi_types.specs.declared.cdr.Cdr.{Cdr}
+use Rattle.ocpi_types.specs.declared.config.Config.{Config}
+use Rattle.cdr_checks.specs.declared.request.Command.{Command}
+use Rattle.netting_positions.specs.Netting.{net_position, parties, total}
+use Rattle.plain_house.specs.declared.event.Event.{Event}
+use Rattle.plain_house.specs.declared.event.Event.TheVariants as event
+use Rattle.plain_house.specs.Entries.{account_entries, book_entries, period_of}
+use Rattle.plain_house.specs.House.{events_after, reply_of, verdict}
+use Rattle.plain_house.specs.Known.{known}
+use Rattle.plain_house.specs.Legal.{IsLegal}
+use Rattle.plain_house.specs.LegalLists.{IsCharged, IsTakenBack, KeepsLimits}
+use Rattle.plain_house.specs.Obligations.{obligations}
+use Rattle.plain_house.specs.Replies.{Reply}
+use Rattle.house_core.specs.declared.call.Call.{Call}
+use Rattle.house_core.specs.declared.finished.Done.{Done}
+use Rattle.house_core.specs.declared.finished.Done.TheVariants as done
+use Rattle.house_core.specs.declared.finished.Finished.{Finished}
+use Rattle.house_core.specs.declared.step.Step.{Step}
+use Rattle.house_core.specs.Calls.{waiting}
+use Rattle.house_core.specs.Events.{events_of}
+use Rattle.house_core.specs.Start.{start}
+use Rattle.house_core.specs.Steps.{finishes, orders, step}
+use Rattle.house_core.specs.World.{PlainWorld}
+
+-- ---- a list of steps
+
+abbrev pub after : PlainWorld → List Step → PlainWorld
+after world [] = world
+after world (one ∷ later) = after (step world one) later
+
+-- the calls that have ended, in the order in which they did
+abbrev pub finished : PlainWorld → List Step → List Finished
+finished world [] = []
+finished world (one ∷ later) = option_to_list (finishes world one) ++ finished (step world one) later
+
+-- the commands, in the order in which they were given their places
+abbrev pub in_order : PlainWorld → List Step → List Command
+in_order world [] = []
+in_order world (one ∷ later) = option_to_list (orders world one) ++ in_order (step world one) later
+
+-- ---- one house over one list of events
+
+-- the events behind these, once the commands are done one after another
+abbrev pub events_behind : Config → List Event → List Command → List Event
+events_behind config events [] = events
+events_behind config events (command ∷ later) = events_behind config (events_after config events command) later
+
+-- the reply is that of the first `point` events, and the event that the command adds, if any, is the next; the point stands
+-- between the numbers of events at the call's begin and at its end, and so does the event
+pub record IsAnswered (config : Config) (events : List Event) (command : Command) (begin end point : ℕ) (reply : Reply) : Type 0 where
+  pub before : List Event
+  pub later : List Event
+  pub split : events ≡ before ++ (option_to_list (verdict config (known before) command).event ++ later)
+  pub at : length before ≡ point
+  pub replied : reply ≡ reply_of config before command
+  pub begun : begin ≤ point
+  pub ended : point + length (option_to_list (verdict config (known before) command).event) ≤ end
+
+abbrev pub IsDone : Config → List Event → Command → ℕ → ℕ → Done → Type 0
+IsDone config events command begin end (done.Answered point reply) = IsAnswered config events command begin end point reply
+IsDone config events command begin end done.Abandoned = begin ≤ end
+
+pub record IsFinished (config : Config) (commands : List Command) (events : List Event) (call : Finished) : Type 0 where
+  pub command : Command
+  pub of_call : slice_get commands call.call ≡ Some command
+  pub done : IsDone config events command call.begin call.end call.done
+
+-- a call that has not begun
+abbrev pub IsWaiting : Option Call → Type 0
+IsWaiting None = Unit {0}
+IsWaiting (Some call) = (command : Command) × (waiting call.stage ≡ Some command)
+
+-- where one call has ended before another begins, its end is not behind the other's begin
+abbrev pub KeepTime : PlainWorld → List Step → Type 0
+KeepTime world steps =
+    (earlier later : List Step) → steps ≡ earlier ++ later →
+    AllByRecursion (λ one. AllByRecursion (λ another. IsWaiting (slice_get (after world earlier).calls another.call) → one.end ≤ another.begin) (finished (after world earlier) later)) (finished world earlier)
+
+-- the calls that ended are those whose last step was taken; the events are those that books, accounts and calls hold at the end,
+-- and those of the commands one after another in their order, and legal; and each answer is that of the list at its point
+pub record AnsweredAsOne (config : Config) (commands : List Command) (steps : List Step) (ended : List Finished) (events : List Event) : Type 0 where
+  pub calls : ended ≡ finished (start config commands) steps
+  pub found : events ≡ events_of (after (start config commands) steps)
+  pub history : events ≡ events_behind config [] (in_order (start config commands) steps)
+  pub answers : AllByRecursion (IsFinished config commands events) ended
+  pub legal : IsLegal config events
+
+-- and time is kept
+pub record OneHouse (config : Config) (commands : List Command) (steps : List Step) (ended : List Finished) (events : List Event) : Type 0 where
+  pub answered : AnsweredAsOne config commands steps ended events
+  pub time : KeepTime (start config commands) steps
+
+-- ---- and beside it
+
+-- each CDR costs what its tariffs give and is booked once, each Credit CDR takes one CDR back once, in each period and currency
+-- the net positions add up to 0, and no limit was ever passed
+pub record KeepsRules (config : Config) (events : List Event) : Type 0 where
+  pub charged : (before later : List Event) (cdr : Cdr) (cost : ℕ) → events ≡ before ++ event.Cdr cdr cost ∷ later → IsCharged config (book_entries before) cdr cost
+  pub taken_back : (before later : List Event) (credit : Cdr) (amount : ℤ) → events ≡ before ++ event.Credit credit amount ∷ later → IsTakenBack config (book_entries before) (period_of before) credit amount
+  pub balanced : (period : ℕ) (currency : List ℕ) → total (map (λ party. net_position party currency (obligations period (book_entries events))) (parties config)) ≡ pos 0
+  pub limits : (before later : List Event) → events ≡ before ++ later → KeepsLimits config (account_entries before)

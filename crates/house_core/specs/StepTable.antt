@@ -1,0 +1,75 @@
+-- What decides a step, and what it changes.
+use Rattle.std.specs.Prelude.{◌≡◌, ℕ, Some, None, length, slice_get}
+use Rattle.house_core.specs.declared.call.Call.{Call}
+use Rattle.house_core.specs.declared.step.Action.{Action}
+use Rattle.house_core.specs.declared.step.Action.TheVariants as action
+use Rattle.house_core.specs.Calls.{held_account, held_book, wanted_account, wanted_book}
+use Rattle.house_core.specs.Locks.{entries_at, lock_at}
+use Rattle.house_core.specs.Steps.{Change, change_by, ended_by}
+use Rattle.house_core.specs.World.{PlainWorld}
+
+-- ---- two worlds agree in what decides a step of the call
+
+abbrev pub AgreeFor : Call → Action → PlainWorld → PlainWorld → Type 0
+-- the number of events
+AgreeFor call action.Begin one another = length one.order ≡ length another.order
+AgreeFor call action.End one another = length one.order ≡ length another.order
+-- the lock
+AgreeFor call action.TakeBook one another = lock_at one.books (wanted_book call) ≡ lock_at another.books (wanted_book call)
+AgreeFor call action.TakeAccount one another =
+    lock_at one.accounts (wanted_account call) ≡ lock_at another.accounts (wanted_account call)
+-- the order, and the entries of the call's book and account
+AgreeFor call action.Order one another =
+    (one.config ≡ another.config) × (one.order ≡ another.order) × (entries_at one.books call.book ≡ entries_at another.books call.book)
+    × (entries_at one.accounts call.account ≡ entries_at another.accounts call.account)
+-- the account or the book
+AgreeFor call action.PutAccount one another = lock_at one.accounts call.account ≡ lock_at another.accounts call.account
+AgreeFor call action.PutBook one another = lock_at one.books call.book ≡ lock_at another.books call.book
+AgreeFor call (action.Collect operator) one another =
+    (one.config ≡ another.config) × (slice_get one.books operator ≡ slice_get another.books operator)
+-- the call's locks, and the number of events
+AgreeFor call action.Abandon one another =
+    (lock_at one.books (held_book call) ≡ lock_at another.books (held_book call))
+    × (lock_at one.accounts (held_account call) ≡ lock_at another.accounts (held_account call))
+    × (length one.order ≡ length another.order)
+
+-- then the step changes the same, and ends the call alike
+pub record IsDecided (number : ℕ) (call : Call) (action : Action) (one another : PlainWorld) : Type 0 where
+  pub changes : change_by one number call action ≡ change_by another number call action
+  pub ends : ended_by one number call action ≡ ended_by another number call action
+
+abbrev pub StepsAreDecided : Type 0
+StepsAreDecided =
+    (number : ℕ) (call : Call) (action : Action) (one another : PlainWorld) → AgreeFor call action one another →
+    IsDecided number call action one another
+
+-- ---- a step changes no more than
+
+abbrev pub NoBook : Change → Type 0
+NoBook change = change.book ≡ None
+
+abbrev pub NoAccount : Change → Type 0
+NoAccount change = change.account ≡ None
+
+abbrev pub NoEntry : Change → Type 0
+NoEntry change = change.entry ≡ None
+
+abbrev pub ChangesNoMore : Action → Change → Type 0
+-- the call
+ChangesNoMore action.Begin change = NoBook change × NoAccount change × NoEntry change
+ChangesNoMore action.End change = NoBook change × NoAccount change × NoEntry change
+ChangesNoMore (action.Collect operator) change = NoBook change × NoAccount change × NoEntry change
+-- the call and its book, or its account
+ChangesNoMore action.TakeBook change = NoAccount change × NoEntry change
+ChangesNoMore action.PutBook change = NoAccount change × NoEntry change
+ChangesNoMore action.TakeAccount change = NoBook change × NoEntry change
+ChangesNoMore action.PutAccount change = NoBook change × NoEntry change
+-- the call and the order, by one entry or none
+ChangesNoMore action.Order change = NoBook change × NoAccount change
+-- the call and its locks
+ChangesNoMore action.Abandon change = NoEntry change
+
+abbrev pub StepsChangeNoMore : Type 0
+StepsChangeNoMore =
+    (number : ℕ) (call : Call) (action : Action) (world : PlainWorld) (change : Change) → change_by world number call action ≡ Some change →
+    ChangesNoMore action change

@@ -1,0 +1,17 @@
+//! The house in atomic steps: books and accounts under locks, the order of events, and calls that take one step after another.
+//! What a step is, and what is so of every list of steps.
+#![tactic(auto)]
+
+mod call;
+mod collection;
+mod finished;
+mod laws;
+mod stage;
+mod step;
+
+pub use finished::{Done, Finished};
+pub use laws::{
+    entry_commands_are_one_house, legal_lists_keep_rules, steps_are_decided, steps_change_no_more,
+};
+pub use period_order::decide;
+pub use step::{Action, Step};
