@@ -1,7 +1,12 @@
-pub mod AskedPath
-pub mod CommandTurns
+pub mod AskedWords
 pub mod CommandWords
+pub mod FileEnds
 pub mod LineInParts
-pub mod ScriptTurns
-pub mod ScriptWords
+pub mod PlainWalk
+pub mod ProgramWords
+pub mod ReadingLemmas
+pub mod ScheduleLines
+pub mod StepLines
+pub mod Turns
 pub mod WordKinds
+pub mod WritingLemmas

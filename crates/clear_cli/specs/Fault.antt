@@ -6,7 +6,7 @@ use Rattle.ocpi_types.specs.declared.config.reading.ConfigFault.TheVariants.{Syn
 use Rattle.request_lines.specs.declared.faults.ScriptFault.{ScriptFault}
 use Rattle.request_lines.specs.declared.faults.ScriptFault.TheVariants.{Read, Write, NoMemory as ScriptNoMemory, LineTooLong as ScriptLineTooLong}
 use Rattle.clear_cli.specs.declared.fault.Fault.{Fault}
-use Rattle.clear_cli.specs.declared.fault.Fault.TheVariants.{Usage, ConfigSyntax, ConfigMember, CannotRead, CannotReadInput, CannotWrite, LineTooLong, NoMemory}
+use Rattle.clear_cli.specs.declared.fault.Fault.TheVariants.{Usage, ConfigSyntax, ConfigMember, CannotRead, CannotReadInput, CannotWrite, LineTooLong, ScheduleLine, NoMemory}
 
 abbrev pub fault_line : Fault → List ℕ
 fault_line Usage = codes "clear: usage\n"
@@ -16,6 +16,7 @@ fault_line (CannotRead path) = codes "clear: cannot read " ++ (path.now ++ codes
 fault_line CannotReadInput = codes "clear: cannot read -\n"
 fault_line CannotWrite = codes "clear: cannot write\n"
 fault_line (LineTooLong line) = codes "clear: line " ++ (decimal line ++ codes " is too long\n")
+fault_line (ScheduleLine line) = codes "clear: schedule: line " ++ (decimal line ++ codes "\n")
 fault_line NoMemory = codes "clear: no memory\n"
 
 -- the exit status at a fault
@@ -27,6 +28,7 @@ exit_status (CannotRead path) = 1
 exit_status CannotReadInput = 1
 exit_status CannotWrite = 1
 exit_status (LineTooLong line) = 1
+exit_status (ScheduleLine line) = 1
 exit_status NoMemory = 1
 
 -- the fault of bytes that are no configuration

@@ -1,3 +1,5 @@
 -- Words that private contracts and proofs alone use.
 pub mod Commands
+pub mod ReadingFile
 pub mod UnderConfig
+pub mod WritingLines

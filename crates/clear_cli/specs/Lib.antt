@@ -1,4 +1,10 @@
 pub mod Fault
 pub mod Inner
+pub mod Schedule
+pub mod ScheduleFile
+pub mod ScheduleRead
+pub mod ScheduleText
+pub mod ScheduleWritten
 pub mod Script
+pub mod StepLine
 pub mod Words

@@ -1,8 +1,8 @@
 -- What the words of a command line ask for.
-use Rattle.std.specs.Prelude.{ℕ, ◌==◌, ◌&&◌, Bool, false, not, List, [], ◌∷◌, Option, Some, None, if◌then◌else◌, codes}
+use Rattle.std.specs.Prelude.{ℕ, ◌==◌, Bool, false, List, [], ◌∷◌, Option, Some, None, if◌then◌else◌, codes, option_map, option_and_then}
 use Rattle.std.specs.Str.{bytes_eq}
 use Rattle.clear_cli.specs.declared.words.Job.{Job}
-use Rattle.clear_cli.specs.declared.words.Job.TheVariants.{Script}
+use Rattle.clear_cli.specs.declared.words.Job.TheVariants as job
 
 -- a hyphen (45), and more after it
 abbrev pub is_flag : List ℕ → Bool
@@ -10,22 +10,38 @@ is_flag [] = false
 is_flag (only ∷ []) = false
 is_flag (first ∷ second ∷ rest) = first == 45
 
--- the path among the words after `script`: the one word, which is no flag; or with `--` the word before it, which is no
--- flag, or any word after it
-abbrev pub path_among : List (List ℕ) → Option (List ℕ)
-path_among [] = None
-path_among (word ∷ []) = if is_flag word then None else Some word
-path_among (word ∷ next ∷ []) =
-    if bytes_eq word (codes "--") then Some next
-    else (if not (is_flag word) && bytes_eq next (codes "--") then Some word else None)
-path_among (word ∷ next ∷ third ∷ rest) = None
+-- The words that are no options, where no other is among them: none is a flag, but behind a first `--`, which is
+-- dropped, any word may stand.
+abbrev pub plain_words : List (List ℕ) → Option (List (List ℕ))
+plain_words [] = Some []
+plain_words (word ∷ rest) =
+    if bytes_eq word (codes "--") then Some rest
+    else (if is_flag word then None else option_map (λ words. word ∷ words) (plain_words rest))
 
--- the path of the configuration, where the words ask for a script
-abbrev pub asked_path : List (List ℕ) → Option (List ℕ)
-asked_path [] = None
-asked_path (program ∷ []) = None
-asked_path (program ∷ command ∷ rest) =
-    if bytes_eq command (codes "script") then path_among rest else None
+-- what a command line asks for
+pub data Asked : Type 0 where
+  -- the answers to the lines of standard input, under the configuration of this path
+  Script : (config : List ℕ) → Asked
+  -- the calls and steps of the file of the second path, under the configuration of the first
+  Schedule : (config file : List ℕ) → Asked
 
-abbrev pub path_of : Job → List ℕ
-path_of (Script config) = config.now
+-- what the plain words behind `script` ask for
+abbrev pub script_of : List (List ℕ) → Option Asked
+script_of (config ∷ []) = Some (Script config)
+script_of words = None
+
+-- what the plain words behind `schedule` ask for
+abbrev pub schedule_of : List (List ℕ) → Option Asked
+schedule_of (config ∷ file ∷ []) = Some (Schedule config file)
+schedule_of words = None
+
+-- what the words ask for, the program's name first
+abbrev pub asked : List (List ℕ) → Option Asked
+asked (program ∷ command ∷ rest) =
+    if bytes_eq command (codes "script") then option_and_then script_of (plain_words rest)
+    else (if bytes_eq command (codes "schedule") then option_and_then schedule_of (plain_words rest) else None)
+asked words = None
+
+abbrev pub asked_by : Job → Asked
+asked_by (job.Script config) = Script config.now
+asked_by (job.Schedule config file) = Schedule config.now file.now

@@ -2,8 +2,10 @@
 
 ghost use Rattle.std.specs.Prelude.{◌≡◌, ◌++◌};
 ghost use Rattle.clear_cli.specs.Fault.{IsTold, config_fault, exit_status, fault_line, script_fault};
+ghost use Rattle.clear_cli.specs.Schedule.{write_fault};
 ghost use Rattle.clear_cli.specs.declared.fault.Fault.TheVariants.{NoMemory};
 
+use crate::schedule_text::WriteFault;
 use itoa::Buffer;
 use ocpi_json::name::Name;
 use ocpi_types::ConfigFault;
@@ -29,6 +31,9 @@ pub enum Fault<'a> {
 
     /// The input's line of this number, from 1, is longer than a line may be.
     LineTooLong { line: u128 },
+
+    /// The schedule's line of this number, from 1, is the first that is no request and no step.
+    ScheduleLine { line: u128 },
 
     NoMemory,
 }
@@ -78,6 +83,17 @@ impl From<ScriptFault> for Fault<'_> {
     }
 }
 
+impl From<WriteFault> for Fault<'_> {
+    ghost from_gives = { λ cause fault. fault ≡ write_fault cause };
+
+    fn from(cause: WriteFault) -> Self {
+        match cause {
+            WriteFault::Write => Fault::CannotWrite,
+            WriteFault::NoMemory => Fault::NoMemory,
+        }
+    }
+}
+
 /// A fault's line in three parts.
 struct Parts<'a> {
     head: &'a str,
@@ -98,6 +114,7 @@ where
         Fault::CannotReadInput => ("clear: cannot read -", "", "\n"),
         Fault::CannotWrite => ("clear: cannot write", "", "\n"),
         Fault::LineTooLong { line } => ("clear: line ", buffer.format(line), " is too long\n"),
+        Fault::ScheduleLine { line } => ("clear: schedule: line ", buffer.format(line), "\n"),
         Fault::NoMemory => ("clear: no memory", "", "\n"),
     };
     Parts { head, middle, tail }

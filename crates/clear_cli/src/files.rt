@@ -4,7 +4,7 @@ ghost use Rattle.std.specs.Prelude.{◌≡◌, ◌≢◌, take, IfErr, IfOk, IfS
 
 use crate::fault::Fault;
 use std::alloc::Global;
-use std::fs;
+use std::fs::{self, File};
 use std::io::{Error, ErrorKind, Read};
 
 /// How many bytes a configuration has at most.
@@ -46,5 +46,18 @@ pub fn read_file<'a>(rt: &HostRuntime, alloc: Global, path: &'a str) -> Result<V
     match fs::open(rt, path) {
         Ok(file) => read_start(alloc, file, path),
         Err(error) => Err(fault_of(&error, path)),
+    }
+}
+
+/// The file of this path, where it can be opened.
+pub fn open_file(rt: &HostRuntime, path: &str) -> Result<Option<File>, Fault<'static>>
+    ensures { IfErr result (λ fault. fault ≡ Fault.NoMemory) }
+{
+    match fs::open(rt, path) {
+        Ok(file) => Ok(Some(file)),
+        Err(error) => match error.kind() {
+            ErrorKind::OutOfMemory => Err(Fault::NoMemory),
+            _ => Ok(None),
+        },
     }
 }

@@ -14,7 +14,7 @@ use plain_house::Sequential;
 use request_lines::{Sink, Source, run_script};
 use std::alloc::Global;
 
-fn read_config(alloc: Global, file: &[u8]) -> Result<Config, Fault<'static>>
+pub fn read_config(alloc: Global, file: &[u8]) -> Result<Config, Fault<'static>>
     ensures ok { IfOk result (λ config. reading file.now ≡ Ok config) }
     ensures err { IfErr result (λ fault. fault ≢ NoMemory → reading file.now ≡ Err fault) }
     ensures status { IfErr result (λ fault. exit_status fault ≡ 1) }

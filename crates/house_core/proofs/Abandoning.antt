@@ -8,9 +8,7 @@ use Rattle.plain_house.specs.declared.entry.AccountEntry.{AccountEntry}
 use Rattle.plain_house.specs.declared.entry.BookEntry.{BookEntry}
 use Rattle.plain_house.specs.declared.event.Event.{Event}
 use Rattle.house_core.specs.declared.call.Call.{Call}
-use Rattle.house_core.specs.declared.stage.Netting.{Netting}
 use Rattle.house_core.specs.declared.stage.Stage.TheVariants as stage
-use Rattle.house_core.specs.declared.stage.Stating.{Stating}
 use Rattle.house_core.specs.declared.step.Action.TheVariants as action
 use Rattle.house_core.specs.Calls.{due_in_account, due_in_book, held_account, held_book}
 use Rattle.house_core.specs.Inner.Sound.{Holds}
@@ -21,15 +19,14 @@ use Rattle.house_core.proofs.Keeping.{goes_on, goes_on_with_account, goes_on_wit
 use Rattle.house_core.proofs.StepLemmas.{with_call}
 use Rattle.house_core.proofs.Wholes.{get-set_same, its_lock}
 
-set-set : {X : Type 0} (xs : List X) (i : ℕ) (x y : X) → slice_set (slice_set xs i x) i y ≡ slice_set xs i y
+pub set-set : {X : Type 0} (xs : List X) (i : ℕ) (x y : X) → slice_set (slice_set xs i x) i y ≡ slice_set xs i y
 set-set [] i x y = refl
 set-set (z ∷ xs) zero x y = refl
 set-set (z ∷ xs) (suc i) x y = ap (λ l. z ∷ l) (set-set xs i x y)
 
-module _ (Nets : List Event → Command → ℕ → Netting → Type 0) (Rows : List Event → Command → ℕ → Stating → Type 0)
-    (config : Config) (commands : List Command) (events : List Event) (number : ℕ) (start : ℕ) (told : Command) where
+module _ (config : Config) (commands : List Command) (events : List Event) (number : ℕ) (start : ℕ) (told : Command) where
   abbrev HoldsNow : PlainWorld → Type 0
-  HoldsNow world = Holds Nets Rows config commands events world
+  HoldsNow world = Holds config commands events world
 
   abbrev pub begun_call : Option ℕ → Option ℕ → Bool → Bool → Call
   begun_call book account has_book has_account = record { book = book; account = account; has_book = has_book; has_account = has_account; begin = start; stage = stage.Begun told }
@@ -47,11 +44,11 @@ module _ (Nets : List Event → Command → ℕ → Netting → Type 0) (Rows : 
   gives_book : (world : PlainWorld) → HoldsNow world → (book account : Option ℕ) (has_book has_account : Bool)
       → slice_get world.calls number ≡ Some (begun_call book account has_book has_account) → HoldsNow (without_book world book account has_book has_account)
   gives_book world holds None account false has_account is =
-      goes_on Nets Rows config commands events world holds number (begun_call None account false has_account) (begun_call None account false has_account) is refl refl refl refl (λ own named known. known)
+      goes_on config commands events world holds number (begun_call None account false has_account) (begun_call None account false has_account) is refl refl refl refl (λ own named known. known)
   gives_book world holds (Some at) account false has_account is =
-      goes_on Nets Rows config commands events world holds number (begun_call (Some at) account false has_account) (begun_call (Some at) account false has_account) is refl refl refl refl (λ own named known. known)
+      goes_on config commands events world holds number (begun_call (Some at) account false has_account) (begun_call (Some at) account false has_account) is refl refl refl refl (λ own named known. known)
   gives_book world holds None account true has_account is =
-      goes_on Nets Rows config commands events world holds number (begun_call None account true has_account) (begun_call None account false has_account) is refl refl refl refl
+      goes_on config commands events world holds number (begun_call None account true has_account) (begun_call None account false has_account) is refl refl refl refl
       (λ own named known. record { admitted = known.admitted; book = known.book; account = known.account; bookless = λ e. refl; accountless = known.accountless; at = known.at })
   gives_book world holds (Some at) account true has_account is =
       let call : Call = begun_call (Some at) account true has_account in
@@ -65,7 +62,7 @@ module _ (Nets : List Event → Command → ℕ → Netting → Type 0) (Rows : 
         order = world.order;
         calls = slice_set world.calls number now;
       })) (sym found.1)
-      (goes_on_with_book Nets Rows config commands events world holds number call now is at lock (freed lock) found.1
+      (goes_on_with_book config commands events world holds number call now is at lock (freed lock) found.1
       (λ h e. sym (same_Some at h e))
       (λ h e. absurd (none-some h e))
       (λ h e. absurd (none-some h e))
@@ -88,11 +85,11 @@ module _ (Nets : List Event → Command → ℕ → Netting → Type 0) (Rows : 
   gives_account : (world : PlainWorld) → HoldsNow world → (book account : Option ℕ) (has_book has_account : Bool)
       → slice_get world.calls number ≡ Some (begun_call book account has_book has_account) → HoldsNow (without_account world book account has_book has_account)
   gives_account world holds book None has_book false is =
-      goes_on Nets Rows config commands events world holds number (begun_call book None has_book false) (begun_call book None has_book false) is refl refl refl refl (λ own named known. known)
+      goes_on config commands events world holds number (begun_call book None has_book false) (begun_call book None has_book false) is refl refl refl refl (λ own named known. known)
   gives_account world holds book (Some at) has_book false is =
-      goes_on Nets Rows config commands events world holds number (begun_call book (Some at) has_book false) (begun_call book (Some at) has_book false) is refl refl refl refl (λ own named known. known)
+      goes_on config commands events world holds number (begun_call book (Some at) has_book false) (begun_call book (Some at) has_book false) is refl refl refl refl (λ own named known. known)
   gives_account world holds book None has_book true is =
-      goes_on Nets Rows config commands events world holds number (begun_call book None has_book true) (begun_call book None has_book false) is refl refl refl refl
+      goes_on config commands events world holds number (begun_call book None has_book true) (begun_call book None has_book false) is refl refl refl refl
       (λ own named known. record { admitted = known.admitted; book = known.book; account = known.account; bookless = known.bookless; accountless = λ e. refl; at = known.at })
   gives_account world holds book (Some at) has_book true is =
       let call : Call = begun_call book (Some at) has_book true in
@@ -106,7 +103,7 @@ module _ (Nets : List Event → Command → ℕ → Netting → Type 0) (Rows : 
         order = world.order;
         calls = slice_set world.calls number now;
       })) (sym found.1)
-      (goes_on_with_account Nets Rows config commands events world holds number call now is at lock (freed lock) found.1
+      (goes_on_with_account config commands events world holds number call now is at lock (freed lock) found.1
       (λ h e. sym (same_Some at h e))
       (λ h e. absurd (none-some h e))
       (λ h e. absurd (none-some h e))
@@ -131,7 +128,7 @@ module _ (Nets : List Event → Command → ℕ → Netting → Type 0) (Rows : 
       let after_book : HoldsNow first = gives_book world holds book account has_book has_account is in
       let after_account : HoldsNow second = gives_account first after_book book account false has_account is_one in
       let ended : HoldsNow (with_call second number last) =
-      goes_on Nets Rows config commands events second after_account number two last is_two refl refl refl refl
+      goes_on config commands events second after_account number two last is_two refl refl refl refl
       (λ own named known. record { admitted = known.admitted; book = known.book; account = known.account; bookless = known.bookless; accountless = known.accountless; at = tt }) in
       subst HoldsNow
       (λ i. record {

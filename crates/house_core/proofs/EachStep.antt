@@ -8,13 +8,12 @@ use Rattle.plain_house.specs.declared.entry.AccountEntry.{AccountEntry}
 use Rattle.plain_house.specs.declared.entry.BookEntry.{BookEntry}
 use Rattle.plain_house.specs.declared.event.Event.{Event}
 use Rattle.house_core.specs.declared.call.Call.{Call}
-use Rattle.house_core.specs.declared.stage.Netting.{Netting}
+use Rattle.house_core.specs.declared.call.ReplyDue.{ReplyDue}
 use Rattle.house_core.specs.declared.stage.Stage.{Stage}
 use Rattle.house_core.specs.declared.stage.Stage.TheVariants as stage
-use Rattle.house_core.specs.declared.stage.Stating.{Stating}
 use Rattle.house_core.specs.declared.step.Action.TheVariants as action
 use Rattle.house_core.specs.Collections.{is_complete}
-use Rattle.house_core.specs.Calls.{ReplyDue, due_in_account, due_in_book, in_account, in_book}
+use Rattle.house_core.specs.Calls.{due_in_account, due_in_book, in_account, in_book}
 use Rattle.house_core.specs.Inner.Sound.{Holds}
 use Rattle.house_core.specs.Locks.{Lock, held, lock_at}
 use Rattle.house_core.specs.Steps.{Change, begin, change_by, changed, end, of_account, of_book, put_account, put_book, take_account, take_book}
@@ -26,11 +25,10 @@ use Rattle.house_core.proofs.Wholes.{get-set_same}
 call_with : Call → ℕ → Stage → Call
 call_with call point stage = record call { begin = point; stage = stage }
 
-module _ (Nets : List Event → Command → ℕ → Netting → Type 0) (Rows : List Event → Command → ℕ → Stating → Type 0)
-    (config : Config) (commands : List Command) (events : List Event) (world : PlainWorld) (holds : Holds Nets Rows config commands events world)
+module _ (config : Config) (commands : List Command) (events : List Event) (world : PlainWorld) (holds : Holds config commands events world)
     (number : ℕ) where
   abbrev pub HoldsNow : PlainWorld → Type 0
-  HoldsNow now = Holds Nets Rows config commands events now
+  HoldsNow now = Holds config commands events now
 
   -- ---- begin
 
@@ -42,7 +40,7 @@ module _ (Nets : List Event → Command → ℕ → Netting → Type 0) (Rows : 
     begins (stage.Waiting command) is =
         let now : Call = at_stage point (stage.Begun command) in
         subst HoldsNow (sym (call_changed world number now))
-        (goes_on Nets Rows config commands events world holds number (at_stage start (stage.Waiting command)) now is refl refl refl refl
+        (goes_on config commands events world holds number (at_stage start (stage.Waiting command)) now is refl refl refl refl
         (λ own is_named known. record {
           admitted = known.admitted;
           book = known.book;
@@ -75,7 +73,7 @@ module _ (Nets : List Event → Command → ℕ → Netting → Type 0) (Rows : 
         free lock here (Some h) f = holds
         free lock here None f =
             subst HoldsNow (sym (book_changed world number (of_book_call true (Some at) (stage.Begun command)) at (held number lock) refl))
-            (goes_on_with_book Nets Rows config commands events world holds number (of_book_call false (Some at) (stage.Begun command)) (of_book_call true (Some at) (stage.Begun command)) is at lock (held number lock) here
+            (goes_on_with_book config commands events world holds number (of_book_call false (Some at) (stage.Begun command)) (of_book_call true (Some at) (stage.Begun command)) is at lock (held number lock) here
             (λ h e. absurd (none-some h e))
             (λ h e. (sym (same_Some at h e), refl))
             (λ h e. (sym (same_Some number h e), refl))
@@ -122,7 +120,7 @@ module _ (Nets : List Event → Command → ℕ → Netting → Type 0) (Rows : 
             let mine : lock.holder ≡ Some number =
             sym (ap (option_and_then (λ (l : Lock AccountEntry). l.holder)) here) ∙ holds.accounts.holding number (of_account_call true (Some at) (stage.Ordered carried)) at is refl in
             subst HoldsNow (sym (account_changed world number (of_account_call false (Some at) (stage.Ordered carried)) at new refl))
-            (goes_on_with_account Nets Rows config commands events world holds number (of_account_call true (Some at) (stage.Ordered carried)) (of_account_call false (Some at) (stage.Ordered carried)) is at lock new here
+            (goes_on_with_account config commands events world holds number (of_account_call true (Some at) (stage.Ordered carried)) (of_account_call false (Some at) (stage.Ordered carried)) is at lock new here
             (λ h e. sym (same_Some at h e))
             (λ h e. absurd (none-some h e))
             (λ h e. absurd (none-some h e))
@@ -155,7 +153,7 @@ module _ (Nets : List Event → Command → ℕ → Netting → Type 0) (Rows : 
         free at lock is here (Some h) f = holds
         free at lock is here None f =
             subst HoldsNow (sym (account_changed world number (of_account_call book has_book start true (Some at) (stage.Begun command)) at (held number lock) refl))
-            (goes_on_with_account Nets Rows config commands events world holds number (of_account_call book has_book start false (Some at) (stage.Begun command))
+            (goes_on_with_account config commands events world holds number (of_account_call book has_book start false (Some at) (stage.Begun command))
             (of_account_call book has_book start true (Some at) (stage.Begun command)) is at lock (held number lock) here
             (λ h e. absurd (none-some h e))
             (λ h e. (sym (same_Some at h e), refl))
@@ -210,7 +208,7 @@ module _ (Nets : List Event → Command → ℕ → Netting → Type 0) (Rows : 
             let mine : lock.holder ≡ Some number =
             sym (ap (option_and_then (λ (l : Lock BookEntry). l.holder)) here) ∙ holds.books.holding number call at is refl in
             subst HoldsNow (sym (book_changed world number now at new refl))
-            (goes_on_with_book Nets Rows config commands events world holds number call now is at lock new here
+            (goes_on_with_book config commands events world holds number call now is at lock new here
             (λ h e. sym (same_Some at h e))
             (λ h e. absurd (none-some h e))
             (λ h e. absurd (none-some h e))
@@ -243,7 +241,7 @@ module _ (Nets : List Event → Command → ℕ → Netting → Type 0) (Rows : 
         → HoldsNow (changed world number (Some (end (with_locks has_book has_account s))))
     ended_now has_book has_account s is in_its_book in_its_account =
         subst HoldsNow (sym (call_changed world number (with_locks has_book has_account stage.Ended)))
-        (goes_on Nets Rows config commands events world holds number (with_locks has_book has_account s) (with_locks has_book has_account stage.Ended) is refl in_its_book refl in_its_account
+        (goes_on config commands events world holds number (with_locks has_book has_account s) (with_locks has_book has_account stage.Ended) is refl in_its_book refl in_its_account
         (λ own is_named known. record {
           admitted = known.admitted;
           book = known.book;

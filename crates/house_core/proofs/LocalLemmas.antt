@@ -11,6 +11,7 @@ use Rattle.plain_house.specs.Replies.{stamped}
 use Rattle.period_order.specs.declared.order_entry.OrderEntry.{OrderEntry}
 use Rattle.period_order.specs.Order.{is_close_entry}
 use Rattle.house_core.specs.declared.call.Call.{Call}
+use Rattle.house_core.specs.declared.call.ReplyDue.{ReplyDue}
 use Rattle.house_core.specs.declared.finished.Done.{Done}
 use Rattle.house_core.specs.declared.finished.Done.TheVariants as done
 use Rattle.house_core.specs.declared.finished.Finished.{Finished}
@@ -18,7 +19,7 @@ use Rattle.house_core.specs.declared.stage.Carried.{Carried}
 use Rattle.house_core.specs.declared.stage.Stage.{Stage}
 use Rattle.house_core.specs.declared.stage.Stage.TheVariants as stage
 use Rattle.house_core.specs.declared.step.Action.TheVariants as action
-use Rattle.house_core.specs.Calls.{ReplyDue, begun, for_account, for_book, held_account, held_book, ready, reply_due, waiting, wanted_account, wanted_book}
+use Rattle.house_core.specs.Calls.{begun, for_account, for_book, held_account, held_book, ready, reply_due, waiting, wanted_account, wanted_book}
 use Rattle.house_core.specs.StepTable.{ChangesNoMore, StepsAreDecided, StepsChangeNoMore}
 use Rattle.house_core.specs.Locks.{Lock, held, lock_at}
 use Rattle.house_core.specs.Steps.{Change, abandon, begin, collect_at, collected, end, known_to, of_account, of_book, of_call, order, put_account, put_book, take_account, take_book}

@@ -1,5 +1,5 @@
--- A command that collects no books gets its place in the order.
-use Rattle.std.proofs.Common.{◌≡◌, ◌≢◌, ◌≤◌, ◌+◌, ◌||◌, ℕ, List, [], ◌∷◌, ◌++◌, Bool, true, false, if◌then◌else◌, refl, sym, ap, ap₂, subst, ◌∙◌, length, count_by, Option, None, Some, is_none, option_map, option_to_list, slice_get, slice_set, append-nil, append_assoc, length-append, arith, true≢false, ⊎_elim}
+-- A command gets its place in the order.
+use Rattle.std.proofs.Common.{◌≡◌, ◌≢◌, ◌≤◌, ◌+◌, ◌||◌, ℕ, List, [], ◌∷◌, ◌++◌, Bool, true, false, if◌then◌else◌, refl, sym, ap, ap₂, subst, ◌∙◌, length, count_by, Option, None, Some, is_none, option_map, option_to_list, slice_get, slice_set, append-nil, length-append, arith, true≢false, ⊎_elim}
 use Rattle.std.specs.Option.{option_map_or}
 use Rattle.std.proofs.lemmas.Bool.{cases_eq}
 use Rattle.std.proofs.lemmas.Option.{same_Some}
@@ -20,11 +20,8 @@ use Rattle.period_order.specs.Kept.{AreDistinct, Keeps, with_added}
 use Rattle.period_order.specs.Order.{is_close_entry}
 use Rattle.period_order.specs.Places.{operator_number, order_entry, provider_number}
 use Rattle.house_core.specs.declared.call.Call.{Call}
-use Rattle.house_core.specs.declared.stage.Carried.{Carried}
-use Rattle.house_core.specs.declared.stage.Netting.{Netting}
 use Rattle.house_core.specs.declared.stage.Stage.{Stage}
 use Rattle.house_core.specs.declared.stage.Stage.TheVariants as stage
-use Rattle.house_core.specs.declared.stage.Stating.{Stating}
 use Rattle.house_core.specs.Calls.{due_in_account, due_in_book, held_account, held_book}
 use Rattle.house_core.specs.Calls.{collects}
 use Rattle.house_core.specs.Inner.Sound.{Holds, IsAt, IsCall}
@@ -34,17 +31,18 @@ use Rattle.house_core.specs.Steps.{known_to}
 use Rattle.house_core.specs.World.{PlainWorld}
 use Rattle.house_core.proofs.Deciding.{looks_into}
 use Rattle.house_core.proofs.Folds.{with_event-append}
-use Rattle.house_core.proofs.HouseLaws.{HouseLaws}
+use Rattle.house_core.specs.Inner.HouseLaws.{HouseLaws}
 use Rattle.house_core.proofs.Keeping.{kept_as}
+use Rattle.house_core.proofs.Longer.{call_longer}
 use Rattle.house_core.proofs.Wholes.{agree_same, get-set_other, get-set_same, grown, its_lock, its_whole, wholes, wholes_same}
 
 -- a call that is ready holds what it needs
-held_is : (b : Bool) (o : Option ℕ) → (o ≡ None → b ≡ false) → (is_none o || b) ≡ true → (if b then o else None) ≡ o
+pub held_is : (b : Bool) (o : Option ℕ) → (o ≡ None → b ≡ false) → (is_none o || b) ≡ true → (if b then o else None) ≡ o
 held_is true o none h = refl
 held_is false None none h = refl
 held_is false (Some n) none h = absurd (true≢false (sym h))
 
-has_it : (b : Bool) (o : Option ℕ) (n : ℕ) → o ≡ Some n → (is_none o || b) ≡ true → b ≡ true
+pub has_it : (b : Bool) (o : Option ℕ) (n : ℕ) → o ≡ Some n → (is_none o || b) ≡ true → b ≡ true
 has_it b o n there h = sym (ap (λ (x : Option ℕ). is_none x || b) there) ∙ h
 
 nothing_due : {E : Type 0} (b : Bool) (empty : List E) → empty ≡ [] → (if b then empty else []) ≡ []
@@ -55,45 +53,7 @@ nothing_due false empty h = refl
 due_when : {E : Type 0} (b c : Bool) (entries : List E) → b ≡ c → (if b then entries else []) ≡ (if c then entries else [])
 due_when b c entries h = ap (λ x. if x then entries else []) h
 
-module _ (Nets : List Event → Command → ℕ → Netting → Type 0) (Rows : List Event → Command → ℕ → Stating → Type 0)
-    (config : Config) (commands : List Command) (events : List Event) (world : PlainWorld) (holds : Holds Nets Rows config commands events world)
-    (nets_longer : (more : List Event) (command : Command) (begin : ℕ) (n : Netting) → Nets events command begin n → Nets (events ++ more) command begin n)
-    (rows_longer : (more : List Event) (command : Command) (begin : ℕ) (n : Stating) → Rows events command begin n → Rows (events ++ more) command begin n) where
-  -- ---- more events
-
-  answered_longer : (more : List Event) (command : Command) (begin point : ℕ) (reply : _) → IsAnswered config events command begin (length events) point reply
-      → IsAnswered config (events ++ more) command begin (length (events ++ more)) point reply
-  answered_longer more command begin point reply is =
-      let added : List Event = option_to_list (verdict config (known is.before) command).event in
-      let within = is.ended in
-      record {
-        before = is.before;
-        later = is.later ++ more;
-        split = ap (λ (l : List Event). l ++ more) is.split ∙ append_assoc is.before (added ++ is.later) more ∙ ap (λ (l : List Event). is.before ++ l) (append_assoc added is.later more);
-        at = is.at;
-        replied = is.replied;
-        begun = is.begun;
-        ended = omega (arith, within, length-append events more);
-      }
-
-  at_longer : (more : List Event) (command : Command) (begin : ℕ) (s : Stage) → IsAt Nets Rows config events command begin s → IsAt Nets Rows config (events ++ more) command begin s
-  at_longer more command begin (stage.Waiting own) h = h
-  at_longer more command begin (stage.Begun own) h = let within = h.1 in (h.0, omega (arith, within, length-append events more))
-  at_longer more command begin (stage.Ordered carried) h = answered_longer more command begin carried.point (stamped carried.point carried.reply) h
-  at_longer more command begin (stage.Netting n) h = nets_longer more command begin n h
-  at_longer more command begin (stage.Stating n) h = rows_longer more command begin n h
-  at_longer more command begin stage.Ended h = tt
-
-  pub call_longer : (more : List Event) (command : Command) (other : Call) → IsCall Nets Rows config events command other → IsCall Nets Rows config (events ++ more) command other
-  call_longer more command other h = record {
-    admitted = h.admitted;
-    book = h.book;
-    account = h.account;
-    bookless = h.bookless;
-    accountless = h.accountless;
-    at = at_longer more command other.begin other.stage h.at;
-  }
-
+module _ (config : Config) (commands : List Command) (events : List Event) (world : PlainWorld) (holds : Holds config commands events world) where
   -- ---- the place of one command
 
   module _ (number : ℕ) (book account : Option ℕ) (has_book has_account : Bool) (begin : ℕ) (told : Command) where
@@ -103,8 +63,8 @@ module _ (Nets : List Event → Command → ℕ → Netting → Type 0) (Rows : 
     abbrev pub ready_call : Call
     ready_call = at_stage (stage.Begun told)
 
-    module _ (is : slice_get world.calls number ≡ Some ready_call) (named : slice_get commands number ≡ Some told) (mine : IsCall Nets Rows config events told ready_call)
-        (ready_book : (is_none book || has_book) ≡ true) (ready_account : (is_none account || has_account) ≡ true) (entry : collects told ≡ false)
+    module _ (is : slice_get world.calls number ≡ Some ready_call) (named : slice_get commands number ≡ Some told) (mine : IsCall config events told ready_call)
+        (ready_book : (is_none book || has_book) ≡ true) (ready_account : (is_none account || has_account) ≡ true)
         (laws : HouseLaws) (distinct : AreDistinct config) where
       parties : HasParties config told
       parties = laws.parties config told mine.admitted
@@ -141,15 +101,15 @@ module _ (Nets : List Event → Command → ℕ → Netting → Type 0) (Rows : 
           ∙ ap (λ (o : Option (Lock AccountEntry)). option_map_or (λ l. l.entries) o []) found.1
           ∙ same_Some found.0.entries (own_account provider events) (sym whole_is ∙ of_events)
 
-      at_point : length world.order ≡ length events
+      pub at_point : length world.order ≡ length events
       at_point = ap length holds.kept.order_is ∙ (laws.counted config events).entries
 
-      in_period : count_by is_close_entry world.order ≡ period_of events
+      pub in_period : count_by is_close_entry world.order ≡ period_of events
       in_period = ap (count_by is_close_entry) holds.kept.order_is ∙ (laws.counted config events).closes
 
       -- the verdict by what is known to the call is that of all events
-      pub decided_alike : verdict config (known_to world ready_call) told ≡ verdict config (known events) told
-      decided_alike =
+      pub decided_alike : collects told ≡ false → verdict config (known_to world ready_call) told ≡ verdict config (known events) told
+      decided_alike entry =
           looks_into config told (entries_at world.books book) (of_operator (operator_of_command told) (book_entries events))
           (entries_at world.accounts account) (of_account (provider_of_command told) (account_entries events)) (length world.order) (count_by is_close_entry world.order) entry
           (λ operator own. own_book_is operator own ∙ sym (ap (λ (o : Option Party). of_operator o (book_entries events)) own))
@@ -157,111 +117,117 @@ module _ (Nets : List Event → Command → ℕ → Netting → Type 0) (Rows : 
           ∙ ap₂ (λ (point period : ℕ). verdict config (record { book = of_operator (operator_of_command told) (book_entries events); account = of_account (provider_of_command told) (account_entries events); point = point; period = period }) told) at_point in_period
           ∙ laws.own config events told holds.kept.legal
 
-      -- what was decided, with that event
-      abbrev pub decided : Verdict
-      decided = verdict config (known_to world ready_call) told
-
-      abbrev pub carried_with : Option Event → Carried
-      carried_with event = record { point = length world.order; period = count_by is_close_entry world.order; reply = decided.reply; event = event }
-
-      abbrev pub now_with : Option Event → Call
-      now_with event = at_stage (stage.Ordered (carried_with event))
-
-      abbrev pub world_with : Option Event → PlainWorld
-      world_with event = record {
-        config = world.config;
-        books = world.books;
-        accounts = world.accounts;
-        order = world.order ++ option_to_list (option_map (order_entry config (length (entries_at world.books book)) (length (entries_at world.accounts account))) event);
-        calls = slice_set world.calls number (now_with event);
-      }
-
-      answered_now : (event : Option Event) → decided.event ≡ event
-          → IsAnswered config (with_event events event) told begin (length (with_event events event)) (length world.order) (stamped (length world.order) decided.reply)
-      answered_now event e =
-          let given : (verdict config (known events) told).event ≡ event = ap (λ (v : Verdict). v.event) (sym decided_alike) ∙ e in
-          let long : length (with_event events event) ≡ length events + length (option_to_list event) =
-          ap length (with_event-append events event) ∙ length-append events (option_to_list event) in
-          let added : length (option_to_list (verdict config (known events) told).event) ≡ length (option_to_list event) = ap (λ (o : Option Event). length (option_to_list o)) given in
-          let point : length world.order ≡ length events = at_point in
+      -- the reply of the last point
+      pub answered_last : (judged : Verdict) → verdict config (known events) told ≡ judged
+          → IsAnswered config (with_event events judged.event) told begin (length (with_event events judged.event)) (length events) (stamped (length events) judged.reply)
+      answered_last judged is_judged =
+          let added : Option Event = judged.event in
+          let given : (verdict config (known events) told).event ≡ added = ap (λ (v : Verdict). v.event) is_judged in
+          let long : length (with_event events added) ≡ length events + length (option_to_list added) =
+          ap length (with_event-append events added) ∙ length-append events (option_to_list added) in
+          let same : length (option_to_list (verdict config (known events) told).event) ≡ length (option_to_list added) = ap (λ (o : Option Event). length (option_to_list o)) given in
           let within : begin ≤ length events = mine.at.1 in
           record {
             before = events;
             later = [];
-            split = with_event-append events event ∙ ap (λ (l : List Event). events ++ l) (sym (append-nil (option_to_list event)) ∙ ap (λ (o : Option Event). option_to_list o ++ []) (sym given));
-            at = sym at_point;
-            replied = ap₂ (λ (n : ℕ) (v : Verdict). stamped n v.reply) at_point decided_alike;
-            begun = omega (arith, point, within);
-            ended = omega (arith, point, long, added);
+            split = with_event-append events added ∙ ap (λ (l : List Event). events ++ l) (sym (append-nil (option_to_list added)) ∙ ap (λ (o : Option Event). option_to_list o ++ []) (sym given));
+            at = refl;
+            replied = ap (λ (v : Verdict). stamped (length events) v.reply) (sym is_judged);
+            begun = within;
+            ended = omega (arith, long, same);
           }
 
-      is_call_now : (event : Option Event) → decided.event ≡ event → IsCall Nets Rows config (with_event events event) told (now_with event)
-      is_call_now event e = record {
-        admitted = mine.admitted;
-        book = mine.book;
-        account = mine.account;
-        bookless = mine.bookless;
-        accountless = mine.accountless;
-        at = answered_now event e;
+      -- ---- the call behind its place, at a stage in which it carries the event, if there is one
+
+      abbrev period_now : ℕ
+      period_now = count_by is_close_entry world.order
+
+      abbrev pub in_book_of : Option Event → List BookEntry
+      in_book_of event = option_map_or (λ e. book_entry e period_now) event []
+
+      abbrev pub in_account_of : Option Event → List AccountEntry
+      in_account_of event = option_map_or (λ e. account_entry e period_now) event []
+
+      abbrev pub world_with : Stage → Option Event → PlainWorld
+      world_with s event = record {
+        config = world.config;
+        books = world.books;
+        accounts = world.accounts;
+        order = world.order ++ option_to_list (option_map (order_entry config (length (entries_at world.books book)) (length (entries_at world.accounts account))) event);
+        calls = slice_set world.calls number (at_stage s);
       }
 
-      call_after : (event : Option Event) (command : Command) (other : Call) → IsCall Nets Rows config events command other → IsCall Nets Rows config (with_event events event) command other
-      call_after None command other h = h
-      call_after (Some e) command other h = call_longer (e ∷ []) command other h
+      module _ (s : Stage) where
+        abbrev now : Call
+        now = at_stage s
 
-      calls_now : (event : Option Event) → decided.event ≡ event → (n : ℕ) (other : Call) → slice_get (slice_set world.calls number (now_with event)) n ≡ Some other
-          → (command : Command) × (slice_get commands n ≡ Some command) × IsCall Nets Rows config (with_event events event) command other
-      calls_now event e n other there = ⊎_elim
-          (λ (same : n ≡ number).
-          let it : now_with event ≡ other = same_Some (now_with event) other (sym (get-set_same world.calls number (now_with event) ready_call is) ∙ ap (slice_get (slice_set world.calls number (now_with event))) (sym same) ∙ there) in
-          (told, ap (slice_get commands) same ∙ named, subst (IsCall Nets Rows config (with_event events event) told) it (is_call_now event e)))
-          (λ (apart : n ≢ number).
-          let old = holds.calls n other (sym (get-set_other world.calls number n (now_with event) apart) ∙ there) in
-          (old.0, old.1, call_after event old.0 other old.2))
-          (cases_eq n number)
+        is_call_now : (event : Option Event) → IsAt config (with_event events event) told begin s → IsCall config (with_event events event) told now
+        is_call_now event at = record {
+          admitted = mine.admitted;
+          book = mine.book;
+          account = mine.account;
+          bookless = mine.bookless;
+          accountless = mine.accountless;
+          at = at;
+        }
 
-      kept_now : (event : Option Event) → decided.event ≡ event
-          → Keeps config (wholes held_book due_in_book (slice_set world.calls number (now_with event)) world.books)
-          (wholes held_account due_in_account (slice_set world.calls number (now_with event)) world.accounts) (world_with event).order (with_event events event)
-      kept_now None e =
-          let now : Call = now_with None in
-          let same : Keeps config (wholes held_book due_in_book (slice_set world.calls number now) world.books)
-          (wholes held_account due_in_account (slice_set world.calls number now) world.accounts) world.order events =
-          kept_as config (wholes held_book due_in_book world.calls world.books) (wholes held_book due_in_book (slice_set world.calls number now) world.books)
-          (wholes held_account due_in_account world.calls world.accounts) (wholes held_account due_in_account (slice_set world.calls number now) world.accounts) world.order events holds.kept
-          (wholes_same held_book due_in_book world.books world.calls holds.books number ready_call now is refl refl)
-          (wholes_same held_account due_in_account world.accounts world.calls holds.accounts number ready_call now is refl refl) in
-          subst (λ o. Keeps config (wholes held_book due_in_book (slice_set world.calls number now) world.books) (wholes held_account due_in_account (slice_set world.calls number now) world.accounts) o events)
-          (sym (append-nil world.order)) same
-      kept_now (Some added) e =
-          let now : Call = now_with (Some added) in
-          let given : (verdict config (known events) told).event ≡ Some added = ap (λ (v : Verdict). v.event) (sym decided_alike) ∙ e in
-          let books_before : List (List BookEntry) = wholes held_book due_in_book world.calls world.books in
-          let accounts_before : List (List AccountEntry) = wholes held_account due_in_account world.calls world.accounts in
-          kept_as config
-          (with_added books_before (option_map (operator_number config) (operator_of_command told)) (book_entry added (count_by is_close_entry world.order)))
-          (wholes held_book due_in_book (slice_set world.calls number now) world.books)
-          (with_added accounts_before (option_map (provider_number config) (provider_of_command told)) (account_entry added (count_by is_close_entry world.order)))
-          (wholes held_account due_in_account (slice_set world.calls number now) world.accounts)
-          (world_with (Some added)).order (events ++ added ∷ [])
-          (laws.kept config books_before accounts_before world.order events told added (length (entries_at world.books book)) (length (entries_at world.accounts account))
-          distinct holds.kept mine.admitted given
-          (record { book = λ operator own. ap length (own_book_is operator own); account = λ provider own. ap length (own_account_is provider own) }))
-          (grown held_book due_in_book world.books world.calls holds.books number ready_call is no_due_in_book now refl (book_entry added (count_by is_close_entry world.order))
-          (option_map (operator_number config) (operator_of_command told)) (held_is has_book book mine.bookless ready_book ∙ mine.book)
-          (λ none. due_when has_book false (book_entry added (count_by is_close_entry world.order)) (mine.bookless (mine.book ∙ none)))
-          (λ at some. due_when has_book true (book_entry added (count_by is_close_entry world.order)) (has_it has_book book at (mine.book ∙ some) ready_book)))
-          (grown held_account due_in_account world.accounts world.calls holds.accounts number ready_call is no_due_in_account now refl (account_entry added (count_by is_close_entry world.order))
-          (option_map (provider_number config) (provider_of_command told)) (held_is has_account account mine.accountless ready_account ∙ mine.account)
-          (λ none. due_when has_account false (account_entry added (count_by is_close_entry world.order)) (mine.accountless (mine.account ∙ none)))
-          (λ at some. due_when has_account true (account_entry added (count_by is_close_entry world.order)) (has_it has_account account at (mine.account ∙ some) ready_account)))
+        call_after : (event : Option Event) (command : Command) (other : Call) → IsCall config events command other → IsCall config (with_event events event) command other
+        call_after None command other h = h
+        call_after (Some e) command other h = call_longer laws.stay config events (e ∷ []) command other h
 
-      -- what holds, holds with the event once the command has its place
-      pub orders_entry : (event : Option Event) → decided.event ≡ event → Holds Nets Rows config commands (with_event events event) (world_with event)
-      orders_entry event e = record {
-        config_is = holds.config_is;
-        kept = kept_now event e;
-        books = agree_same held_book due_in_book world.books world.calls holds.books number ready_call (now_with event) is refl;
-        accounts = agree_same held_account due_in_account world.accounts world.calls holds.accounts number ready_call (now_with event) is refl;
-        calls = calls_now event e;
-      }
+        calls_now : (event : Option Event) → IsAt config (with_event events event) told begin s → (n : ℕ) (other : Call) → slice_get (slice_set world.calls number now) n ≡ Some other
+            → (command : Command) × (slice_get commands n ≡ Some command) × IsCall config (with_event events event) command other
+        calls_now event at n other there = ⊎_elim
+            (λ (same : n ≡ number).
+            let it : now ≡ other = same_Some now other (sym (get-set_same world.calls number now ready_call is) ∙ ap (slice_get (slice_set world.calls number now)) (sym same) ∙ there) in
+            (told, ap (slice_get commands) same ∙ named, subst (IsCall config (with_event events event) told) it (is_call_now event at)))
+            (λ (apart : n ≢ number).
+            let old = holds.calls n other (sym (get-set_other world.calls number n now apart) ∙ there) in
+            (old.0, old.1, call_after event old.0 other old.2))
+            (cases_eq n number)
+
+        kept_now : (event : Option Event) → (verdict config (known events) told).event ≡ event
+            → due_in_book now ≡ (if has_book then in_book_of event else []) → due_in_account now ≡ (if has_account then in_account_of event else [])
+            → Keeps config (wholes held_book due_in_book (slice_set world.calls number now) world.books)
+            (wholes held_account due_in_account (slice_set world.calls number now) world.accounts) (world_with s event).order (with_event events event)
+        kept_now None e for_book for_account =
+            let same : Keeps config (wholes held_book due_in_book (slice_set world.calls number now) world.books)
+            (wholes held_account due_in_account (slice_set world.calls number now) world.accounts) world.order events =
+            kept_as config (wholes held_book due_in_book world.calls world.books) (wholes held_book due_in_book (slice_set world.calls number now) world.books)
+            (wholes held_account due_in_account world.calls world.accounts) (wholes held_account due_in_account (slice_set world.calls number now) world.accounts) world.order events holds.kept
+            (wholes_same held_book due_in_book world.books world.calls holds.books number ready_call now is refl (for_book ∙ nothing_due has_book [] refl ∙ sym no_due_in_book))
+            (wholes_same held_account due_in_account world.accounts world.calls holds.accounts number ready_call now is refl (for_account ∙ nothing_due has_account [] refl ∙ sym no_due_in_account)) in
+            subst (λ o. Keeps config (wholes held_book due_in_book (slice_set world.calls number now) world.books) (wholes held_account due_in_account (slice_set world.calls number now) world.accounts) o events)
+            (sym (append-nil world.order)) same
+        kept_now (Some added) given for_book for_account =
+            let books_before : List (List BookEntry) = wholes held_book due_in_book world.calls world.books in
+            let accounts_before : List (List AccountEntry) = wholes held_account due_in_account world.calls world.accounts in
+            kept_as config
+            (with_added books_before (option_map (operator_number config) (operator_of_command told)) (book_entry added period_now))
+            (wholes held_book due_in_book (slice_set world.calls number now) world.books)
+            (with_added accounts_before (option_map (provider_number config) (provider_of_command told)) (account_entry added period_now))
+            (wholes held_account due_in_account (slice_set world.calls number now) world.accounts)
+            (world_with s (Some added)).order (events ++ added ∷ [])
+            (laws.kept config books_before accounts_before world.order events told added (length (entries_at world.books book)) (length (entries_at world.accounts account))
+            distinct holds.kept mine.admitted given
+            (record { book = λ operator own. ap length (own_book_is operator own); account = λ provider own. ap length (own_account_is provider own) }))
+            (grown held_book due_in_book world.books world.calls holds.books number ready_call is no_due_in_book now refl (book_entry added period_now)
+            (option_map (operator_number config) (operator_of_command told)) (held_is has_book book mine.bookless ready_book ∙ mine.book)
+            (λ none. for_book ∙ due_when has_book false (book_entry added period_now) (mine.bookless (mine.book ∙ none)))
+            (λ at some. for_book ∙ due_when has_book true (book_entry added period_now) (has_it has_book book at (mine.book ∙ some) ready_book)))
+            (grown held_account due_in_account world.accounts world.calls holds.accounts number ready_call is no_due_in_account now refl (account_entry added period_now)
+            (option_map (provider_number config) (provider_of_command told)) (held_is has_account account mine.accountless ready_account ∙ mine.account)
+            (λ none. for_account ∙ due_when has_account false (account_entry added period_now) (mine.accountless (mine.account ∙ none)))
+            (λ at some. for_account ∙ due_when has_account true (account_entry added period_now) (has_it has_account account at (mine.account ∙ some) ready_account)))
+
+        -- what holds, holds with the event once the command has its place
+        pub holds_with : (event : Option Event) → (verdict config (known events) told).event ≡ event
+            → due_in_book now ≡ (if has_book then in_book_of event else []) → due_in_account now ≡ (if has_account then in_account_of event else [])
+            → IsAt config (with_event events event) told begin s → Holds config commands (with_event events event) (world_with s event)
+        holds_with event given for_book for_account at = record {
+          config_is = holds.config_is;
+          kept = kept_now event given for_book for_account;
+          books = agree_same held_book due_in_book world.books world.calls holds.books number ready_call now is refl;
+          accounts = agree_same held_account due_in_account world.accounts world.calls holds.accounts number ready_call now is refl;
+          calls = calls_now event at;
+        }

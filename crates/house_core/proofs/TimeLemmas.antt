@@ -9,6 +9,7 @@ use Rattle.cdr_checks.specs.declared.request.Command.{Command}
 use Rattle.plain_house.specs.declared.entry.BookEntry.{BookEntry}
 use Rattle.plain_house.specs.Replies.{stamped}
 use Rattle.house_core.specs.declared.call.Call.{Call}
+use Rattle.house_core.specs.declared.call.ReplyDue.{ReplyDue}
 use Rattle.house_core.specs.declared.finished.Done.TheVariants as done
 use Rattle.house_core.specs.declared.stage.Carried.{Carried}
 use Rattle.house_core.specs.declared.stage.Stage.{Stage}
@@ -23,7 +24,7 @@ use Rattle.house_core.proofs.Folds.{each-append}
 use Rattle.house_core.specs.Steps.{Change, abandon, change_by, changed, collect_at, collected, end, ended, ended_by, finishes, known_to, of_account, of_book, of_call, order, put_account, put_book, step, take_account, take_book}
 use Rattle.house_core.specs.declared.step.Action.{Action}
 use Rattle.house_core.specs.declared.step.Action.TheVariants as action
-use Rattle.house_core.specs.Calls.{ReplyDue, begun, for_account, for_book, held_account, held_book, ordered, ready, reply_due, reply_due_at, waiting, wanted_account, wanted_book}
+use Rattle.house_core.specs.Calls.{begun, for_account, for_book, held_account, held_book, ordered, ready, reply_due, reply_due_at, waiting, wanted_account, wanted_book}
 use Rattle.house_core.specs.World.{PlainWorld}
 
 -- the order never shrinks

@@ -1,17 +1,16 @@
 -- What a call is ready for, and what it carries.
-use Rattle.std.specs.Prelude.{true, false, ℕ, Bool, not, ◌&&◌, ◌||◌, if◌then◌else◌, List, [], Option, Some, None, is_none, is_some, Result, Ok}
+use Rattle.std.specs.Prelude.{true, false, ℕ, Bool, not, ◌&&◌, ◌||◌, if◌then◌else◌, List, [], Option, Some, None, is_none, is_some, Ok}
 use Rattle.std.specs.Option.{option_map_or}
-use Rattle.ocpi_types.specs.declared.refusal.Refusal.{Refusal}
 use Rattle.cdr_checks.specs.declared.request.Command.{Command}
 use Rattle.cdr_checks.specs.declared.request.Command.TheVariants as command
 use Rattle.netting_positions.specs.Netting.{net_positions}
 use Rattle.netting_positions.specs.Statement.{statement_rows}
-use Rattle.plain_house.specs.declared.answer.Answer.{Answer}
 use Rattle.plain_house.specs.declared.answer.Answer.TheVariants as answer
 use Rattle.plain_house.specs.declared.entry.AccountEntry.{AccountEntry}
 use Rattle.plain_house.specs.declared.entry.BookEntry.{BookEntry}
 use Rattle.plain_house.specs.Entries.{account_entry, book_entry}
 use Rattle.house_core.specs.declared.call.Call.{Call}
+use Rattle.house_core.specs.declared.call.ReplyDue.{ReplyDue}
 use Rattle.house_core.specs.declared.stage.Carried.{Carried}
 use Rattle.house_core.specs.declared.stage.Stage.{Stage}
 use Rattle.house_core.specs.declared.stage.Stage.TheVariants as stage
@@ -111,11 +110,6 @@ abbrev pub due_in_account : Call → List AccountEntry
 due_in_account call = if call.has_account then option_map_or in_account (ordered call.stage) [] else []
 
 -- ---- the reply
-
--- the number of events before it, and what it is
-pub record ReplyDue : Type 0 where
-  pub point : ℕ
-  pub reply : Result Answer Refusal
 
 -- the reply of a call that has put all that it carried, or collected all books
 abbrev pub reply_due_at : Bool → Stage → Option ReplyDue

@@ -1,16 +1,21 @@
 //! What follows from the definitions.
 
-ghost use Rattle.house_core.specs.Laws.{EntryCommandsAreOneHouse, LegalListsKeepRules};
+ghost use Rattle.house_core.specs.Inner.HouseLaws.{HouseLaws};
+ghost use Rattle.house_core.specs.Inner.Steps.{StepsKeep};
+ghost use Rattle.house_core.specs.Laws.{CommandsAreOneHouse, LegalListsKeepRules};
 ghost use Rattle.house_core.specs.StepTable.{StepsAreDecided, StepsChangeNoMore};
 
 use cdr_checks::commands_have_parties;
+use netting_positions::{sums_decide_net_positions, sums_decide_statements};
+use operator_book::sums_are_no_larger;
 use period_order::{
-    events_are_kept, orders_are_counted, orders_are_resolved, parties_stand_at_their_numbers,
+    books_are_collectable, collected_owes_alike, dues_are_of_own_books, events_are_kept,
+    orders_are_counted, orders_are_resolved, parties_stand_at_their_numbers,
 };
 use plain_house::{
-    commands_keep_lists_legal, empty_lists_are_legal, legal_cdrs_are_charged,
-    legal_credits_are_taken_back, legal_lists_keep_limits, legal_positions_balance,
-    verdicts_are_of_own_entries,
+    closed_periods_stay, commands_keep_lists_legal, empty_lists_are_legal, entries_are_dated,
+    legal_cdrs_are_charged, legal_credits_are_taken_back, legal_lists_keep_limits,
+    legal_positions_balance, verdicts_are_of_own_entries,
 };
 
 /// What a step changes is decided by its call, and by the order or the locks that it names.
@@ -23,19 +28,41 @@ pub fn steps_change_no_more()
     ensures { StepsChangeNoMore }
 {}
 
-/// For every list of steps, commands that are no close and no statement are answered as one house over one list of events
-/// answers.
-pub fn entry_commands_are_one_house()
-    ensures { EntryCommandsAreOneHouse }
+/// The laws of lists, books, accounts and the order that steps stand on.
+pub fn house_laws()
+    ensures { HouseLaws }
 {
+    books_are_collectable();
+    closed_periods_stay();
+    collected_owes_alike();
     commands_have_parties();
     commands_keep_lists_legal();
-    empty_lists_are_legal();
+    dues_are_of_own_books();
+    entries_are_dated();
     events_are_kept();
     orders_are_counted();
     orders_are_resolved();
     parties_stand_at_their_numbers();
+    sums_are_no_larger();
+    sums_decide_net_positions();
+    sums_decide_statements();
     verdicts_are_of_own_entries();
+}
+
+/// For every list of steps, admitted commands are answered as one house over one list of events answers.
+pub fn commands_are_one_house()
+    ensures { CommandsAreOneHouse }
+{
+    empty_lists_are_legal();
+    house_laws();
+}
+
+/// A step of a sound world leads to a sound world, with the events of before and that of the command which it orders.
+pub fn steps_keep()
+    ensures { StepsKeep }
+{
+    empty_lists_are_legal();
+    house_laws();
 }
 
 /// On a legal list each CDR costs what its tariffs give, is booked once and taken back at most once, net positions add up to 0,

@@ -6,12 +6,20 @@ mod call;
 mod collection;
 mod finished;
 mod laws;
+mod locks;
+mod numbers;
+mod parts;
+mod replaying;
 mod stage;
 mod step;
+mod table;
+mod world;
 
-pub use finished::{Done, Finished};
+pub use finished::{Done, Finished, Trace};
 pub use laws::{
-    entry_commands_are_one_house, legal_lists_keep_rules, steps_are_decided, steps_change_no_more,
+    commands_are_one_house, legal_lists_keep_rules, steps_are_decided, steps_change_no_more,
 };
 pub use period_order::decide;
+pub use replaying::replay;
 pub use step::{Action, Step};
+pub use world::World;

@@ -3,6 +3,7 @@ use Rattle.std.specs.Prelude.{◌≡◌, ◌≤◌, ◌<◌, ◌^◌, ℕ, true,
 use Rattle.std.specs.List.{list_all}
 use Rattle.ocpi_types.specs.declared.config.Config.{Config}
 use Rattle.ocpi_types.specs.declared.config.Operator.{Operator}
+use Rattle.ocpi_types.specs.declared.party.Party.{Party}
 use Rattle.ocpi_types.specs.Config.{alike_operators, alike_providers}
 use Rattle.ocpi_types.specs.Currency.{same_currency}
 use Rattle.ocpi_types.specs.Different.{all_different}
@@ -16,6 +17,7 @@ use Rattle.plain_house.specs.declared.event.Event.{Event}
 use Rattle.plain_house.specs.Entries.{book_entries}
 use Rattle.plain_house.specs.Legal.{IsLegal}
 use Rattle.plain_house.specs.Obligations.{obligations}
+use Rattle.plain_house.specs.Own.{own_book}
 use Rattle.period_order.specs.Resolved.{books_of}
 
 -- what each of these operators is owed by its own book
@@ -34,6 +36,11 @@ sums config (operator ∷ operators) period (book ∷ books) =
 -- what all operators are owed of a period, as it is collected from their books
 abbrev pub collected : Config → ℕ → List (List BookEntry) → List Obligation
 collected config period books = sums config config.operators period books
+
+-- an operator is owed the same by its own book as by all entries
+abbrev pub DuesAreOfOwnBooks : Type 0
+DuesAreOfOwnBooks =
+    (operator : Party) (period : ℕ) (entries : List BookEntry) → due operator period (own_book operator entries) ≡ due operator period entries
 
 -- providers of the configuration owe it, to parties and in currencies of the configuration
 pub record AreOfProviders (config : Config) (owed : List Obligation) : Type 0 where

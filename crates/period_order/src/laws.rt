@@ -1,7 +1,7 @@
 //! What follows from the definitions.
 
 ghost use Rattle.period_order.specs.Decided.{OutcomesAreVerdicts};
-ghost use Rattle.period_order.specs.Dues.{BooksAreCollectable, CollectedOwesAlike};
+ghost use Rattle.period_order.specs.Dues.{BooksAreCollectable, CollectedOwesAlike, DuesAreOfOwnBooks};
 ghost use Rattle.period_order.specs.Kept.{EventsAreKept};
 ghost use Rattle.period_order.specs.Places.{OrdersAreCounted};
 ghost use Rattle.period_order.specs.Resolved.{OrdersAreResolved, PartiesStandAtTheirNumbers};
@@ -73,6 +73,11 @@ pub fn books_are_collectable()
     legal_lists_can_be_netted();
     operators_owe_alike();
 }
+
+/// An operator is owed the same by its own book as by all entries.
+pub fn dues_are_of_own_books()
+    ensures { DuesAreOfOwnBooks }
+{}
 
 /// What is collected from books owes alike with what the operators are owed.
 pub fn collected_owes_alike()

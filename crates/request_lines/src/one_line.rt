@@ -24,9 +24,9 @@ fn admitted(config: &Config, request: Request) -> Result<Command, Refusal>
     }
 }
 
-// The command of a line, once its request is admitted.
+/// The command of a line, or why it is refused before a house is asked. The refusal is `NoMemory` where a growth was refused.
 #[tactic(auto, unfolding(crate::specs::Script::command_in))]
-fn command_of(
+pub fn command_of(
     alloc: Global,
     room: &mut Room,
     config: &Config,

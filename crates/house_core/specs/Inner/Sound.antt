@@ -9,12 +9,11 @@ use Rattle.plain_house.specs.Replies.{stamped}
 use Rattle.period_order.specs.Kept.{Keeps}
 use Rattle.period_order.specs.Places.{operator_number, provider_number}
 use Rattle.house_core.specs.declared.call.Call.{Call}
-use Rattle.house_core.specs.declared.stage.Netting.{Netting}
 use Rattle.house_core.specs.declared.stage.Stage.{Stage}
 use Rattle.house_core.specs.declared.stage.Stage.TheVariants as stage
-use Rattle.house_core.specs.declared.stage.Stating.{Stating}
 use Rattle.house_core.specs.Calls.{held_account, held_book}
 use Rattle.house_core.specs.Events.{whole_account, whole_book}
+use Rattle.house_core.specs.Inner.Collecting.{IsNetting, IsStating}
 use Rattle.house_core.specs.Locks.{Lock}
 use Rattle.house_core.specs.OneHouse.{IsAnswered}
 use Rattle.house_core.specs.World.{PlainWorld}
@@ -31,30 +30,29 @@ pub record Agree {E : Type 0} (held : Call → Option ℕ) (locks : List (Lock E
 
 -- ---- calls
 
-module _ (Nets : List Event → Command → ℕ → Netting → Type 0) (Rows : List Event → Command → ℕ → Stating → Type 0) where
-  -- what is known of a call at its stage, at the events so far
-  abbrev pub IsAt : Config → List Event → Command → ℕ → Stage → Type 0
-  IsAt config events command begin (stage.Waiting own) = own ≡ command
-  IsAt config events command begin (stage.Begun own) = (own ≡ command) × (begin ≤ length events)
-  IsAt config events command begin (stage.Ordered carried) =
-      IsAnswered config events command begin (length events) carried.point (stamped carried.point carried.reply)
-  IsAt config events command begin (stage.Netting netting) = Nets events command begin netting
-  IsAt config events command begin (stage.Stating stating) = Rows events command begin stating
-  IsAt config events command begin stage.Ended = Unit {0}
+-- what is known of a call at its stage, at the events so far
+abbrev pub IsAt : Config → List Event → Command → ℕ → Stage → Type 0
+IsAt config events command begin (stage.Waiting own) = own ≡ command
+IsAt config events command begin (stage.Begun own) = (own ≡ command) × (begin ≤ length events)
+IsAt config events command begin (stage.Ordered carried) =
+    IsAnswered config events command begin (length events) carried.point (stamped carried.point carried.reply)
+IsAt config events command begin (stage.Netting netting) = IsNetting config events command begin netting
+IsAt config events command begin (stage.Stating stating) = IsStating config events command begin stating
+IsAt config events command begin stage.Ended = Unit {0}
 
-  -- it is the call of an admitted command, with that command's book and account
-  pub record IsCall (config : Config) (events : List Event) (command : Command) (call : Call) : Type 0 where
-    pub admitted : IsAdmitted config command
-    pub book : call.book ≡ option_map (operator_number config) (operator_of_command command)
-    pub account : call.account ≡ option_map (provider_number config) (provider_of_command command)
-    pub bookless : call.book ≡ None → call.has_book ≡ false
-    pub accountless : call.account ≡ None → call.has_account ≡ false
-    pub at : IsAt config events command call.begin call.stage
+-- it is the call of an admitted command, with that command's book and account
+pub record IsCall (config : Config) (events : List Event) (command : Command) (call : Call) : Type 0 where
+  pub admitted : IsAdmitted config command
+  pub book : call.book ≡ option_map (operator_number config) (operator_of_command command)
+  pub account : call.account ≡ option_map (provider_number config) (provider_of_command command)
+  pub bookless : call.book ≡ None → call.has_book ≡ false
+  pub accountless : call.account ≡ None → call.has_account ≡ false
+  pub at : IsAt config events command call.begin call.stage
 
-  -- with what calls still have to put, books, accounts and order are those of the events; and each call is where it is
-  pub record Holds (config : Config) (commands : List Command) (events : List Event) (world : PlainWorld) : Type 0 where
-    pub config_is : world.config ≡ config
-    pub kept : Keeps config (map (whole_book world.calls) world.books) (map (whole_account world.calls) world.accounts) world.order events
-    pub books : Agree held_book world.books world.calls
-    pub accounts : Agree held_account world.accounts world.calls
-    pub calls : (number : ℕ) (call : Call) → slice_get world.calls number ≡ Some call → (command : Command) × (slice_get commands number ≡ Some command) × IsCall config events command call
+-- with what calls still have to put, books, accounts and order are those of the events; and each call is where it is
+pub record Holds (config : Config) (commands : List Command) (events : List Event) (world : PlainWorld) : Type 0 where
+  pub config_is : world.config ≡ config
+  pub kept : Keeps config (map (whole_book world.calls) world.books) (map (whole_account world.calls) world.accounts) world.order events
+  pub books : Agree held_book world.books world.calls
+  pub accounts : Agree held_account world.accounts world.calls
+  pub calls : (number : ℕ) (call : Call) → slice_get world.calls number ≡ Some call → (command : Command) × (slice_get commands number ≡ Some command) × IsCall config events command call

@@ -1,0 +1,163 @@
+//! The command `schedule`.
+
+ghost use Rattle.std.specs.Prelude.{◌≡◌, ◌≤◌, All, IfErr, MatchResult, Some};
+ghost use Rattle.cdr_checks.specs.Admission.{IsAdmitted};
+ghost use Rattle.clear_cli.specs.declared.fault.Fault.{Fault as FaultValue};
+ghost use Rattle.clear_cli.specs.Fault.{IsTold, exit_status, fault_line};
+ghost use Rattle.clear_cli.specs.Inner.UnderConfig.{IsLeftUnwritten, IsReplayedUnder};
+ghost use Rattle.clear_cli.specs.Schedule.{Fails, FailsUnder, FileStreams, IsReplayed, IsWritten, schedule_fault};
+
+use crate::fault::{Fault, tell};
+use crate::schedule_file::{Schedule, ScheduleFault, read_schedule};
+use crate::schedule_text::write_trace;
+use crate::script::read_config;
+use house_core::replay;
+use ocpi_types::Config;
+use request_lines::{Sink, Source};
+use std::alloc::Global;
+
+// Replays a schedule, and writes how each call ended.
+fn replay_onto<W: Sink>(
+    alloc: Global,
+    config: &Config,
+    schedule: Schedule,
+    writer: &mut W,
+) -> Result<(), Fault<'static>>
+    requires admitted { All (IsAdmitted config.now) schedule.commands }
+    ensures ended { MatchResult result (λ _. IsWritten W.takes W.failed config.now schedule writer.old writer.new)
+        (λ fault. IsLeftUnwritten W.takes W.failed config.now schedule writer.old writer.new fault) }
+    ensures status { IfErr result (λ fault. exit_status fault ≡ 1) }
+{
+    let Schedule { commands, steps } = schedule;
+    let trace = replay(alloc, config, commands, steps.as_slice())?;
+    write_trace(alloc, config, writer, trace.finished.as_slice())?;
+    Ok(())
+}
+
+fn fault_of<'a>(fault: ScheduleFault, path: &'a str) -> Fault<'a>
+    ensures { result ≡ schedule_fault path.entry fault }
+{
+    match fault {
+        ScheduleFault::Read => Fault::CannotRead { path },
+        ScheduleFault::Line { line } => Fault::ScheduleLine { line },
+        ScheduleFault::NoMemory => Fault::NoMemory,
+    }
+}
+
+// Replays the file that a reader gives.
+fn replay_read<'a, R: Source, W: Sink>(
+    alloc: Global,
+    path: &'a str,
+    config: &Config,
+    reader: &mut R,
+    writer: &mut W,
+) -> Result<(), Fault<'a>>
+    ensures ended { let streams : FileStreams R W = record {
+      gives = R.gives;
+      at_end = R.at_end;
+      reader_failed = R.failed;
+      takes = W.takes;
+      writer_failed = W.failed;
+      given = Some reader.old;
+      writer = writer.old;
+      writer' = writer.new;
+    } in MatchResult result (λ _. IsReplayedUnder streams config.now) (λ fault. FailsUnder streams path.entry config.now fault) }
+    ensures status { IfErr result (λ fault. exit_status fault ≡ 1) }
+{
+    match read_schedule(alloc, config, reader) {
+        Ok(schedule) => replay_onto(alloc, config, schedule, writer),
+        Err(fault) => Err(fault_of(fault, path)),
+    }
+}
+
+// Replays the file, if it could be opened.
+fn replay_given<'a, R: Source + Drop, W: Sink>(
+    alloc: Global,
+    path: &'a str,
+    config: &Config,
+    reader: Option<R>,
+    writer: &mut W,
+) -> Result<(), Fault<'a>>
+    ensures ended { let streams : FileStreams R W = record {
+      gives = R.gives;
+      at_end = R.at_end;
+      reader_failed = R.failed;
+      takes = W.takes;
+      writer_failed = W.failed;
+      given = reader;
+      writer = writer.old;
+      writer' = writer.new;
+    } in MatchResult result (λ _. IsReplayedUnder streams config.now) (λ fault. FailsUnder streams path.entry config.now fault) }
+    ensures status { IfErr result (λ fault. exit_status fault ≡ 1) }
+{
+    match reader {
+        Some(mut reader) => replay_read(alloc, path, config, &mut reader, writer),
+        None => Err(Fault::CannotRead { path }),
+    }
+}
+
+fn replay_file<'a, R: Source + Drop, W: Sink>(
+    alloc: Global,
+    path: &'a str,
+    file: &[u8],
+    reader: Option<R>,
+    writer: &mut W,
+) -> Result<(), Fault<'a>>
+    ensures ended { let streams : FileStreams R W = record {
+      gives = R.gives;
+      at_end = R.at_end;
+      reader_failed = R.failed;
+      takes = W.takes;
+      writer_failed = W.failed;
+      given = reader;
+      writer = writer.old;
+      writer' = writer.new;
+    } in MatchResult result (λ _. IsReplayed streams file.now) (λ fault. Fails streams path.entry file.now fault) }
+    ensures status { IfErr result (λ fault. exit_status fault ≡ 1) }
+{
+    let config = read_config(alloc, file)?;
+    replay_given(alloc, path, &config, reader, writer)
+}
+
+/// Replays the calls and steps of a file under the configuration of these bytes, writes how each call ended, and gives the exit
+/// status. `path` is the file's, and `reader` gives its bytes, if it could be opened. A fault is told on `faults` in one line.
+pub fn schedule<R: Source + Drop, W: Sink, F: Sink>(
+    alloc: Global,
+    path: &str,
+    config: &[u8],
+    reader: Option<R>,
+    writer: &mut W,
+    faults: &mut F,
+) -> u8
+    ensures status { result ≤ 1 }
+    ensures done { let streams : FileStreams R W = record {
+      gives = R.gives;
+      at_end = R.at_end;
+      reader_failed = R.failed;
+      takes = W.takes;
+      writer_failed = W.failed;
+      given = reader;
+      writer = writer.old;
+      writer' = writer.new;
+    } in result ≡ 0 → IsReplayed streams config.now }
+    ensures silent { result ≡ 0 → faults.new ≡ faults.old }
+    ensures fault { let streams : FileStreams R W = record {
+      gives = R.gives;
+      at_end = R.at_end;
+      reader_failed = R.failed;
+      takes = W.takes;
+      writer_failed = W.failed;
+      given = reader;
+      writer = writer.old;
+      writer' = writer.new;
+    } in result ≡ 1 → (fault : FaultValue) × Fails streams path.entry config.now fault
+        × IsTold F.takes F.failed faults.old (fault_line fault) faults.new }
+{
+    match replay_file(alloc, path, config, reader, writer) {
+        Ok(()) => 0,
+        Err(fault) => {
+            tell(faults, &fault);
+            fault.status()
+        }
+    }
+}

@@ -1,0 +1,10 @@
+use Rattle.house_core.specs.Start.{start}
+use Rattle.house_core.proofs.OneHouseLemmas.{one_house}
+use Rattle.house_core.proofs.TimeLemmas.{keeps_time}
+use Rattle.house_core.proofs.laws.commands_are_one_house.Goals as goal
+
+pub returns : goal.returns
+returns c = λ config commands steps is_config admitted. record {
+  answered = one_house config commands c.house_laws.ensures is_config c.empty_lists_are_legal.ensures admitted steps;
+  time = keeps_time (start config commands) steps;
+}
