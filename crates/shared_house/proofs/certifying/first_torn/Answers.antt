@@ -1,0 +1,46 @@
+use Rattle.std.proofs.Common.{◌≡◌, ◌≤◌, ℕ, List, Err, IfOk, Some, None, Result, Ok, map, ap, sym, ◌∙◌, arith, subst, take}
+use Rattle.std.specs.declared.alloc.AllocError.{AllocError}
+use Rattle.plain_house.specs.declared.event.Event.{Event}
+use Rattle.period_order.specs.Resolved.{entries_of_accounts, entries_of_books}
+use Rattle.period_order.specs.Resolves.{Resolves}
+use Rattle.shared_house.specs.Certified.{IsTornFirst}
+use Rattle.shared_house.specs.declared.made.Made.{Made}
+use Rattle.shared_house.proofs.CertifiedLemmas.{part_is_whole, torn_at_entry, torn_in_part}
+use Rattle.shared_house.proofs.StandLemmas.{same_option}
+use Rattle.shared_house.proofs.certifying.first_torn.Goals as goal
+use Rattle.shared_house.proofs.certifying.first_torn.Goals.{in_default-2, in_default}
+
+pub unreachable-requires : goal.unreachable-requires
+unreachable-requires c =
+    part_is_whole c.resolving_is_whole.ensures (entries_of_books c.args.books.now) (entries_of_accounts c.args.accounts.now) c.args.order.now c.args.entry c.requires.fails c.in-Err-Torn.field-0-0
+    (c.resolve.ensures.torn c.in-Err-Torn.field-0-0 (c.in-Err-Torn.is ∙ ap Err c.in-Err-Torn.field-0-is))
+
+pub returns-in-Some : goal.returns-in-Some
+returns-in-Some c =
+    let config = c.args.config.now in
+    let books = entries_of_books c.args.books.now in
+    let accounts = entries_of_accounts c.args.accounts.now in
+    let events : List Event = c.as_slice.result.now in
+    let resolves : Resolves books accounts (take c.args.entry c.args.order.now) events =
+    subst (Resolves books accounts (take c.args.entry c.args.order.now)) (sym c.as_slice.ensures.value) c.in-Ok.ensures.ok in
+    let first = rw c.in-Some.is at c.in_ok-number.ensures.torn in
+    torn_in_part c.resolving_is_unique.ensures config books accounts c.args.order.now _ events c.args.entry resolves c.in-Some.number c.if-number-entry.true first
+
+pub returns : goal.returns
+returns c =
+    let config = c.args.config.now in
+    let books = entries_of_books c.args.books.now in
+    let accounts = entries_of_accounts c.args.accounts.now in
+    let events : List Event = c.as_slice.result.now in
+    let resolves : Resolves books accounts (take c.args.entry c.args.order.now) events =
+    subst (Resolves books accounts (take c.args.entry c.args.order.now)) (sym c.as_slice.ensures.value) c.in-Ok.ensures.ok in
+    let torn : ((number : ℕ) → c.in_ok-number.field-0 ≡ Some number → c.args.entry ≤ number) → IsTornFirst config books accounts c.args.order.now _ c.args.entry =
+    torn_at_entry c.resolving_is_unique.ensures config books accounts c.args.order.now _ events c.args.entry c.in_ok-number.field-0 resolves c.requires.fails c.in_ok-number.ensures.history c.in_ok-number.ensures.torn in
+    let passes : List (List Made) = map (λ calls. calls.items) c.args.passes.now in
+    let at_entry : ((number : ℕ) → c.in_ok-number.field-0 ≡ Some number → c.args.entry ≤ number) → c.match-branch-2.result ≡ Ok c.args.entry
+    → IfOk c.match-branch-2.result (IsTornFirst config books accounts c.args.order.now passes) =
+    λ least is. subst (λ (r : Result ℕ AllocError). IfOk r (IsTornFirst config books accounts c.args.order.now passes)) (sym is) (torn least) in
+    elim c.match-branch-2.branch [
+      | in_default-2 w ↦ at_entry (λ number e. omega (arith, w.if-number-entry.false, same_option number w.in-Some.number (sym e ∙ w.in-Some.is))) w.result-is
+      | in_default w ↦ at_entry (λ number e. absurd (let h : Some number ≡ None = sym e ∙ w.in_default.is in cc)) w.result-is
+    ]

@@ -1,0 +1,5 @@
+use Rattle.shared_house.proofs.PostLemmas.{accepted_as_due}
+use Rattle.shared_house.proofs.laws.credits_are_accepted_as_due_back.Goals as goal
+
+pub returns : goal.returns
+returns c = accepted_as_due

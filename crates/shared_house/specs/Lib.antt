@@ -1,0 +1,12 @@
+pub mod Calls
+pub mod Certified
+pub mod Counts
+pub mod Finished
+pub mod History
+pub mod Inner
+pub mod Laws
+pub mod Locked
+pub mod Names
+pub mod PassView
+pub mod Points
+pub mod Promises

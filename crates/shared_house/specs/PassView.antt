@@ -1,0 +1,9 @@
+-- What contracts see of a pass.
+use Rattle.std.specs.Prelude.{ℕ, List}
+use Rattle.shared_house.specs.declared.made.Made.{Made}
+
+-- its number, its calls in the order in which they were made, and how many events they added
+pub record PassView : Type 0 where
+  pub number : ℕ
+  pub calls : List Made
+  pub share : ℕ

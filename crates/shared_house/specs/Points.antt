@@ -1,0 +1,57 @@
+-- Calls of passes: where each stands, what it has added, and what its pass has seen before it.
+use Rattle.std.specs.Prelude.{All, ◌≡◌, ℕ, ◌+◌, ◌==◌, ◌&&◌, Bool, false, List, ◌∷◌, ◌++◌, Contains, count_by, fold, sum_by, unwrap_or, if◌then◌else◌, Option, Some, Ok, Err}
+use Rattle.ocpi_types.specs.declared.config.Config.{Config}
+use Rattle.cdr_checks.specs.Admission.{IsAdmitted}
+use Rattle.plain_house.specs.Laws.{is_of_event}
+use Rattle.plain_house.specs.Replies.{Reply, is_no_memory}
+use Rattle.shared_house.specs.declared.made.Made.{Made}
+
+-- the number of events before the call, which want of memory alone lacks
+abbrev pub told_point : Reply → Option ℕ
+told_point (Ok replied) = Some replied.at
+told_point (Err refused) = refused.at
+
+-- a reply without one stands before all events
+abbrev pub point_of_reply : Reply → ℕ
+point_of_reply (Ok replied) = replied.at
+point_of_reply (Err refused) = unwrap_or refused.at 0
+
+-- the reply tells of an event, as its answer does; a refusal tells of none
+abbrev pub adds_event : Reply → Bool
+adds_event (Ok replied) = is_of_event replied.answer
+adds_event (Err refused) = false
+
+-- a call of one of the passes that found memory, behind these calls of its pass
+pub record HaveMade (passes : List (List Made)) (earlier : List Made) (made : Made) : Type 0 where
+  pub later : List Made
+  pub in_pass : Contains passes (earlier ++ made ∷ later)
+  pub found_memory : is_no_memory made.reply ≡ false
+
+-- the commands of a pass are admitted, and those of all passes
+abbrev pub AreAdmitted : Config → List Made → Type 0
+AreAdmitted config calls = All (λ made. IsAdmitted config made.command) calls
+
+abbrev pub AreAllAdmitted : Config → List (List Made) → Type 0
+AreAllAdmitted config passes = All (AreAdmitted config) passes
+
+-- ---- events
+
+-- the event of this number is the one that the call added
+abbrev pub owns : ℕ → Made → Bool
+owns number made = adds_event made.reply && (point_of_reply made.reply == number)
+
+-- how many calls of all passes added it
+abbrev pub owners : List (List Made) → ℕ → ℕ
+owners passes number = sum_by (λ calls. count_by (owns number) calls) passes
+
+-- ---- what a pass has seen
+
+-- behind a call it has seen the events before the call, and the call's own; want of memory shows nothing
+abbrev pub seen_behind : ℕ → Made → ℕ
+seen_behind front made =
+    if is_no_memory made.reply then front
+    else (if adds_event made.reply then point_of_reply made.reply + 1 else point_of_reply made.reply)
+
+-- the front of a pass, the number of events that it has seen: 0 at first
+abbrev pub front_behind : List Made → ℕ
+front_behind calls = fold seen_behind 0 calls

@@ -1,0 +1,134 @@
+//! The calls done once more, in the order of their points, on a house of their own.
+
+ghost use Rattle.std.specs.Prelude.{◌≡◌, ◌≤◌, ◌-◌, ◌↔◌, true, length, map, slice_get, take, IfOk, IfNone, IfSome, Some};
+ghost use Rattle.cdr_checks.specs.Admission.{IsAdmitted};
+ghost use Rattle.plain_house.specs.declared.event.Event.{Event};
+ghost use Rattle.plain_house.specs.House.{events_after};
+ghost use Rattle.shared_house.specs.Points.{AreAllAdmitted, point_of_reply};
+ghost use Rattle.shared_house.specs.History.{BreaksFirst, IsOneHistory, Stands, events_before};
+ghost use Rattle.shared_house.specs.Inner.Turns.{IsNext, Tears, plain_turn};
+
+use super::turns::{Turn, turns_in_order};
+use crate::made::{Made, adds_event, is_no_memory};
+use ocpi_json::same::Same;
+use ocpi_types::{Config, TryCopy};
+use period_order::BookHouse;
+use plain_house::{
+    Event, Sequential, commands_keep_lists_legal, empty_lists_are_legal, replies_tell_events,
+};
+use std::alloc::{AllocError, Global};
+
+// The event of this number is this one.
+fn is_at(events: &[Event], number: u64, event: &Event) -> bool
+    ensures { (result ≡ true) ↔ (slice_get events.now number ≡ Some event.now) }
+{
+    match events.get(number as usize) {
+        Some(there) => there.is_same(event),
+        None => false,
+    }
+}
+
+// The event of this number is the last one of the house.
+fn is_last_at(
+    alloc: Global,
+    house: &BookHouse,
+    events: &[Event],
+    number: u64,
+) -> Result<bool, AllocError>
+    ensures { IfOk result (λ is. (last : Event) → slice_get house.now.events (length house.now.events - 1) ≡ Some last →
+        (is ≡ true) ↔ (slice_get events.now number ≡ Some last)) }
+{
+    match house.last_event(alloc)? {
+        Some(last) => Ok(is_at(events, number, &last)),
+        None => Ok(false),
+    }
+}
+
+// Does the command of a call on a house of the events before it, and tells whether the call stands there.
+fn stands(
+    alloc: Global,
+    house: &mut BookHouse,
+    events: &[Event],
+    made: &Made,
+) -> Result<bool, AllocError>
+    requires admitted { IsAdmitted house.old.config made.now.command }
+    requires before { house.old.events ≡ events_before events.now made.now }
+    requires within { point_of_reply made.now.reply ≤ length events.now }
+    ensures config { house.new.config ≡ house.old.config }
+    ensures stands { IfOk result (λ stands. (stands ≡ true) ↔ Stands house.old.config events.now made.now) }
+    ensures events { IfOk result (λ stands. house.new.events ≡ events_after house.old.config house.old.events made.now.command) }
+{
+    replies_tell_events();
+    let command = made.command.copy(alloc)?;
+    let reply = house.do_command(command);
+    if is_no_memory(&reply) {
+        return Err(AllocError);
+    }
+    if !reply.is_same(&made.reply) {
+        return Ok(false);
+    }
+    if !adds_event(&reply) {
+        return Ok(true);
+    }
+    is_last_at(alloc, house, events, made.point())
+}
+
+// Does the next turn, when so many events are those of the turns before it, and tells where it breaks.
+fn take_turn(
+    alloc: Global,
+    house: &mut BookHouse,
+    events: &[Event],
+    turn: &Turn,
+    count: u64,
+) -> Result<Option<u64>, AllocError>
+    requires admitted { IsAdmitted house.old.config turn.now.made.now.command }
+    requires so_far { house.old.events ≡ take count events.now }
+    requires within { count ≤ length events.now }
+    ensures config { house.new.config ≡ house.old.config }
+    ensures next { IfOk result (λ torn. IfNone torn (IsNext house.old.config events.now count (plain_turn turn.now) house.new.events)) }
+    ensures torn { IfOk result (λ torn. IfSome torn (Tears house.old.config events.now count (plain_turn turn.now))) }
+{
+    let point = turn.made.point();
+    if count < point && count < events.len() as u64 {
+        return Ok(Some(count));
+    }
+    if point != count || u128::from(point) < turn.front {
+        return Ok(Some(point));
+    }
+    if stands(alloc, house, events, turn.made)? {
+        Ok(None)
+    } else {
+        Ok(Some(point))
+    }
+}
+
+/// The first number at which the events and the calls of all passes break, or none where they are one history.
+pub fn first_break(
+    alloc: Global,
+    config: &Config,
+    events: &[Event],
+    passes: &[Vec<Made>],
+) -> Result<Option<u64>, AllocError>
+    requires { AreAllAdmitted config.now (map (λ calls. calls.items) passes.now) }
+    ensures history { IfOk result (λ torn. IfNone torn (IsOneHistory config.now events.now (map (λ calls. calls.items) passes.now))) }
+    ensures torn { IfOk result (λ torn. IfSome torn (BreaksFirst config.now events.now (map (λ calls. calls.items) passes.now))) }
+{
+    commands_keep_lists_legal();
+    empty_lists_are_legal();
+    replies_tell_events();
+    let turns = turns_in_order(alloc, passes)?;
+    let mut house = BookHouse::new(alloc, config.copy(alloc)?)?;
+    let mut count = 0;
+    for turn in &turns {
+        if let Some(number) = take_turn(alloc, &mut house, events, turn, count)? {
+            return Ok(Some(number));
+        }
+        if adds_event(&turn.made.reply) {
+            count += 1;
+        }
+    }
+    if count < events.len() as u64 {
+        return Ok(Some(count));
+    }
+    Ok(None)
+}

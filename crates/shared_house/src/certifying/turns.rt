@@ -1,0 +1,62 @@
+//! The calls of all passes, in the order of their points.
+
+ghost use Rattle.std.specs.Prelude.{◌≡◌, ◌++◌, map, IfOk, OnOk};
+ghost use Rattle.std.specs.List.Sorted.{IsNonDecreasingBy, IsPermutation};
+ghost use Rattle.std.specs.Ordering.{nat_cmp};
+ghost use Rattle.shared_house.specs.Inner.Turns.{plain_turn, rank, turns_from, turns_of};
+
+use crate::made::{Made, adds_event, is_no_memory};
+use std::alloc::{AllocError, Global};
+use std::cmp::Ordering;
+
+/// A call that found memory, and the number of events that its pass has seen before it.
+#[derive(Clone, Copy)]
+pub struct Turn<'a> {
+    pub front: u128,
+    pub made: &'a Made,
+}
+
+// By their points, and those that add no event first.
+fn in_order(first: &Turn, second: &Turn) -> Ordering
+    ensures { result ≡ nat_cmp (rank (plain_turn first.now)) (rank (plain_turn second.now)) }
+{
+    let by_point = first.made.point().cmp(&second.made.point());
+    by_point.then(adds_event(&first.made.reply).cmp(&adds_event(&second.made.reply)))
+}
+
+// The calls of one pass, behind the turns that are there.
+fn add_turns<'a>(turns: &mut Vec<Turn<'a>>, calls: &'a [Made]) -> Result<(), AllocError>
+    ensures { OnOk result (map plain_turn turns.new.items ≡ map plain_turn turns.old.items ++ turns_from 0 calls.now) }
+{
+    let mut front = 0;
+    for made in calls {
+        if !is_no_memory(&made.reply) {
+            turns.push(Turn { front, made })?;
+            front = made.seen();
+        }
+    }
+    Ok(())
+}
+
+fn turns<'a>(alloc: Global, passes: &'a [Vec<Made>]) -> Result<Vec<Turn<'a>>, AllocError>
+    ensures { IfOk result (λ turns. map plain_turn turns.items ≡ turns_of (map (λ calls. calls.items) passes.now)) }
+{
+    let mut turns = Vec::new(alloc);
+    for calls in passes {
+        add_turns(&mut turns, calls.as_slice())?;
+    }
+    Ok(turns)
+}
+
+/// The calls of all passes that found memory, by their points, and of one point those first that add no event.
+pub fn turns_in_order<'a>(
+    alloc: Global,
+    passes: &'a [Vec<Made>],
+) -> Result<Vec<Turn<'a>>, AllocError>
+    ensures same { IfOk result (λ turns. IsPermutation (turns_of (map (λ calls. calls.items) passes.now)) (map plain_turn turns.items)) }
+    ensures in_order { IfOk result (λ turns. IsNonDecreasingBy (λ turn. rank (plain_turn turn)) turns.items) }
+{
+    let mut turns = turns(alloc, passes)?;
+    turns.sort_by(|first, second| in_order(first, second))?;
+    Ok(turns)
+}

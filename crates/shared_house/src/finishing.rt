@@ -1,0 +1,79 @@
+//! The end of a house.
+
+ghost use Rattle.std.specs.Prelude.{◌≡◌, ◌<◌, ◌↔◌, ℕ, Err, map, vec_len, IfOk};
+ghost use Rattle.shared_house.specs.Finished.{IsFinished, IsTornInEnd};
+ghost use Rattle.shared_house.specs.declared.finishing.FinishFault.TheVariants as fault;
+
+use crate::certifying::CertifyFault;
+use crate::ended::Ended;
+use crate::gathered::{Gathered, gather};
+use crate::house::House;
+use crate::ledgers::{Configured, Names, Part};
+use crate::pass::Pass;
+use ocpi_types::TryCopy;
+use std::alloc::{AllocError, Global};
+
+/// Why a house ends without its events.
+#[derive(Clone, Copy, PartialEq, Eq)]
+pub enum FinishFault {
+    /// Fewer passes came back than were made.
+    MissingPass,
+    /// The least number at which an entry of the order names no event, or the history breaks.
+    Torn { entry: u64 },
+    NoMemory,
+}
+
+impl From<AllocError> for FinishFault {
+    ghost use Rattle.std.specs.Prelude.{◌≡◌};
+    ghost use Rattle.shared_house.specs.declared.finishing.FinishFault.TheVariants.{NoMemory};
+
+    ghost from_gives = { λ _ e. e ≡ NoMemory };
+
+    fn from(_error: AllocError) -> FinishFault {
+        FinishFault::NoMemory
+    }
+}
+
+impl<N: Names> House<N> {
+    /// The events of the house and the calls of its passes, where they are one history. The house is gone then, and so it is
+    /// after a fault.
+    ///
+    /// `MissingPass` where fewer passes come back than were made, and only there; `Torn` with the least number at which an entry
+    /// of the order names no event, or a call or an event of that number breaks the history.
+    pub fn finish(self, alloc: Global, passes: Vec<Pass<N>>) -> Result<Ended, FinishFault>
+        requires book_parts { (N.BookEntries.all ≡ N.BookEntries.parts) × (N.BookAmounts.all ≡ N.BookAmounts.parts) }
+        requires account_parts { (N.AccountEntries.all ≡ N.AccountEntries.parts) × (N.AccountAmounts.all ≡ N.AccountAmounts.parts) }
+        requires pass_parts { N.Events.all ≡ N.Events.parts }
+        ensures missing { (result ≡ Err fault.MissingPass) ↔ (vec_len passes < N.Events.all) }
+        ensures calls { IfOk result (λ ended. map (λ calls. calls.items) ended.calls.items ≡ map (λ pass. pass.calls) passes.items) }
+        ensures ok { IfOk result (λ ended. IsFinished N.BookEntries.config (map (λ pass. pass.calls) passes.items) ended.events.items) }
+        ensures torn { (entry : ℕ) → result ≡ Err (fault.Torn entry) → IsTornInEnd N.BookEntries.config (map (λ pass. pass.calls) passes.items) entry }
+    {
+        if passes.len() < self.passes {
+            return Err(FinishFault::MissingPass);
+        }
+        let config = self.config.copy(alloc)?;
+        let Gathered {
+            entries,
+            books,
+            accounts,
+            calls,
+        } = gather(alloc, self, passes)?;
+        let order = entries.as_slice();
+        let ended = Ended::certified(
+            alloc,
+            &config,
+            order,
+            books.as_slice(),
+            accounts.as_slice(),
+            calls,
+        );
+        match ended {
+            Ok(ended) => Ok(ended),
+            Err(cause) => match cause {
+                CertifyFault::Torn { entry } => Err(FinishFault::Torn { entry }),
+                CertifyFault::NoMemory => Err(FinishFault::NoMemory),
+            },
+        }
+    }
+}

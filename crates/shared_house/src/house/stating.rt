@@ -1,0 +1,84 @@
+//! A statement: it has its place in the order, and its rows are collected behind that.
+
+ghost use Rattle.std.specs.Prelude.{◌≡◌, ◌+◌, ◌≤◌, ℕ, []};
+ghost use Rattle.cdr_checks.specs.declared.request.Command.TheVariants.{Statement as StatementCommand};
+ghost use Rattle.netting_positions.specs.Netting.{parties};
+ghost use Rattle.shared_house.specs.Calls.{Returns, event_count};
+ghost use Rattle.shared_house.specs.Inner.Told.{IsPlacedAlone, IsRight};
+
+use super::collecting::is_configuration;
+use super::locks::House;
+use crate::gate::Gate;
+use crate::laws::{collecting_laws, house_laws};
+use crate::ledgers::{Configured, Names, Part};
+use crate::locked::Placed;
+use cdr_checks::{Command, StatementOf};
+use netting_positions::StatementTable;
+use period_order::Outcome;
+use plain_house::{Answer, Refused, Replied, out_of_memory, stamped};
+use std::sync::Wait;
+use std::sync::ledger::Share;
+
+impl<N: Names> House<N> {
+    // What is left once the statement has its place in the order.
+    fn end_statement<R: Wait, G: Gate>(
+        &self,
+        rt: &R,
+        pass: usize,
+        gate: &G,
+        ask: &StatementOf,
+        table: StatementTable,
+        placed: Placed,
+    ) -> Result<Replied, Refused>
+        requires empty { table ≡ record { party = ask.now.party; parties = parties N.BookEntries.config; currencies = N.BookEntries.config.currencies; obligations = [] } }
+        requires decides { IsPlacedAlone N.BookEntries.config (StatementCommand ask.now) placed.point placed.outcome }
+        ensures { (least : ℕ) → least ≤ placed.point → IsRight N.BookEntries.config (StatementCommand ask.now) least placed.added.events result }
+    {
+        house_laws();
+        collecting_laws();
+        is_configuration(&self.config);
+        let Placed {
+            point,
+            period: _,
+            outcome,
+            added: _,
+        } = placed;
+        match outcome {
+            Outcome::Replied { reply, .. } => stamped(point, reply),
+            Outcome::Stated { .. } => {
+                let rows = self.state(rt, pass, gate, ask, table);
+                stamped(point, Ok(Answer::Statement { rows }))
+            }
+            Outcome::Closed { .. } => unreachable!(),
+        }
+    }
+
+    /// Replies to a command that asks for a statement.
+    pub(super) fn statement_of<R: Wait, G: Gate>(
+        &self,
+        rt: &R,
+        pass: usize,
+        mine: &mut Share<N::Events>,
+        gate: &G,
+        ask: &StatementOf,
+    ) -> Result<Replied, Refused>
+        requires part { mine.old.parts ≡ 1 }
+        ensures part { mine.new.parts ≡ 1 }
+        ensures share { mine.new.amount ≡ mine.old.amount + event_count result }
+        ensures returns { Returns N.BookEntries.config (StatementCommand ask.now) mine.old.amount result }
+    {
+        let alloc = *self.locks.books.allocator();
+        let Ok(table) = StatementTable::new(alloc, &self.config, ask.party) else {
+            return Err(out_of_memory());
+        };
+        let placed = self
+            .locks
+            .order
+            .lock(rt)
+            .decide_alone(&self.config, Command::Statement(*ask), mine);
+        let Ok(placed) = placed else {
+            return Err(out_of_memory());
+        };
+        self.end_statement(rt, pass, gate, ask, table, placed)
+    }
+}

@@ -1,0 +1,9 @@
+//! The ledgers of a house.
+
+mod names;
+mod shares;
+mod tally;
+
+pub use names::{Configured, Names, Part};
+pub use shares::{AccountShares, BookShares, Rest};
+pub use tally::{Tally, tally_of};

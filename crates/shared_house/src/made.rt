@@ -1,0 +1,84 @@
+//! A call that was made, and what its reply tells.
+
+ghost use Rattle.std.specs.Prelude.{◌≡◌, ◌+◌, if◌then◌else◌};
+ghost use Rattle.plain_house.specs.Laws.{is_of_event};
+ghost use Rattle.plain_house.specs.Replies.{is_no_memory};
+ghost use Rattle.shared_house.specs.Points.{adds_event, point_of_reply};
+
+use cdr_checks::Command;
+use ocpi_types::Refusal;
+use plain_house::{Answer, Refused, Replied};
+
+/// A call that was made: what it asked, and what it returned.
+#[derive(Drop)]
+pub struct Made {
+    pub command: Command,
+    pub reply: Result<Replied, Refused>,
+}
+
+fn is_of_event(answer: &Answer) -> bool
+    ensures { result ≡ is_of_event answer.now }
+{
+    match answer {
+        Answer::Stored
+        | Answer::Allowed { .. }
+        | Answer::Released { .. }
+        | Answer::Accepted { .. }
+        | Answer::Closed { .. }
+        | Answer::Settled { .. } => true,
+        Answer::Unchanged
+        | Answer::Blocked
+        | Answer::NoCredit
+        | Answer::Repeated { .. }
+        | Answer::Exposure { .. }
+        | Answer::Found { .. }
+        | Answer::Statement { .. } => false,
+    }
+}
+
+/// Whether the reply is want of memory.
+pub fn is_no_memory(reply: &Result<Replied, Refused>) -> bool
+    ensures { result ≡ is_no_memory reply.now }
+{
+    match reply {
+        Ok(_) => false,
+        Err(refused) => match refused.refusal {
+            Refusal::NoMemory => true,
+            _ => false,
+        },
+    }
+}
+
+/// Whether the reply tells of an event that was added.
+pub fn adds_event(reply: &Result<Replied, Refused>) -> bool
+    ensures { result ≡ adds_event reply.now }
+{
+    match reply {
+        Ok(replied) => is_of_event(&replied.answer),
+        Err(_) => false,
+    }
+}
+
+impl Made {
+    /// The number of events before the call; 0 where the reply has none.
+    pub fn point(&self) -> u64
+        ensures { result ≡ point_of_reply self.now.reply }
+    {
+        match &self.reply {
+            Ok(replied) => replied.at,
+            Err(refused) => refused.at.unwrap_or(0),
+        }
+    }
+
+    /// The number of events that its pass has seen behind it, which may be one more than 64 bits hold.
+    pub fn seen(&self) -> u128
+        ensures { result ≡ (if adds_event self.now.reply then point_of_reply self.now.reply + 1 else point_of_reply self.now.reply) }
+    {
+        let point = u128::from(self.point());
+        if adds_event(&self.reply) {
+            point + 1
+        } else {
+            point
+        }
+    }
+}

@@ -1,0 +1,45 @@
+use crate::ledgers::Names;
+use crate::made::Made;
+use std::marker::Model;
+use std::sync::ledger::Share;
+
+/// What one caller of a house holds: the calls that it made, and its share of the house's events.
+#[derive(Drop)]
+pub struct Pass<N: Names> {
+    pub(crate) number: usize,
+    pub(crate) calls: Vec<Made>,
+    pub(crate) events: Share<N::Events>,
+}
+
+impl<N: Names> Model for Pass<N> {
+    ghost use Rattle.shared_house.specs.PassView.{PassView};
+    ghost use Rattle.shared_house.specs.Inner.PassKeeps.{PassKeeps};
+
+    ghost Value = { PassView };
+
+    ghost view = { λ pass. record { number = pass.number; calls = pass.calls.items; share = pass.events.amount } };
+
+    ghost invariant = { λ pass. PassKeeps N.BookEntries.config pass.calls.items pass.events.parts pass.events.amount };
+}
+
+impl<N: Names> Pass<N> {
+    ghost use Rattle.std.specs.Prelude.{◌≡◌, count_by};
+    ghost use Rattle.shared_house.specs.Calls.{made_event};
+    ghost use Rattle.shared_house.specs.Points.{AreAdmitted};
+
+    /// The number of the pass among those of its house, from 0.
+    pub fn number(&self) -> usize
+        ensures { result ≡ self.now.number }
+    {
+        self.number
+    }
+
+    /// The calls that were made with the pass, the first one first, but those for which the pass found no memory.
+    pub fn calls(&self) -> &[Made]
+        ensures calls { result.now ≡ self.now.calls }
+        ensures share { self.now.share ≡ count_by made_event self.now.calls }
+        ensures admitted { AreAdmitted N.BookEntries.config self.now.calls }
+    {
+        self.calls.as_slice()
+    }
+}
