@@ -44,11 +44,12 @@ def random_config(rng):
 
 
 class Script:
-    """Lines that mostly fit what the house holds, so that every case of every command comes up."""
+    """Lines that mostly fit what the house holds, so that every case of every command comes up. CDRs have the ids S1 to S and `ids`."""
 
-    def __init__(self, seed):
+    def __init__(self, seed, house=House, ids=30):
         self.rng = random.Random(seed)
-        self.house = House(random_config(self.rng))
+        self.house = house(random_config(self.rng))
+        self.ids = ids
         self.posted = []
 
     def cased(self, word):
@@ -129,7 +130,7 @@ class Script:
         volumes = [self.rng.choice([5000, 20000, 333, 40000, 1, 20]) for _ in range(self.rng.choice([1, 1, 2]))]
         periods = [{'start_date_time': f'2024-07-01T10:{i}0:00Z', 'dimensions': [{'type': 'ENERGY', 'volume': kwh(v)}]}
                    | ({'tariff_id': self.cased(name)} if self.rng.random() < 0.95 else {}) for i, v in enumerate(volumes)]
-        number = self.rng.randint(1, 30)
+        number = self.rng.randint(1, self.ids)
         cdr = self.split(operator) | {'id': self.cased(f'S{number}'), 'start_date_time': '2024-07-01T10:00:00Z',
                                       'end_date_time': '2024-07-01T11:00:00Z'}
         cdr['cdr_token'] = self.split(provider) | {'uid': 'U1', 'type': 'RFID', 'contract_id': 'C1'}
@@ -157,7 +158,8 @@ class Script:
 
     def post(self):
         chance = self.rng.random()
-        booked = [(o, c) for o, c in self.posted if self.house.billed(operator=fold(o), id=fold(c['id']))] or self.posted
+        known = {(e['operator'], e['id']) for e in self.house.billed()}
+        booked = [(o, c) for o, c in self.posted if (fold(o), fold(c['id'])) in known] or self.posted
         if booked and chance < 0.12:
             operator, cdr = self.rng.choice(booked)
             cdr = json.loads(dumped(cdr), parse_float=Number)
@@ -237,11 +239,11 @@ class Script:
         others = {'operator': 'NL/CPX', 'provider': 'NL/CPA', 'party': 'NL/XYZ', 'currency': 'USD'}
         return dumped(request | {k: v for k, v in others.items() if k in request and rng.random() < 0.6})
 
-    def lines(self):
+    def lines(self, count=60):
         """The lines with the answers of the plain reading."""
         weights = {'put_tariff': 8, 'put_token': 8, 'authorize': 14, 'release': 5, 'post': 32, 'close': 8, 'settle': 8, 'exposure': 7,
                    'find': 6, 'statement': 8}
-        for number in range(60):
+        for number in range(count):
             first = ('put_tariff', 'put_token')[number % 2] if number < 10 else None
             request = getattr(self, first or self.rng.choices(list(weights), list(weights.values()))[0])()
             line = self.bad(request) if self.rng.random() < 0.1 else dumped(request)
