@@ -4,23 +4,38 @@ use crate::fault::Fault;
 use crate::files::open;
 use crate::houses::Choice;
 use crate::measures::Asked;
-use crate::{copies, houses, json_rows, measures, readings};
+use crate::{copies, houses, json_rows, measures, readings, shared};
+use std::sync::Wait;
 use std::thread::Threads;
 
-fn answer_by_all(rt: &HostRuntime) -> Result<(), Fault<'static>> {
-    for house in ["plain", "books", "plain-again", "books-again"] {
+fn answer_by_all(
+    rt: &HostRuntime,
+    threads: &(impl Threads + Wait + Sync),
+) -> Result<(), Fault<'static>> {
+    for house in [
+        "plain",
+        "books",
+        "shared",
+        "plain-again",
+        "books-again",
+        "shared-again",
+    ] {
         let choice = Choice::of(house, "config.json").ok_or(Fault::Usage)?;
-        houses::answer_lines(rt, choice, open(rt, "lines.jsonl")?)?;
+        houses::answer_lines(rt, threads, choice, open(rt, "lines.jsonl")?)?;
     }
     Ok(())
 }
 
 /// Does a bit of everything.
-pub fn perform(rt: &HostRuntime, threads: &(impl Threads + Sync)) -> Result<(), Fault<'static>> {
+pub fn perform(
+    rt: &HostRuntime,
+    threads: &(impl Threads + Wait + Sync),
+) -> Result<(), Fault<'static>> {
     json_rows::tell_rows(rt)?;
     copies::copy_input(rt, rt.stdin())?;
     copies::copy_input(rt, open(rt, "cdrs.jsonl")?)?;
     readings::compare_lines(rt, open(rt, "readings.jsonl")?)?;
-    answer_by_all(rt)?;
+    answer_by_all(rt, threads)?;
+    shared::tell_changes(rt, threads, "config.json", open(rt, "lines.jsonl")?)?;
     measures::measure(rt, threads, &Asked::everything())
 }

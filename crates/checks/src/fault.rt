@@ -3,7 +3,8 @@
 use ocpi_json::name::Name;
 use ocpi_types::ConfigFault;
 use request_lines::ScriptFault;
-use std::alloc::AllocError;
+use shared_house::FinishFault;
+use std::alloc::{AllocError, AllocFailed};
 use std::io;
 
 /// What ends the program early.
@@ -28,6 +29,12 @@ pub enum Fault<'a> {
 
     NoMemory,
 
+    /// Fewer passes came back than were made.
+    MissingPass,
+
+    /// What a house that threads share left behind is no history, first at this number.
+    Torn { entry: u64 },
+
     /// What was read is no input of copies, or could not be copied.
     NoCopy,
 
@@ -45,6 +52,12 @@ pub enum Fault<'a> {
 
 impl From<AllocError> for Fault<'_> {
     fn from(_error: AllocError) -> Self {
+        Fault::NoMemory
+    }
+}
+
+impl<T: Drop> From<AllocFailed<T>> for Fault<'_> {
+    fn from(_error: AllocFailed<T>) -> Self {
         Fault::NoMemory
     }
 }
@@ -70,6 +83,16 @@ impl From<ScriptFault> for Fault<'_> {
     }
 }
 
+impl From<FinishFault> for Fault<'_> {
+    fn from(cause: FinishFault) -> Self {
+        match cause {
+            FinishFault::MissingPass => Fault::MissingPass,
+            FinishFault::Torn { entry } => Fault::Torn { entry },
+            FinishFault::NoMemory => Fault::NoMemory,
+        }
+    }
+}
+
 impl Fault<'_> {
     /// The exit status.
     pub fn status(&self) -> u8 {
@@ -91,6 +114,8 @@ pub fn tell(rt: &HostRuntime, fault: &Fault<'_>) -> io::Result<()> {
         Fault::CannotWrite => eprintln!(rt; "checks: cannot write"),
         Fault::LineTooLong { line } => eprintln!(rt; "checks: line {line} is too long"),
         Fault::NoMemory => eprintln!(rt; "checks: no memory"),
+        Fault::MissingPass => eprintln!(rt; "checks: a pass is missing"),
+        Fault::Torn { entry } => eprintln!(rt; "checks: torn at {entry}"),
         Fault::NoCopy => eprintln!(rt; "checks: no copy"),
         Fault::NotCompared => eprintln!(rt; "checks: not compared"),
         Fault::ReadDifferently => eprintln!(rt; "checks: read differently"),

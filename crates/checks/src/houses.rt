@@ -11,27 +11,31 @@ use answering::answer;
 pub use choice::Choice;
 use request_lines::Device;
 use std::io::Read;
+use std::sync::Wait;
+use std::thread::Threads;
 
-fn answer_under_config<'a, R: Read>(
+fn answer_under_config<'a, T: Threads + Wait + Sync, R: Read>(
     rt: &HostRuntime,
+    threads: &T,
     choice: Choice<'a>,
     reader: &mut Device<R>,
 ) -> Result<(), Fault<'a>> {
     let file = read_config(rt, rt.alloc(), choice.config)?;
     let mut writer = Device::new(rt.stdout());
-    answer(rt.alloc(), choice, file.as_slice(), reader, &mut writer)
+    answer(rt, threads, choice, file.as_slice(), reader, &mut writer)
 }
 
 /// Answers the lines of the reader on standard output.
-pub fn answer_lines<'a, R: Read + Drop>(
+pub fn answer_lines<'a, T: Threads + Wait + Sync, R: Read + Drop>(
     rt: &HostRuntime,
+    threads: &T,
     choice: Choice<'a>,
     reader: R,
 ) -> Result<(), Fault<'a>> {
     let mut reader = Device::new(reader);
-    match answer_under_config(rt, choice, &mut reader) {
+    match answer_under_config(rt, threads, choice, &mut reader) {
         Err(Fault::NoMemory) if choice.is_again && reader.reads == 0 => {
-            answer_under_config(rt, choice, &mut reader)
+            answer_under_config(rt, threads, choice, &mut reader)
         }
         ended => ended,
     }

@@ -1,8 +1,13 @@
 //! A developer's program: it shows what no contract says, and measures. Its words say what:
 //!
-//! - `plain CONFIG` and `books CONFIG` answer the lines of standard input, by the house of one list of events or by that of
-//!   books and accounts. `plain-again CONFIG` and `books-again CONFIG` do once more what memory was refused for, and so show
+//! - `plain CONFIG`, `books CONFIG` and `shared CONFIG` answer the lines of standard input, by the house of one list of events, by
+//!   that of books and accounts, or by one pass of the house that threads share, whose calls are certified in the end.
+//!   `plain-again CONFIG`, `books-again CONFIG` and `shared-again CONFIG` do once more what memory was refused for, and so show
 //!   whether a house that memory was refused to is as it was.
+//! - `changes CONFIG` answers them in the third way, and tells what is certified of the order, the books, the accounts and the
+//!   calls, as they are and with one change each.
+//! - `at-once CONFIG FILE..` makes the calls of the files' lines, each file by a pass and on a thread of its own, and tells how
+//!   many were made in a second.
 //! - `copies` copies what standard input has, and `readings` reads each of its lines in two ways.
 //! - `measure [SUBJECT [PART [NUMBER]]]` does the work that is measured.
 //! - `json` tells row by row whether `ocpi_json` reads and keeps texts as expected.
@@ -19,6 +24,7 @@ mod houses;
 mod json_rows;
 mod measures;
 mod readings;
+mod shared;
 mod words;
 
 use fault::{Fault, tell};
@@ -26,6 +32,7 @@ use std::alloc::Global;
 use std::env;
 use std::io::ErrorKind;
 use std::process::ExitCode;
+use std::sync::Wait;
 use std::thread::Threads;
 use words::{Job, job_of};
 
@@ -49,12 +56,14 @@ fn words_again(rt: &HostRuntime, alloc: Global) -> Result<Vec<String>, Fault<'st
 
 fn perform<'a>(
     rt: &HostRuntime,
-    threads: &(impl Threads + Sync),
+    threads: &(impl Threads + Wait + Sync),
     words: &'a [String],
 ) -> Result<(), Fault<'a>> {
     match job_of(words)? {
         Job::Everything => everything::perform(rt, threads),
-        Job::Answer(choice) => houses::answer_lines(rt, choice, rt.stdin()),
+        Job::Answer(choice) => houses::answer_lines(rt, threads, choice, rt.stdin()),
+        Job::Changes { config } => shared::tell_changes(rt, threads, config, rt.stdin()),
+        Job::AtOnce { config, files } => shared::call_at_once(rt, threads, config, files),
         Job::Copies => copies::copy_input(rt, rt.stdin()),
         Job::Readings => readings::compare_lines(rt, rt.stdin()),
         Job::Measure(asked) => measures::measure(rt, threads, &asked),

@@ -13,6 +13,17 @@ pub enum Job<'a> {
     /// Answers lines by a house.
     Answer(Choice<'a>),
 
+    /// Tells what is certified of changed values, under the configuration of this path.
+    Changes {
+        config: &'a str,
+    },
+
+    /// Makes the calls of the files' lines at once.
+    AtOnce {
+        config: &'a str,
+        files: &'a [String],
+    },
+
     Copies,
 
     Readings,
@@ -35,6 +46,13 @@ pub fn job_of(words: &[String]) -> Result<Job<'_>, Fault<'static>> {
         ("readings", []) => Some(Job::Readings),
         ("json", []) => Some(Job::Json),
         ("measure", others) => Asked::of(others).map(Job::Measure),
+        ("changes", [config]) => Some(Job::Changes {
+            config: config.as_str(),
+        }),
+        ("at-once", [config, files @ ..]) => Some(Job::AtOnce {
+            config: config.as_str(),
+            files,
+        }),
         (house, [config]) => Choice::of(house, config.as_str()).map(Job::Answer),
         _ => None,
     };

@@ -1,7 +1,7 @@
 //! Replies that every house gives.
 
 ghost use Rattle.std.specs.Prelude.{◌≡◌, Some, None};
-ghost use Rattle.plain_house.specs.Replies.{stamped};
+ghost use Rattle.plain_house.specs.Replies.{is_no_memory, stamped};
 
 use super::answer::{Answer, Refused, Replied};
 use ocpi_types::Refusal;
@@ -13,6 +13,19 @@ pub fn out_of_memory() -> Refused
     Refused {
         at: None,
         refusal: Refusal::NoMemory,
+    }
+}
+
+/// Whether the reply is want of memory.
+pub fn is_out_of_memory(reply: &Result<Replied, Refused>) -> bool
+    ensures { result ≡ is_no_memory reply.now }
+{
+    match reply {
+        Ok(_) => false,
+        Err(refused) => match refused.refusal {
+            Refusal::NoMemory => true,
+            _ => false,
+        },
     }
 }
 

@@ -21,7 +21,7 @@ pub use device::Device;
 pub use faults::{Count, Failed, ScriptFault};
 pub use laws::scripts_keep_lists_legal;
 pub use lines::{MOST_LINE_BYTES, NEWLINE, lines_join_to_bytes};
-pub use one_line::{Once, Respond, command_of, is_out_of_memory, reply_to};
+pub use one_line::{Once, Respond, command_of, reply_to};
 pub use requests::{CommandName, request_of};
 pub use script::{run_script, run_script_by};
 pub use streams::{MOST_READ_BYTES, Sink, Source, write_all};

@@ -10,7 +10,7 @@ use super::requests::request_of;
 use cdr_checks::{Command, Request, admit};
 use ocpi_json::Room;
 use ocpi_types::{Config, Refusal};
-use plain_house::{Refused, Replied, Sequential};
+use plain_house::{Refused, Replied, Sequential, is_out_of_memory};
 use std::alloc::{AllocError, Global};
 
 fn admitted(config: &Config, request: Request) -> Result<Command, Refusal>
@@ -57,19 +57,6 @@ pub fn reply_to<S: Sequential>(
     match command_of(alloc, room, config, line) {
         Ok(command) => house.do_command(command),
         Err(refusal) => Err(Refused { at: None, refusal }),
-    }
-}
-
-/// Whether a reply says that memory ran out.
-pub fn is_out_of_memory(reply: &Result<Replied, Refused>) -> bool
-    ensures { result ≡ is_no_memory reply.now }
-{
-    match reply {
-        Ok(_) => false,
-        Err(refused) => match refused.refusal {
-            Refusal::NoMemory => true,
-            _ => false,
-        },
     }
 }
 

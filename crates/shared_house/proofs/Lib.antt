@@ -14,6 +14,7 @@ pub mod NumberLemmas
 pub mod PointLemmas
 pub mod PostLemmas
 pub mod PromiseLemmas
+pub mod RepeatedLemmas
 pub mod ReplayLemmas
 pub mod StandLemmas
 pub mod TurnLemmas

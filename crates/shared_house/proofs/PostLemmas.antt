@@ -35,15 +35,15 @@ use Rattle.shared_house.proofs.AnswerLemmas.{told_answer}
 
 -- ---- cases
 
-abbrev Says : (Result Answer Refusal → Type 0) → Case → Type 0
+abbrev pub Says : (Result Answer Refusal → Type 0) → Case → Type 0
 Says P None = Unit {0}
 Says P (Some reply) = P reply
 
-abbrev AllSay : (Result Answer Refusal → Type 0) → List Case → Type 0
+abbrev pub AllSay : (Result Answer Refusal → Type 0) → List Case → Type 0
 AllSay P [] = Unit {0}
 AllSay P (case ∷ cases) = Says P case × AllSay P cases
 
-unless_says : (P : Result Answer Refusal → Type 0) (cases : List Case) (last : Verdict) → AllSay P cases → P last.reply → P (unless cases last).reply
+pub unless_says : (P : Result Answer Refusal → Type 0) (cases : List Case) (last : Verdict) → AllSay P cases → P last.reply → P (unless cases last).reply
 unless_says P [] last all h = h
 unless_says P (None ∷ cases) last all h = unless_says P cases last all.1 h
 unless_says P (Some reply ∷ cases) last all h = all.0

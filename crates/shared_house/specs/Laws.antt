@@ -5,6 +5,7 @@ use Rattle.ocpi_types.specs.declared.config.Config.{Config}
 use Rattle.ocpi_types.specs.declared.party.Party.{Party}
 use Rattle.ocpi_types.specs.declared.refusal.Refusal.TheVariants as refusal
 use Rattle.ocpi_types.specs.Cdr.{is_credit}
+use Rattle.cdr_checks.specs.Admission.{IsAdmitted}
 use Rattle.cdr_checks.specs.Checked.{Checked}
 use Rattle.cdr_checks.specs.declared.request.Close.{Close}
 use Rattle.cdr_checks.specs.declared.request.Command.{Command}
@@ -66,6 +67,13 @@ abbrev pub AcceptedAtTheirCost : Type 0
 AcceptedAtTheirCost =
     (config : Config) (checked : Checked) (cost : ℕ) (least : ℕ) (replied : Replied) (amount : ℤ) (period : ℕ) → checked.cost ≡ Some cost →
     Returns config (command.Post checked) least (Ok replied) → replied.answer ≡ answer.Accepted amount period → amount ≡ pos cost
+
+-- a CDR that is booked already is told at what its session costs
+abbrev pub RepeatedAtTheirCost : Type 0
+RepeatedAtTheirCost =
+    (config : Config) (checked : Checked) (cost : ℕ) (least : ℕ) (replied : Replied) (amount : ℤ) (period : ℕ) →
+    IsAdmitted config (command.Post checked) → checked.cost ≡ Some cost →
+    Returns config (command.Post checked) least (Ok replied) → replied.answer ≡ answer.Repeated amount period → amount ≡ pos cost
 
 -- a CDR that is refused for an exposure above a limit is refused for one that is above it
 abbrev pub OverLimitsAreAbove : Type 0

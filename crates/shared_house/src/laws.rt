@@ -4,14 +4,17 @@ ghost use Rattle.shared_house.specs.Inner.Collecting.{CollectingLaws, DuesAreBou
 ghost use Rattle.shared_house.specs.Inner.HouseLaws.{HouseLaws};
 ghost use Rattle.std.specs.Prelude.{◌≡◌, ◌≤◌, ◌*◌, ◌^◌, count_by, length};
 ghost use Rattle.period_order.specs.Order.{names_account, names_book};
-ghost use Rattle.shared_house.specs.Laws.{AcceptedAsDueBack, AcceptedAtTheirCost, ClosesBalance, ExposuresAreWithinLimits, KeepsBookRules, KeepsLimitsThroughout, OverLimitsAreAbove, RepliesOfCallsFit};
+ghost use Rattle.shared_house.specs.Laws.{AcceptedAsDueBack, AcceptedAtTheirCost, ClosesBalance, ExposuresAreWithinLimits, KeepsBookRules, KeepsLimitsThroughout, OverLimitsAreAbove, RepeatedAtTheirCost, RepliesOfCallsFit};
 
 use crate::ledgers::{Configured, Names, Part};
 use crate::locked::{LockedAccount, LockedBook, LockedOrder};
+use cdr_checks::posts_are_checked;
+use cdr_rating::same_cdrs_cost_the_same;
 use netting_positions::{
     net_positions_are_balanced, parties_are_different, sums_decide_net_positions,
     sums_decide_statements,
 };
+use ocpi_types::laws::same_cdrs_are_equal_folded;
 use operator_book::sums_are_no_larger;
 use period_order::{collected_owes_alike, dues_are_of_own_books, outcomes_are_verdicts};
 use plain_house::{
@@ -114,6 +117,17 @@ pub fn closes_balance()
 pub fn cdrs_are_accepted_at_their_cost()
     ensures { AcceptedAtTheirCost }
 {}
+
+/// A CDR that is booked already is told at what its session costs.
+pub fn repeated_cdrs_are_told_at_their_cost()
+    ensures { RepeatedAtTheirCost }
+{
+    legal_books_are_charged();
+    legal_books_are_taken_back();
+    posts_are_checked();
+    same_cdrs_are_equal_folded();
+    same_cdrs_cost_the_same();
+}
 
 /// A Credit CDR is accepted at the negated amount of a CDR of the same provider and currency, and its own total cost is within
 /// the tolerance of that.

@@ -2,11 +2,9 @@
 
 ghost use Rattle.std.specs.Prelude.{◌≡◌, ◌+◌, if◌then◌else◌};
 ghost use Rattle.plain_house.specs.Laws.{is_of_event};
-ghost use Rattle.plain_house.specs.Replies.{is_no_memory};
 ghost use Rattle.shared_house.specs.Points.{adds_event, point_of_reply};
 
 use cdr_checks::Command;
-use ocpi_types::Refusal;
 use plain_house::{Answer, Refused, Replied};
 
 /// A call that was made: what it asked, and what it returned.
@@ -33,19 +31,6 @@ fn is_of_event(answer: &Answer) -> bool
         | Answer::Exposure { .. }
         | Answer::Found { .. }
         | Answer::Statement { .. } => false,
-    }
-}
-
-/// Whether the reply is want of memory.
-pub fn is_no_memory(reply: &Result<Replied, Refused>) -> bool
-    ensures { result ≡ is_no_memory reply.now }
-{
-    match reply {
-        Ok(_) => false,
-        Err(refused) => match refused.refusal {
-            Refusal::NoMemory => true,
-            _ => false,
-        },
     }
 }
 

@@ -7,8 +7,8 @@ ghost use Rattle.request_lines.specs.Script.{after, reply_in};
 
 use ocpi_json::Room;
 use ocpi_types::Config;
-use plain_house::{Refused, Replied, Sequential};
-use request_lines::{Respond, answer_line, is_out_of_memory, reply_to};
+use plain_house::{Refused, Replied, Sequential, is_out_of_memory};
+use request_lines::{Respond, answer_line, reply_to};
 use std::alloc::{AllocError, Global};
 
 // Where memory is refused, the house is as it was, so the line is read and its command done once more.

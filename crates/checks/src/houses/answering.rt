@@ -7,11 +7,14 @@ ghost use Rattle.request_lines.specs.Script.{script_rule};
 use super::again::Again;
 use super::choice::{Choice, Kind};
 use crate::fault::Fault;
+use crate::shared;
 use ocpi_types::{Config, TryCopy};
 use period_order::BookHouse;
 use plain_house::{PlainHouse, Sequential};
 use request_lines::{Count, ScriptFault, Sink, Source, run_script, run_script_by};
 use std::alloc::Global;
+use std::sync::Wait;
+use std::thread::Threads;
 
 // Answers the lines of the reader in turn, until it ends: those that `run_script` gives.
 fn run<R: Source, W: Sink, S: Sequential>(
@@ -64,16 +67,19 @@ fn answer_by_books<R: Source, W: Sink>(
 }
 
 /// Answers the lines of the reader under the configuration of these bytes.
-pub fn answer<R: Source, W: Sink>(
-    alloc: Global,
+pub fn answer<T: Threads + Wait + Sync, R: Source, W: Sink>(
+    rt: &HostRuntime,
+    threads: &T,
     choice: Choice<'_>,
     file: &[u8],
     reader: &mut R,
     writer: &mut W,
 ) -> Result<(), Fault<'static>> {
+    let alloc = rt.alloc();
     let config = Config::read(alloc, file)?;
     match choice.kind {
         Kind::Plain => answer_by_list(alloc, &config, choice.is_again, reader, writer),
         Kind::Books => answer_by_books(alloc, &config, choice.is_again, reader, writer),
+        Kind::Shared => shared::answer(rt, threads, config, choice.is_again, reader, writer),
     }
 }

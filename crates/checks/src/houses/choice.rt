@@ -8,6 +8,9 @@ pub enum Kind {
 
     /// Of books and accounts.
     Books,
+
+    /// Of books and accounts under locks, which threads share.
+    Shared,
 }
 
 /// The house that answers lines.
@@ -28,8 +31,10 @@ impl<'a> Choice<'a> {
         let (kind, is_again) = match word {
             "plain" => (Kind::Plain, false),
             "books" => (Kind::Books, false),
+            "shared" => (Kind::Shared, false),
             "plain-again" => (Kind::Plain, true),
             "books-again" => (Kind::Books, true),
+            "shared-again" => (Kind::Shared, true),
             _ => return None,
         };
         if config.starts_with("-") {

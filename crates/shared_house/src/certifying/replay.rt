@@ -9,12 +9,13 @@ ghost use Rattle.shared_house.specs.History.{BreaksFirst, IsOneHistory, Stands, 
 ghost use Rattle.shared_house.specs.Inner.Turns.{IsNext, Tears, plain_turn};
 
 use super::turns::{Turn, turns_in_order};
-use crate::made::{Made, adds_event, is_no_memory};
+use crate::made::{Made, adds_event};
 use ocpi_json::same::Same;
 use ocpi_types::{Config, TryCopy};
 use period_order::BookHouse;
 use plain_house::{
-    Event, Sequential, commands_keep_lists_legal, empty_lists_are_legal, replies_tell_events,
+    Event, Sequential, commands_keep_lists_legal, empty_lists_are_legal, is_out_of_memory,
+    replies_tell_events,
 };
 use std::alloc::{AllocError, Global};
 
@@ -61,7 +62,7 @@ fn stands(
     replies_tell_events();
     let command = made.command.copy(alloc)?;
     let reply = house.do_command(command);
-    if is_no_memory(&reply) {
+    if is_out_of_memory(&reply) {
         return Err(AllocError);
     }
     if !reply.is_same(&made.reply) {

@@ -5,7 +5,8 @@ ghost use Rattle.std.specs.List.Sorted.{IsNonDecreasingBy, IsPermutation};
 ghost use Rattle.std.specs.Ordering.{nat_cmp};
 ghost use Rattle.shared_house.specs.Inner.Turns.{plain_turn, rank, turns_from, turns_of};
 
-use crate::made::{Made, adds_event, is_no_memory};
+use crate::made::{Made, adds_event};
+use plain_house::is_out_of_memory;
 use std::alloc::{AllocError, Global};
 use std::cmp::Ordering;
 
@@ -30,7 +31,7 @@ fn add_turns<'a>(turns: &mut Vec<Turn<'a>>, calls: &'a [Made]) -> Result<(), All
 {
     let mut front = 0;
     for made in calls {
-        if !is_no_memory(&made.reply) {
+        if !is_out_of_memory(&made.reply) {
             turns.push(Turn { front, made })?;
             front = made.seen();
         }

@@ -6,7 +6,7 @@ use std::marker::Brand;
 use std::sync::ledger::Ledger;
 
 /// A ledger with so many parts: one for each operator, for each provider, or for each pass.
-pub trait Part: Ledger + Send + Sync {
+pub trait Part: Ledger {
     ghost all: { ℕ };
 }
 
@@ -28,7 +28,7 @@ impl Configured for Brand {
 }
 
 /// The five ledgers of a house: entries and amounts over its books, the same over its accounts, and events over its passes.
-pub trait Names: Send + Sync {
+pub trait Names {
     type BookEntries: Configured;
 
     type BookAmounts: Part;

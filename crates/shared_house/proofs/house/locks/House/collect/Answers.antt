@@ -16,7 +16,7 @@ collect_from-requires-clause-fits g c =
     let is_config = subst (λ (config : Config). IsConfiguration config) c.args.self.now.configured c.is_configuration.ensures in
     let each = c.args.self.now.locks.each_operator in
     let less : c.loop-number.number < length config.operators = omega (arith, each) in
-    λ κs lives. collecting_fits_at c.collecting_laws.ensures config is_config c.args.period c.loop-number.number (g.T.ObligationTable.obligations c.loop-number.table) c.loop-number.invariant.collecting less
+    collecting_fits_at c.collecting_laws.ensures config is_config c.args.period c.loop-number.number (g.T.ObligationTable.obligations c.loop-number.table) c.loop-number.invariant.collecting less
 
 pub loop-number-preserved : goal.loop-number-preserved
 loop-number-preserved g c =

@@ -1,0 +1,230 @@
+//! Calls of several passes at once, each pass on a thread of its own, and how long they take.
+
+ghost use Rattle.std.specs.Prelude.{◌≡◌};
+
+use crate::fault::Fault;
+use cdr_checks::Command;
+use ocpi_json::Room;
+use request_lines::command_of;
+use shared_house::{Configured, House, Names, NoGate, Part, Pass};
+use std::alloc::{AllocError, Global};
+use std::io::{BufRead, BufReader};
+use std::marker::{Model, PhantomData};
+use std::sync::Wait;
+use std::thread::Threads;
+use std::time::{Duration, Instant};
+use std::{fs, io, mem, thread};
+
+// A command that the house's configuration admits.
+#[derive(Drop)]
+struct Admitted<N: Names> {
+    command: Command,
+    of: PhantomData<N>,
+}
+
+impl<N: Names> Model for Admitted<N> {
+    ghost use Rattle.cdr_checks.specs.Admission.{IsAdmitted};
+    ghost use Rattle.cdr_checks.specs.declared.request.Command.{Command};
+
+    ghost Value = { Command };
+
+    ghost view = { λ admitted. admitted.command };
+
+    ghost invariant = { λ admitted. IsAdmitted N.BookEntries.config admitted.command };
+}
+
+// A pass, and what is to be called with it.
+#[derive(Drop)]
+struct Worker<N: Names> {
+    pass: Pass<N>,
+    commands: Vec<Admitted<N>>,
+}
+
+impl<N: Names> Worker<N> {
+    fn call_all<R: Wait>(&mut self, locks: &R, house: &House<N>) {
+        let Worker { pass, commands } = self;
+        let none = Vec::new(*commands.allocator());
+        for admitted in mem::replace(commands, none) {
+            let Admitted { command, of: _ } = admitted;
+            mem::drop(house.call(locks, pass, &NoGate, command));
+        }
+    }
+}
+
+fn admitted_of<N: Names>(
+    alloc: Global,
+    room: &mut Room,
+    house: &House<N>,
+    line: &[u8],
+) -> Option<Admitted<N>> {
+    match command_of(alloc, room, house.config(), line) {
+        Ok(command) => Some(Admitted {
+            command,
+            of: PhantomData,
+        }),
+        Err(_) => None,
+    }
+}
+
+// The commands of the reader's lines; a line without one is passed over.
+fn commands_of<N: Names, R: BufRead>(
+    alloc: Global,
+    house: &House<N>,
+    reader: &mut R,
+) -> io::Result<Vec<Admitted<N>>> {
+    let mut room = Room::new(alloc);
+    let mut line = Vec::new(alloc);
+    let mut commands = Vec::new(alloc);
+    for _number in 0..u64::MAX {
+        line.clear();
+        if reader.read_until(b'\n', &mut line)? == 0 {
+            break;
+        }
+        if let Some(admitted) = admitted_of(alloc, &mut room, house, line.as_slice()) {
+            commands.push(admitted)?;
+        }
+    }
+    Ok(commands)
+}
+
+// The pass, with the commands of the file at the path.
+fn worker_of<N: Names>(
+    rt: &HostRuntime,
+    house: &House<N>,
+    pass: Pass<N>,
+    path: &str,
+) -> io::Result<Worker<N>> {
+    let mut reader = BufReader::new(rt.alloc(), fs::open(rt, path)?)?;
+    let commands = commands_of(rt.alloc(), house, &mut reader)?;
+    Ok(Worker { pass, commands })
+}
+
+// The passes, each with the commands of the file of its number.
+fn workers_of<N: Names>(
+    rt: &HostRuntime,
+    house: &House<N>,
+    passes: Vec<Pass<N>>,
+    files: &[String],
+) -> io::Result<Vec<Worker<N>>> {
+    let mut workers = Vec::new(rt.alloc());
+    for (pass, path) in passes.into_iter().zip(files) {
+        workers.push(worker_of(rt, house, pass, path.as_str())?)?;
+    }
+    Ok(workers)
+}
+
+fn passes_of<N: Names>(alloc: Global, workers: Vec<Worker<N>>) -> Result<Vec<Pass<N>>, AllocError> {
+    let mut passes = Vec::new(alloc);
+    for worker in workers {
+        let Worker { pass, .. } = worker;
+        passes.push(pass)?;
+    }
+    Ok(passes)
+}
+
+// How many calls a second that are, on standard error.
+fn tell_rate(rt: &HostRuntime, what: &str, calls: usize, took: Duration) -> io::Result<()> {
+    let rate = (calls as u128).wrapping_mul(1_000_000) / took.as_micros().max(1);
+    eprintln!(rt; "{calls} calls {what}: {rate} a second")
+}
+
+// Makes the calls of all workers, each on a thread of its own, and gives their passes back.
+fn call_all<N: Names + Send + Sync, R: Threads + Wait + Sync>(
+    rt: &HostRuntime,
+    threads: &R,
+    house: &House<N>,
+    mut workers: Vec<Worker<N>>,
+) -> io::Result<Vec<Pass<N>>>
+where
+    N::BookEntries: Send + Sync,
+    N::BookAmounts: Send + Sync,
+    N::AccountEntries: Send + Sync,
+    N::AccountAmounts: Send + Sync,
+    N::Events: Send + Sync,
+{
+    let count = workers.len();
+    let mut calls = 0usize;
+    for worker in &workers {
+        calls = calls.saturating_add(worker.commands.len());
+    }
+    let before = Instant::now(rt)?;
+    if count > 0 {
+        thread::for_each_mut(
+            threads,
+            workers.as_mut_slice(),
+            count,
+            &|_, worker| { worker.call_all(threads, house) },
+        );
+    }
+    tell_rate(rt, "made", calls, before.elapsed(rt)?)?;
+    Ok(passes_of(rt.alloc(), workers)?)
+}
+
+// Ends the house, and tells how many calls were certified, and how many events there are.
+fn certify_all<N: Names>(rt: &HostRuntime, house: House<N>, passes: Vec<Pass<N>>) -> io::Result<()>
+    requires book_parts { (N.BookEntries.all ≡ N.BookEntries.parts) × (N.BookAmounts.all ≡ N.BookAmounts.parts) }
+    requires account_parts { (N.AccountEntries.all ≡ N.AccountEntries.parts) × (N.AccountAmounts.all ≡ N.AccountAmounts.parts) }
+    requires pass_parts { N.Events.all ≡ N.Events.parts }
+{
+    let count = passes.len();
+    let mut calls = 0usize;
+    for pass in &passes {
+        calls = calls.saturating_add(pass.calls().len());
+    }
+    let before = Instant::now(rt)?;
+    let Ok(ended) = house.finish(rt.alloc(), passes) else {
+        return println!(rt; "at once: not certified");
+    };
+    tell_rate(rt, "certified", calls, before.elapsed(rt)?)?;
+    println!(rt;
+        "at once: {count} passes, {calls} calls, {} events",
+        ended.events.len()
+    )
+}
+
+fn work<N: Names + Send + Sync, R: Threads + Wait + Sync>(
+    rt: &HostRuntime,
+    threads: &R,
+    house: House<N>,
+    passes: Vec<Pass<N>>,
+    files: &[String],
+) -> io::Result<()>
+where
+    N::BookEntries: Send + Sync,
+    N::BookAmounts: Send + Sync,
+    N::AccountEntries: Send + Sync,
+    N::AccountAmounts: Send + Sync,
+    N::Events: Send + Sync,
+    requires book_parts { (N.BookEntries.all ≡ N.BookEntries.parts) × (N.BookAmounts.all ≡ N.BookAmounts.parts) }
+    requires account_parts { (N.AccountEntries.all ≡ N.AccountEntries.parts) × (N.AccountAmounts.all ≡ N.AccountAmounts.parts) }
+    requires pass_parts { N.Events.all ≡ N.Events.parts }
+{
+    let workers = workers_of(rt, &house, passes, files)?;
+    let passes = call_all(rt, threads, &house, workers)?;
+    certify_all(rt, house, passes)
+}
+
+/// Makes the calls of the files' lines, each file's by a pass and on a thread of its own, has them certified, and tells how many
+/// there were, and how many a second.
+pub fn measure<'a, N: Names + Send + Sync, R: Threads + Wait + Sync>(
+    rt: &HostRuntime,
+    threads: &R,
+    house: House<N>,
+    passes: Vec<Pass<N>>,
+    files: &[String],
+) -> Result<(), Fault<'a>>
+where
+    N::BookEntries: Send + Sync,
+    N::BookAmounts: Send + Sync,
+    N::AccountEntries: Send + Sync,
+    N::AccountAmounts: Send + Sync,
+    N::Events: Send + Sync,
+    requires book_parts { (N.BookEntries.all ≡ N.BookEntries.parts) × (N.BookAmounts.all ≡ N.BookAmounts.parts) }
+    requires account_parts { (N.AccountEntries.all ≡ N.AccountEntries.parts) × (N.AccountAmounts.all ≡ N.AccountAmounts.parts) }
+    requires pass_parts { N.Events.all ≡ N.Events.parts }
+{
+    match work(rt, threads, house, passes, files) {
+        Ok(()) => Ok(()),
+        Err(_) => Err(Fault::NotMeasured),
+    }
+}

@@ -1,0 +1,198 @@
+//! What is certified of the order, the books, the accounts and the calls that a house leaves behind, as they are and with one
+//! change each.
+
+ghost use Rattle.std.specs.Prelude.{All, ◌≡◌, IfOk, map};
+ghost use Rattle.shared_house.specs.Points.{AreAdmitted};
+
+use super::one_pass::answer_by_last;
+use crate::fault::Fault;
+use exact_money::Amount;
+use ocpi_types::{Config, TryCopy};
+use period_order::OrderEntry;
+use plain_house::Answer;
+use request_lines::{Sink, Source};
+use shared_house::{
+    CertifyFault, Configured, Gathered, House, Made, Names, Part, Pass, certify, gather,
+};
+use std::alloc::{AllocError, Global};
+use std::io;
+use std::sync::Wait;
+
+fn told(written: io::Result<()>) -> Result<(), Fault<'static>> {
+    match written {
+        Ok(()) => Ok(()),
+        Err(_) => Err(Fault::CannotWrite),
+    }
+}
+
+// What is certified of the values with this order.
+fn tell_with_order(
+    rt: &HostRuntime,
+    config: &Config,
+    gathered: &Gathered,
+    order: &[OrderEntry],
+    change: &str,
+    number: usize,
+) -> Result<(), Fault<'static>>
+    requires { All (λ calls. AreAdmitted config.now calls.items) gathered.now.calls.items }
+{
+    let certified = certify(
+        rt.alloc(),
+        config,
+        order,
+        gathered.books.as_slice(),
+        gathered.accounts.as_slice(),
+        gathered.calls.as_slice(),
+    );
+    match certified {
+        Ok(events) => told(println!(rt; "{change} {number}: {} events", events.len())),
+        Err(CertifyFault::Torn { entry }) => told(println!(rt;
+            "{change} {number}: torn at {entry}"
+        )),
+        Err(CertifyFault::NoMemory) => Err(Fault::NoMemory),
+    }
+}
+
+// The order without the entry of this number.
+fn without(
+    alloc: Global,
+    order: &[OrderEntry],
+    number: usize,
+) -> Result<Vec<OrderEntry>, AllocError> {
+    let mut others = Vec::new(alloc);
+    for (place, entry) in order.iter().enumerate() {
+        if place != number {
+            others.push(*entry)?;
+        }
+    }
+    Ok(others)
+}
+
+// The order with the entry of this number before the one that it was behind.
+fn exchanged(
+    alloc: Global,
+    order: &[OrderEntry],
+    number: usize,
+) -> Result<Vec<OrderEntry>, AllocError> {
+    let mut entries = order.to_vec(alloc)?;
+    if 0 < number && number < entries.len() {
+        entries.swap(number - 1, number);
+    }
+    Ok(entries)
+}
+
+fn tell_without(
+    rt: &HostRuntime,
+    config: &Config,
+    gathered: &Gathered,
+) -> Result<(), Fault<'static>>
+    requires { All (λ calls. AreAdmitted config.now calls.items) gathered.now.calls.items }
+{
+    let order = gathered.entries.as_slice();
+    for number in 0..order.len() {
+        let others = without(rt.alloc(), order, number)?;
+        tell_with_order(rt, config, gathered, others.as_slice(), "without", number)?;
+    }
+    Ok(())
+}
+
+fn tell_exchanged(
+    rt: &HostRuntime,
+    config: &Config,
+    gathered: &Gathered,
+) -> Result<(), Fault<'static>>
+    requires { All (λ calls. AreAdmitted config.now calls.items) gathered.now.calls.items }
+{
+    let order = gathered.entries.as_slice();
+    for number in 1..order.len() {
+        let entries = exchanged(rt.alloc(), order, number)?;
+        tell_with_order(
+            rt,
+            config,
+            gathered,
+            entries.as_slice(),
+            "exchanged",
+            number,
+        )?;
+    }
+    Ok(())
+}
+
+fn one_more(amount: Amount) -> Amount {
+    Amount::from_ten_thousandths(amount.ten_thousandths().wrapping_add(1))
+}
+
+fn raise(answer: &mut Answer) {
+    if let Answer::Accepted { amount, .. } = answer {
+        *amount = one_more(*amount);
+    }
+}
+
+// The call, with an amount of one ten-thousandth more where it was accepted.
+fn with_more(made: Made) -> Made
+    ensures { result.command ≡ made.command }
+{
+    let Made { command, mut reply } = made;
+    if let Ok(replied) = &mut reply {
+        raise(&mut replied.answer);
+    }
+    Made { command, reply }
+}
+
+fn all_with_more(alloc: Global, config: &Config, calls: Vec<Made>) -> Result<Vec<Made>, AllocError>
+    requires { AreAdmitted config.now calls.items }
+    ensures { IfOk result (λ changed. AreAdmitted config.now changed.items) }
+{
+    let _ = config;
+    let mut changed = Vec::new(alloc);
+    for made in calls {
+        changed.push(with_more(made))?;
+    }
+    Ok(changed)
+}
+
+// Tells what is certified where each amount that was accepted is one ten-thousandth more.
+fn tell_amounts(rt: &HostRuntime, config: &Config, gathered: Gathered) -> Result<(), Fault<'static>>
+    requires { All (λ calls. AreAdmitted config.now calls.items) gathered.calls.items }
+{
+    let Gathered {
+        entries,
+        books,
+        accounts,
+        calls,
+    } = gathered;
+    let mut passes = Vec::new(rt.alloc());
+    for pass in calls {
+        passes.push(all_with_more(rt.alloc(), config, pass)?)?;
+    }
+    let changed = Gathered {
+        entries: Vec::new(rt.alloc()),
+        books,
+        accounts,
+        calls: passes,
+    };
+    tell_with_order(rt, config, &changed, entries.as_slice(), "other amounts", 0)
+}
+
+/// Answers the lines of the reader by the last of the passes, and tells what is certified of what the house then leaves behind.
+pub fn tell<'a, N: Names, R: Wait, S: Source, W: Sink>(
+    rt: &HostRuntime,
+    locks: &R,
+    house: House<N>,
+    passes: Vec<Pass<N>>,
+    reader: &mut S,
+    writer: &mut W,
+) -> Result<(), Fault<'a>>
+    requires book_parts { (N.BookEntries.all ≡ N.BookEntries.parts) × (N.BookAmounts.all ≡ N.BookAmounts.parts) }
+    requires account_parts { (N.AccountEntries.all ≡ N.AccountEntries.parts) × (N.AccountAmounts.all ≡ N.AccountAmounts.parts) }
+    requires pass_parts { N.Events.all ≡ N.Events.parts }
+{
+    let config = house.config().copy(rt.alloc())?;
+    let passes = answer_by_last(rt.alloc(), locks, &house, passes, false, reader, writer)?;
+    let gathered = gather(rt.alloc(), house, passes)?;
+    let order = gathered.entries.as_slice();
+    tell_with_order(rt, &config, &gathered, order, "as they are", 0)?;
+    tell_without(rt, &config, &gathered)?;
+    tell_exchanged(rt, &config, &gathered)?;
+    tell_amounts(rt, &config, gathered)
+}

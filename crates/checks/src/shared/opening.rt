@@ -1,0 +1,113 @@
+//! A new house with its ledgers, and what is done with it.
+
+ghost use Rattle.std.specs.Prelude.{◌≡◌, length};
+ghost use Rattle.shared_house.specs.Names.{IsLedgerOf};
+
+use super::{at_once, changes, missing_pass, one_pass};
+use crate::fault::Fault;
+use ocpi_types::Config;
+use request_lines::{Sink, Source};
+use shared_house::{Blanks, Configured, House, Names, Part};
+use std::marker::Brand;
+use std::sync::Wait;
+use std::sync::ledger::Blank;
+use std::thread::Threads;
+
+/// What is done with a new house.
+#[derive(Clone, Copy)]
+pub enum Work<'a> {
+    /// One pass answers the lines of the reader, and perhaps does once more what memory is refused for.
+    Lines { is_again: bool },
+
+    /// So it does, and then it is told what is certified of changed values.
+    Changes,
+
+    /// The house ends without one of two passes.
+    MissingPass,
+
+    /// The calls of files' lines are made at once, each file's by a pass.
+    AtOnce { files: &'a [String] },
+}
+
+impl Work<'_> {
+    // How many passes the house has.
+    fn passes(&self) -> usize {
+        match self {
+            Work::Lines { .. } | Work::Changes => 1,
+            Work::MissingPass => 2,
+            Work::AtOnce { files } => files.len(),
+        }
+    }
+}
+
+// New ledgers, with a part for each operator, for each provider and for each of so many passes.
+fn blanks_of(config: &Config, passes: usize) -> Blanks
+    ensures books { (result.book_entries.parts ≡ length config.now.operators) × (result.book_amounts.parts ≡ length config.now.operators) }
+    ensures accounts { (result.account_entries.parts ≡ length config.now.providers) × (result.account_amounts.parts ≡ length config.now.providers) }
+    ensures events { result.events.parts ≡ passes }
+{
+    let operators = config.operators.as_slice().len() as u64;
+    let providers = config.providers.as_slice().len() as u64;
+    Blanks {
+        book_entries: Blank::new(operators),
+        book_amounts: Blank::new(operators),
+        account_entries: Blank::new(providers),
+        account_amounts: Blank::new(providers),
+        events: Blank::new(passes as u64),
+    }
+}
+
+// Does the work by a house of these ledgers, under their names, one of which stands for the configuration too.
+fn perform_under<
+    'a,
+    B: Configured + Send + Sync,
+    X: Part + Send + Sync,
+    A: Part + Send + Sync,
+    Y: Part + Send + Sync,
+    E: Part + Send + Sync,
+    R: Threads + Wait + Sync,
+    S: Source,
+    W: Sink,
+>(
+    rt: &HostRuntime,
+    threads: &R,
+    config: Config,
+    passes: usize,
+    blanks: Blanks,
+    work: Work<'_>,
+    reader: &mut S,
+    writer: &mut W,
+) -> Result<(), Fault<'a>>
+    requires config { config ≡ B.config }
+    requires book_entries { IsLedgerOf blanks.book_entries B.name B.parts B.all (length config.operators) }
+    requires book_amounts { IsLedgerOf blanks.book_amounts X.name X.parts X.all (length config.operators) }
+    requires account_entries { IsLedgerOf blanks.account_entries A.name A.parts A.all (length config.providers) }
+    requires account_amounts { IsLedgerOf blanks.account_amounts Y.name Y.parts Y.all (length config.providers) }
+    requires events { IsLedgerOf blanks.events E.name E.parts E.all passes }
+{
+    let (house, passes) = House::<(B, X, A, Y, E)>::new(rt.alloc(), config, passes, blanks)?;
+    match work {
+        Work::Lines { is_again } => {
+            one_pass::answer_lines(rt, threads, house, passes, is_again, reader, writer)
+        }
+        Work::Changes => changes::tell(rt, threads, house, passes, reader, writer),
+        Work::MissingPass => missing_pass::tell(rt, house, passes),
+        Work::AtOnce { files } => at_once::measure(rt, threads, house, passes, files),
+    }
+}
+
+/// Does the work by a new house under the configuration.
+pub fn with_house<'a, R: Threads + Wait + Sync, S: Source, W: Sink>(
+    rt: &HostRuntime,
+    threads: &R,
+    config: Config,
+    work: Work<'_>,
+    reader: &mut S,
+    writer: &mut W,
+) -> Result<(), Fault<'a>> {
+    let passes = work.passes();
+    let blanks = blanks_of(&config, passes);
+    perform_under::<Brand, Brand, Brand, Brand, Brand, R, S, W>(
+        rt, threads, config, passes, blanks, work, reader, writer,
+    )
+}
