@@ -35,6 +35,9 @@ pub enum Fault<'a> {
     /// What a house that threads share left behind is no history, first at this number.
     Torn { entry: u64 },
 
+    /// The call that was to be held up was not at its place, or the others were not answered while it was there.
+    NotHeld,
+
     /// What was read is no input of copies, or could not be copied.
     NoCopy,
 
@@ -116,6 +119,7 @@ pub fn tell(rt: &HostRuntime, fault: &Fault<'_>) -> io::Result<()> {
         Fault::NoMemory => eprintln!(rt; "checks: no memory"),
         Fault::MissingPass => eprintln!(rt; "checks: a pass is missing"),
         Fault::Torn { entry } => eprintln!(rt; "checks: torn at {entry}"),
+        Fault::NotHeld => eprintln!(rt; "checks: not held"),
         Fault::NoCopy => eprintln!(rt; "checks: no copy"),
         Fault::NotCompared => eprintln!(rt; "checks: not compared"),
         Fault::ReadDifferently => eprintln!(rt; "checks: read differently"),

@@ -8,6 +8,9 @@
 //!   calls, as they are and with one change each.
 //! - `at-once CONFIG FILE..` makes the calls of the files' lines, each file by a pass and on a thread of its own, and tells how
 //!   many were made in a second.
+//! - `held CONFIG PLACE FILE FILE FILE FILE` answers the lines of four files, those of the second held up at the place, as
+//!   `BookHeld(0)`, while those of the third are answered; `often CONFIG TIMES EVENTS FILE..` answers the files' lines by a worker
+//!   each, so many times by a new house, which is to have so many events. All calls are certified.
 //! - `copies` copies what standard input has, and `readings` reads each of its lines in two ways.
 //! - `measure [SUBJECT [PART [NUMBER]]]` does the work that is measured.
 //! - `json` tells row by row whether `ocpi_json` reads and keeps texts as expected.
@@ -64,6 +67,17 @@ fn perform<'a>(
         Job::Answer(choice) => houses::answer_lines(rt, threads, choice, rt.stdin()),
         Job::Changes { config } => shared::tell_changes(rt, threads, config, rt.stdin()),
         Job::AtOnce { config, files } => shared::call_at_once(rt, threads, config, files),
+        Job::Held {
+            config,
+            place,
+            files,
+        } => shared::hold(rt, threads, config, place, files),
+        Job::Often {
+            config,
+            times,
+            events,
+            files,
+        } => shared::answer_often(rt, threads, config, times, events, files),
         Job::Copies => copies::copy_input(rt, rt.stdin()),
         Job::Readings => readings::compare_lines(rt, rt.stdin()),
         Job::Measure(asked) => measures::measure(rt, threads, &asked),

@@ -1,18 +1,23 @@
-//! A house that threads share: lines answered by one pass of it, what its check says of changed values, and calls of several
-//! passes at once.
+//! A house that threads share: lines answered by one pass of it, what its check says of changed values, calls of several passes
+//! at once, a call that is held up while another is answered, and workers that answer the same lines often.
 
 mod at_once;
 mod caller;
 mod changes;
+mod ending;
+mod held;
 mod missing_pass;
 mod one_pass;
 mod opening;
+mod workers;
 
 use crate::fault::Fault;
-use crate::files::read_config;
+use crate::files::{open, read_config};
+use held::place_of;
 use ocpi_types::{Config, TryCopy};
 use opening::{Work, with_house};
 use request_lines::{Device, Sink, Source};
+use std::alloc::Global;
 use std::io;
 use std::io::Read;
 use std::sync::Wait;
@@ -80,4 +85,80 @@ pub fn call_at_once<'a, R: Threads + Wait + Sync>(
         &mut reader,
         &mut writer,
     )
+}
+
+// The bytes of the file of this path.
+fn text_of<'a>(rt: &HostRuntime, alloc: Global, path: &'a str) -> Result<Vec<u8>, Fault<'a>> {
+    let mut bytes = Vec::new(alloc);
+    match open(rt, path)?.read_to_end(&mut bytes) {
+        Ok(_) => Ok(bytes),
+        Err(_) => Err(Fault::CannotRead { path }),
+    }
+}
+
+/// Answers the lines of four files by a pass each: those of the first file, then those of the second, whose call is held up at the
+/// place of this name while those of the third are answered, and then those of the fourth. Has all calls certified.
+pub fn hold<'a, R: Threads + Wait + Sync>(
+    rt: &HostRuntime,
+    threads: &R,
+    path: &'a str,
+    place: &str,
+    files: &[String],
+) -> Result<(), Fault<'a>> {
+    let Some(place) = place_of(place) else {
+        return Err(Fault::Usage);
+    };
+    let file = read_config(rt, rt.alloc(), path)?;
+    let config = Config::read(rt.alloc(), file.as_slice())?;
+    let mut reader = Device::new(rt.stdin());
+    let mut writer = Device::new(io::sink());
+    with_house(
+        rt,
+        threads,
+        config,
+        Work::Held { place, files },
+        &mut reader,
+        &mut writer,
+    )
+}
+
+// The bytes of the files.
+fn texts_of<'a>(
+    rt: &HostRuntime,
+    alloc: Global,
+    files: &'a [String],
+) -> Result<Vec<Vec<u8>>, Fault<'a>> {
+    let mut texts = Vec::new(alloc);
+    for file in files {
+        texts.push(text_of(rt, alloc, file.as_str())?)?;
+    }
+    Ok(texts)
+}
+
+/// Has workers answer the lines of the files so many times, each time by a new house, which is to have so many events.
+pub fn answer_often<'a, R: Threads + Wait + Sync>(
+    rt: &HostRuntime,
+    threads: &R,
+    path: &'a str,
+    times: usize,
+    events: usize,
+    files: &'a [String],
+) -> Result<(), Fault<'a>> {
+    let file = read_config(rt, rt.alloc(), path)?;
+    let config = Config::read(rt.alloc(), file.as_slice())?;
+    let texts = texts_of(rt, rt.alloc(), files)?;
+    let texts = texts.as_slice();
+    let mut reader = Device::new(rt.stdin());
+    let mut writer = Device::new(io::sink());
+    for _time in 0..times {
+        with_house(
+            rt,
+            threads,
+            config.copy(rt.alloc())?,
+            Work::Texts { texts, events },
+            &mut reader,
+            &mut writer,
+        )?;
+    }
+    Ok(())
 }

@@ -24,6 +24,21 @@ pub enum Job<'a> {
         files: &'a [String],
     },
 
+    /// Answers the lines of four files, of which the second's are held up at the place of this name.
+    Held {
+        config: &'a str,
+        place: &'a str,
+        files: &'a [String],
+    },
+
+    /// Answers the files' lines so many times, by a house of so many events each time.
+    Often {
+        config: &'a str,
+        times: usize,
+        events: usize,
+        files: &'a [String],
+    },
+
     Copies,
 
     Readings,
@@ -31,6 +46,21 @@ pub enum Job<'a> {
     Measure(Asked<'a>),
 
     Json,
+}
+
+// The job that the words behind `often` ask for.
+fn often<'a>(
+    config: &'a String,
+    times: &str,
+    events: &str,
+    files: &'a [String],
+) -> Option<Job<'a>> {
+    Some(Job::Often {
+        config: config.as_str(),
+        times: times.parse::<usize>().ok()?,
+        events: events.parse::<usize>().ok()?,
+        files,
+    })
 }
 
 /// The job that the words ask for, the program's name first.
@@ -53,6 +83,12 @@ pub fn job_of(words: &[String]) -> Result<Job<'_>, Fault<'static>> {
             config: config.as_str(),
             files,
         }),
+        ("held", [config, place, files @ ..]) => Some(Job::Held {
+            config: config.as_str(),
+            place: place.as_str(),
+            files,
+        }),
+        ("often", [config, times, events, files @ ..]) => often(config, times, events, files),
         (house, [config]) => Choice::of(house, config.as_str()).map(Job::Answer),
         _ => None,
     };

@@ -5,8 +5,8 @@ use Rattle.std.specs.Option.{ok_or}
 use Rattle.std.specs.String.{string_bytes}
 use Rattle.std.specs.Box.{box_value}
 use Rattle.std.proofs.lemmas.Str.{IsUtf8-string_bytes}
-use Rattle.clap.proofs.WalkLemmas.{both, first_value-rows}
-use Rattle.clap.specs.Words.{App, HasMatchesOf, Row, Text, first_value, found_of, is_simple, kind_of, rows_of, subcommand_name_of, subcommand_of, subcommand_rows, subcommand_rows_of}
+use Rattle.clap.proofs.WalkLemmas.{both, first_value-rows, raw_values-rows}
+use Rattle.clap.specs.Words.{App, HasMatchesOf, Row, Text, all_of, first_value, matched_of, raw_values, found_of, is_simple, kind_of, rows_of, subcommand_name_of, subcommand_of, subcommand_rows, subcommand_rows_of}
 use Rattle.clap.specs.Faults.{fault_of, is_simple_and_free}
 use Rattle.clap.specs.Kinds.{HasKind, Kinds}
 use Rattle.clap.specs.declared.error.Error.{Error}
@@ -18,8 +18,8 @@ use Rattle.clap.specs.declared.parser.matches.SubCommand.{SubCommand}
 use Rattle.clear_cli.specs.declared.fault.Fault.{Fault}
 use Rattle.clear_cli.specs.declared.fault.Fault.TheVariants.{NoMemory, Usage}
 use Rattle.clear_cli.specs.declared.words.Job.{Job}
-use Rattle.clear_cli.specs.Inner.Commands.{asked_in, asked_under, clear_command}
-use Rattle.clear_cli.specs.Words.{Asked, Schedule, Script, asked, asked_by}
+use Rattle.clear_cli.specs.Inner.Commands.{asked_in, asked_under, clear_command, run_in}
+use Rattle.clear_cli.specs.Words.{Asked, Run, Schedule, asked, asked_by}
 use Rattle.clear_cli.proofs.Turns.{has_fault}
 use Rattle.clear_cli.proofs.PlainWalk.{AllUtf8}
 use Rattle.clear_cli.proofs.ProgramWords.{Parses, is_ready, parses}
@@ -105,15 +105,19 @@ entered_is matches found name words e n r =
 pub no_config : (found : Found) (name : Text) → None ≡ first_value found (codes "config") → asked_in (name, rows_of found) ≡ None
 no_config found name e = ap (option_and_then (asked_under name (rows_of found))) (sym (e ∙ first_value-rows found (codes "config")))
 
-under_config : (found : Found) (name config : Text) → Some config ≡ first_value found (codes "config") → asked_in (name, rows_of found) ≡ asked_under name (rows_of found) config
-under_config found name config e = ap (option_and_then (asked_under name (rows_of found))) (sym (e ∙ first_value-rows found (codes "config")))
+-- what the command of a name asks for with its configuration
+pub named_in : (found : Found) (name config : Text) → Some config ≡ first_value found (codes "config") → asked_in (name, rows_of found) ≡ asked_under name (rows_of found) config
+named_in found name config e = ap (option_and_then (asked_under name (rows_of found))) (sym (e ∙ first_value-rows found (codes "config")))
 
-pub script_in : (found : Found) (name config : Text) → name ≡ codes "script" → Some config ≡ first_value found (codes "config")
-    → asked_in (name, rows_of found) ≡ Some (Script config)
-script_in found name config e c = under_config found name config c ∙ ap (λ (given : Text). asked_under given (rows_of found) config) e
+pub schedule_in : (found : Found) (config : Text) (file : Option Text) → file ≡ first_value found (codes "file") → asked_under (codes "schedule") (rows_of found) config ≡ option_map (Schedule config) file
+schedule_in found config file f = ap (option_map (Schedule config)) (sym (f ∙ first_value-rows found (codes "file")))
 
-pub schedule_in : (found : Found) (name config : Text) (file : Option Text) → name ≡ codes "schedule" → Some config ≡ first_value found (codes "config")
-    → file ≡ first_value found (codes "file") → asked_in (name, rows_of found) ≡ option_map (Schedule config) file
-schedule_in found name config file e c f =
-    under_config found name config c ∙ ap (λ (given : Text). asked_under given (rows_of found) config) e
-    ∙ ap (option_map (Schedule config)) (sym (f ∙ first_value-rows found (codes "file")))
+pub run_without_folder : (found : Found) (config : Text) → None ≡ first_value found (codes "folder") → asked_under (codes "run") (rows_of found) config ≡ None
+run_without_folder found config e =
+    ap (option_and_then (run_in config (all_of (codes "files") (rows_of found)))) (sym (e ∙ first_value-rows found (codes "folder")))
+
+pub run_in_folder : (found : Found) (config folder : Text) (files : Option (List Text)) → Some folder ≡ first_value found (codes "folder")
+    → files ≡ option_map raw_values (matched_of found (codes "files")) → asked_under (codes "run") (rows_of found) config ≡ option_map (Run config folder) files
+run_in_folder found config folder files e f =
+    ap (option_and_then (run_in config (all_of (codes "files") (rows_of found)))) (sym (e ∙ first_value-rows found (codes "folder")))
+    ∙ ap (option_map (Run config folder)) (sym (f ∙ raw_values-rows found (codes "files")))

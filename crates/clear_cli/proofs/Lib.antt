@@ -1,10 +1,15 @@
 pub mod AskedWords
 pub mod CommandWords
 pub mod FileEnds
+pub mod HouseLemmas
 pub mod LineInParts
+pub mod OpeningLemmas
+pub mod OutputLemmas
 pub mod PlainWalk
 pub mod ProgramWords
 pub mod ReadingLemmas
+pub mod RecordLemmas
+pub mod RunLemmas
 pub mod ScheduleLines
 pub mod StepLines
 pub mod Turns

@@ -120,7 +120,7 @@ IsBehind s words (Some values) =
     (command_fault s words ≡ command_fault s (codes "--" ∷ values)) × (rows_after s.rules [] words ≡ rows_after s.rules [] (codes "--" ∷ values))
 
 -- the faults of a command whose walk fails by these kinds, and ends with this held
-abbrev fault_after : Shape → Kinds → Held → Kinds
+abbrev pub fault_after : Shape → Kinds → Held → Kinds
 fault_after s kinds held = or_else kinds
     (or_else [] (or_else (settle_fault s.rules s.args_override_self held)
     (or_else (defaults_fault (settled s.rules held).rows s.rules) (check_fault s (finished s.rules held) false))))

@@ -10,11 +10,11 @@ use Rattle.clap.specs.Words.{Text, subcommand_of}
 use Rattle.clap.specs.Faults.{fault_of, is_simple_and_free, turn_fault, walk_fault}
 use Rattle.clap.specs.Kinds.{Kinds, or_else}
 use Rattle.clear_cli.specs.Inner.Commands.{asked_in, clear_command}
-use Rattle.clear_cli.specs.Words.{Asked, asked, plain_words, schedule_of, script_of}
+use Rattle.clear_cli.specs.Words.{Asked, asked, plain_words, run_of, schedule_of, script_of}
 use Rattle.clear_cli.proofs.WordKinds.{IsDashes, IsPlain, WordKind, dashes, long, plain, short, word_kind}
 use Rattle.clear_cli.proofs.Turns.{OnlyHelp, dashes_step, dashes_turn, fault_first, has_fault, help_found, long_refused, short_refused}
 use Rattle.clear_cli.proofs.PlainWalk.{AllUtf8, command_fault, open_at_start, start}
-use Rattle.clear_cli.proofs.CommandWords.{Asks, Reads, reads, schedule_asks, schedule_shape, script_asks, script_shape}
+use Rattle.clear_cli.proofs.CommandWords.{Asks, Reads, reads, run_asks, run_shape, schedule_asks, schedule_shape, script_asks, script_shape}
 
 pub is_ready : is_simple_and_free clear_command ≡ true
 unfolding clap_on_literals
@@ -58,6 +58,10 @@ script_enters = record { turn = refl; step = refl; found = refl }
 schedule_enters : Enters (codes "schedule") schedule_shape
 unfolding walked
 schedule_enters = record { turn = refl; step = refl; found = refl }
+
+run_enters : Enters (codes "run") run_shape
+unfolding walked
+run_enters = record { turn = refl; step = refl; found = refl }
 
 walk_is : (name : Text) (s : Shape) (rest : List Text) → Enters name s → fold (walked top.rules names) start (name ∷ rest) ≡ at_command name rest
 walk_is name s rest n = ap (λ (at : Walk). fold (walked top.rules names) at rest) n.step ∙ stops_with name [] rest
@@ -126,11 +130,11 @@ kind_refused program word rest o (long name text k) = turn_refused program word 
 kind_refused program word rest o (short byte rest' letter k) =
     turn_refused program word rest (short_refused top names start word byte rest' letter top_only open_at_start o k)
 
--- the word names neither command, but may be `help`
+-- the word names no command, but may be `help`
 other_refused : (program word : Text) (rest : List Text) → WordKind word → bytes_eq (codes "script") word ≡ false → bytes_eq (codes "schedule") word ≡ false
-    → (is_help : Bool) → bytes_eq (codes "help") word ≡ is_help → Refuses (program ∷ word ∷ rest)
-other_refused program word rest k e e' true h = turn_refused program word rest (rw (e, e', h) refl)
-other_refused program word rest k e e' false h = kind_refused program word rest (rw (e, e', h) refl) k
+    → bytes_eq (codes "run") word ≡ false → (is_help : Bool) → bytes_eq (codes "help") word ≡ is_help → Refuses (program ∷ word ∷ rest)
+other_refused program word rest k e e' e'' true h = turn_refused program word rest (rw (e, e', e'', h) refl)
+other_refused program word rest k e e' e'' false h = kind_refused program word rest (rw (e, e', e'', h) refl) k
 
 turned : (name word : Text) (b : Bool) → bytes_eq name word ≡ b → bytes_eq word name ≡ false → bytes_eq name word ≡ false
 turned name word false e n = e
@@ -138,16 +142,19 @@ turned name word true e n =
     let back : bytes_eq word name ≡ true = (bytes_eq-Decides word name).1 (sym ((bytes_eq-Decides name word).0 e)) in
     absurd cc
 
-parses_after : (program word : Text) (rest : List Text) → AllUtf8 (word ∷ rest) → (is_script is_schedule : Bool) → bytes_eq word (codes "script") ≡ is_script
-    → bytes_eq word (codes "schedule") ≡ is_schedule → Parses (program ∷ word ∷ rest) (asked (program ∷ word ∷ rest))
-parses_after program word rest u true is_schedule e e' =
+parses_after : (program word : Text) (rest : List Text) → AllUtf8 (word ∷ rest) → (is_script is_schedule is_run : Bool) → bytes_eq word (codes "script") ≡ is_script
+    → bytes_eq word (codes "schedule") ≡ is_schedule → bytes_eq word (codes "run") ≡ is_run → Parses (program ∷ word ∷ rest) (asked (program ∷ word ∷ rest))
+parses_after program word rest u true is_schedule is_run e e' e'' =
     rw e (parses_command program (codes "script") word script_shape script_of rest script_enters script_asks u.1 e)
-parses_after program word rest u false true e e' =
+parses_after program word rest u false true is_run e e' e'' =
     rw (e, e') (parses_command program (codes "schedule") word schedule_shape schedule_of rest schedule_enters schedule_asks u.1 e')
-parses_after program word rest u false false e e' =
-    rw (e, e')
+parses_after program word rest u false false true e e' e'' =
+    rw (e, e', e'') (parses_command program (codes "run") word run_shape run_of rest run_enters run_asks u.1 e'')
+parses_after program word rest u false false false e e' e'' =
+    rw (e, e', e'')
     (other_refused program word rest (word_kind word u.0) (turned (codes "script") word (bytes_eq (codes "script") word) refl e)
-    (turned (codes "schedule") word (bytes_eq (codes "schedule") word) refl e') (bytes_eq (codes "help") word) refl)
+    (turned (codes "schedule") word (bytes_eq (codes "schedule") word) refl e') (turned (codes "run") word (bytes_eq (codes "run") word) refl e'')
+    (bytes_eq (codes "help") word) refl)
 
 no_command : (program : Text) → Refuses (program ∷ [])
 unfolding clap_on_literals
@@ -160,4 +167,4 @@ no_words = refl
 pub parses : (words : List Text) → AllUtf8 words → Parses words (asked words)
 parses [] u = no_words
 parses (program ∷ []) u = no_command program
-parses (program ∷ word ∷ rest) u = parses_after program word rest u.1 (bytes_eq word (codes "script")) (bytes_eq word (codes "schedule")) refl refl
+parses (program ∷ word ∷ rest) u = parses_after program word rest u.1 (bytes_eq word (codes "script")) (bytes_eq word (codes "schedule")) (bytes_eq word (codes "run")) refl refl refl

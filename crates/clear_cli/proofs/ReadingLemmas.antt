@@ -1,20 +1,11 @@
 -- A schedule file on its way, line by line and at its end.
-use Rattle.std.proofs.Common.{◌≡◌, ◌⊎◌, ℕ, ◌+◌, ◌<◌, ◌≤◌, ◌^◌, ◌==◌, Bool, true, false, List, [], ◌∷◌, ◌++◌, length, Option, Some, None, is_some, option_map, unwrap_or, Result, Ok, Err, IfOk, MatchBool, MatchOption, MatchResult, inl, inr, refl, sym, ap, ap₂, subst, ◌∙◌, arith, eqb-true, length-append, append_assoc}
-use Rattle.std.specs.List.{All}
-use Rattle.std.proofs.lemmas.Option.{same_Some}
+use Rattle.std.proofs.Common.{◌≡◌, ◌⊎◌, ℕ, ◌+◌, ◌<◌, ◌^◌, ◌==◌, Bool, true, false, List, [], ◌∷◌, ◌++◌, length, Option, Some, None, is_some, Result, Ok, Err, IfOk, MatchOption, inl, inr, refl, ap, ap₂, ◌∙◌, arith, eqb-true, length-append, append_assoc}
 use Rattle.ocpi_types.specs.declared.config.Config.{Config}
 use Rattle.cdr_checks.specs.declared.request.Command.{Command}
 use Rattle.house_core.specs.declared.step.Step.{Step}
-use Rattle.request_lines.specs.declared.faults.Count.{Count}
-use Rattle.request_lines.specs.declared.faults.ScriptFault.{ScriptFault}
-use Rattle.request_lines.specs.declared.faults.ScriptFault.TheVariants as script
-use Rattle.request_lines.specs.Answering.{AreAllAnswered, IsFault, Rule, StopsAtLongLine, StopsAtWrite, is_write_fault, lines_read}
-use Rattle.request_lines.specs.Lines.{IsShort, lines_of}
-use Rattle.clear_cli.specs.declared.schedule_file.ScheduleFault.{ScheduleFault}
-use Rattle.clear_cli.specs.ScheduleFile.{IsAtFault, IsSchedule, PlainSchedule, begins_request, command_said, schedule_of}
-use Rattle.clear_cli.specs.ScheduleRead.{FailsToRead}
+use Rattle.clear_cli.specs.ScheduleFile.{PlainSchedule, begins_request, command_said, schedule_of}
 use Rattle.clear_cli.specs.StepLine.{steps_of_line}
-use Rattle.clear_cli.specs.Inner.ReadingFile.{AreRead, Goes, PlainReading, ReadsOn, SaysNone, Stands, ended_as}
+use Rattle.clear_cli.specs.Inner.ReadingFile.{PlainReading, ReadsOn, SaysNone, Stands}
 use Rattle.clear_cli.proofs.ScheduleLines.{Comes, Puts, comes_by, schedule_more-call, schedule_more-steps, with_call, with_steps}
 
 -- ---- one line

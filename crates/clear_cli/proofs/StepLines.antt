@@ -1,21 +1,16 @@
 -- What the parts of a line of steps make of it.
-use Rattle.std.proofs.Common.{◌≡◌, ℕ, zero, suc, ◌+◌, ◌*◌, ◌-◌, ◌<◌, ◌≤◌, ◌^◌, ◌&&◌, ◌==◌, Bool, true, false, not, nat_le, List, [], ◌∷◌, ◌++◌, length, map, Option, Some, None, option_map, option_and_then, slice_index, Result, Ok, Err, refl, sym, ap, ap₂, ◌∙◌, arith, rules}
+use Rattle.std.proofs.Common.{◌≡◌, ℕ, zero, suc, ◌+◌, ◌*◌, ◌<◌, ◌≤◌, ◌^◌, ◌&&◌, ◌==◌, Bool, true, false, not, nat_le, List, [], ◌∷◌, length, Option, Some, option_map, option_and_then, slice_index, Result, Ok, Err, refl, sym, ap, ap₂, ◌∙◌, arith, rules}
 use Rattle.std.specs.Char.{digit_value, is_ascii, is_ascii_digit}
 use Rattle.std.specs.List.{after_first, before_first, list_all}
 use Rattle.std.specs.Result.{result_ok}
 use Rattle.std.specs.Str.{IsUtf8}
 use Rattle.std.specs.Str.Parse.{ParsesUnsigned, digits_value, digits_value_after}
 use Rattle.std.proofs.lemmas.Bool.Decides.{nat_tests}
-use Rattle.std.proofs.lemmas.List.{map-append}
 use Rattle.std.proofs.lemmas.Str.{IsUtf8-from_ascii}
 use Rattle.std.proofs.lemmas.Str.Parse.{IsNumeralModel, IsDigitsTest, numerals_by_value, digits_value_short, parse_digits}
 use Rattle.ocpi_types.specs.declared.config.Config.{Config}
-use Rattle.house_core.specs.declared.step.Action.{Action}
-use Rattle.house_core.specs.declared.step.Action.TheVariants as action
-use Rattle.house_core.specs.declared.step.Step.{Step}
 use Rattle.clear_cli.specs.declared.step_line.StepName.{StepName}
-use Rattle.clear_cli.specs.declared.step_line.StepLine.{StepLine}
-use Rattle.clear_cli.specs.StepLine.{call_named, collects, is_call_number, is_space, step_line_of, step_named, taken_by}
+use Rattle.clear_cli.specs.StepLine.{call_named, is_call_number, is_space, step_line_of, step_named}
 
 both : (a b : Bool) → (a && b) ≡ true → (a ≡ true) × (b ≡ true)
 both true true e = (refl, refl)

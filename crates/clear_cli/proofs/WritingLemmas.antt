@@ -7,7 +7,7 @@ use Rattle.house_core.specs.declared.finished.Finished.{Finished}
 use Rattle.clear_cli.specs.declared.schedule_text.WriteFault.{WriteFault}
 use Rattle.clear_cli.specs.declared.schedule_text.WriteFault.TheVariants.{NoMemory, Write}
 use Rattle.clear_cli.specs.ScheduleText.{finished_text, trace_text}
-use Rattle.clear_cli.specs.ScheduleWritten.{FailsToWrite, GivesUpWriting, StopsWriting}
+use Rattle.clear_cli.specs.ScheduleWritten.{FailsToWrite, StopsWriting}
 use Rattle.clear_cli.specs.Inner.WritingLines.{FailsInLine}
 
 module _ (config : Config) where

@@ -1,23 +1,42 @@
 -- The faults of the program, and the lines that tell them on standard error.
-use Rattle.std.specs.Prelude.{◌≡◌, ℕ, ◌<◌, ◌⊎◌, Bool, true, List, ◌++◌, length, take, codes, decimal}
+use Rattle.std.specs.Prelude.{◌≡◌, ℕ, ◌<◌, ◌⊎◌, Bool, true, List, [], ◌∷◌, ◌++◌, length, take, codes, decimal}
 use Rattle.ocpi_json.specs.Name.{key_text}
 use Rattle.ocpi_types.specs.declared.config.reading.ConfigFault.{ConfigFault}
 use Rattle.ocpi_types.specs.declared.config.reading.ConfigFault.TheVariants.{Syntax, Member, NoMemory as ConfigNoMemory}
 use Rattle.request_lines.specs.declared.faults.ScriptFault.{ScriptFault}
 use Rattle.request_lines.specs.declared.faults.ScriptFault.TheVariants.{Read, Write, NoMemory as ScriptNoMemory, LineTooLong as ScriptLineTooLong}
+use Rattle.shared_house.specs.declared.finishing.FinishFault.{FinishFault}
+use Rattle.shared_house.specs.declared.finishing.FinishFault.TheVariants as finish
 use Rattle.clear_cli.specs.declared.fault.Fault.{Fault}
-use Rattle.clear_cli.specs.declared.fault.Fault.TheVariants.{Usage, ConfigSyntax, ConfigMember, CannotRead, CannotReadInput, CannotWrite, LineTooLong, ScheduleLine, NoMemory}
+use Rattle.clear_cli.specs.declared.fault.Fault.TheVariants.{Usage, ConfigSyntax, ConfigMember, CannotRead, CannotReadInput, CannotWrite, LineTooLong, ScheduleLine, FinishMissingPass, FinishTorn, NoMemory}
+use Rattle.clear_cli.specs.declared.schedule_text.WriteFault.{WriteFault}
+use Rattle.clear_cli.specs.declared.schedule_text.WriteFault.TheVariants as write
+
+-- ---- one fault
+
+abbrev pub cannot_read_text : List ℕ → List ℕ
+cannot_read_text path = codes "cannot read " ++ (path ++ codes "\n")
+
+-- a fault's text, to the end of its line
+abbrev pub fault_text : Fault → List ℕ
+fault_text Usage = codes "usage\n"
+fault_text ConfigSyntax = codes "config: syntax\n"
+fault_text (ConfigMember called) = codes "config: " ++ (key_text called ++ codes "\n")
+fault_text (CannotRead path) = cannot_read_text path.now
+fault_text CannotReadInput = codes "cannot read -\n"
+fault_text CannotWrite = codes "cannot write\n"
+fault_text (LineTooLong line) = codes "line " ++ (decimal line ++ codes " is too long\n")
+fault_text (ScheduleLine line) = codes "schedule: line " ++ (decimal line ++ codes "\n")
+fault_text FinishMissingPass = codes "finish: missing pass\n"
+fault_text (FinishTorn entry) = codes "finish: torn at " ++ (decimal entry ++ codes "\n")
+fault_text NoMemory = codes "no memory\n"
 
 abbrev pub fault_line : Fault → List ℕ
-fault_line Usage = codes "clear: usage\n"
-fault_line ConfigSyntax = codes "clear: config: syntax\n"
-fault_line (ConfigMember called) = codes "clear: config: " ++ (key_text called ++ codes "\n")
-fault_line (CannotRead path) = codes "clear: cannot read " ++ (path.now ++ codes "\n")
-fault_line CannotReadInput = codes "clear: cannot read -\n"
-fault_line CannotWrite = codes "clear: cannot write\n"
-fault_line (LineTooLong line) = codes "clear: line " ++ (decimal line ++ codes " is too long\n")
-fault_line (ScheduleLine line) = codes "clear: schedule: line " ++ (decimal line ++ codes "\n")
-fault_line NoMemory = codes "clear: no memory\n"
+fault_line fault = codes "clear: " ++ fault_text fault
+
+-- the line of a fault of the file of this number, from 1
+abbrev pub file_line : ℕ → List ℕ → List ℕ
+file_line number text = codes "clear: file " ++ (decimal number ++ (codes ": " ++ text))
 
 -- the exit status at a fault
 abbrev pub exit_status : Fault → ℕ
@@ -29,6 +48,8 @@ exit_status CannotReadInput = 1
 exit_status CannotWrite = 1
 exit_status (LineTooLong line) = 1
 exit_status (ScheduleLine line) = 1
+exit_status FinishMissingPass = 1
+exit_status (FinishTorn entry) = 1
 exit_status NoMemory = 1
 
 -- the fault of bytes that are no configuration
@@ -44,8 +65,27 @@ script_fault (Write written) = CannotWrite
 script_fault ScriptNoMemory = NoMemory
 script_fault (ScriptLineTooLong line) = LineTooLong line
 
+-- the fault of a house that does not finish
+abbrev pub finish_fault : FinishFault → Fault
+finish_fault finish.MissingPass = FinishMissingPass
+finish_fault (finish.Torn entry) = FinishTorn entry
+finish_fault finish.NoMemory = NoMemory
+
+-- the fault of what is not written
+abbrev pub write_fault : WriteFault → Fault
+write_fault write.Write = CannotWrite
+write_fault write.NoMemory = NoMemory
+
+-- ---- on standard error
+
 -- the sink took the whole line, or failed within it
 abbrev pub IsTold : {S : Type 0} → (S → List ℕ → S → Type 0) → (S → Bool) → S → List ℕ → S → Type 0
 IsTold takes failed sink line sink' =
     (takes sink line sink' × (failed sink' ≡ failed sink))
     ⊎ ((sent : ℕ) × (sent < length line) × takes sink (take sent line) sink' × (failed sink' ≡ true))
+
+-- the lines were told in turn, and nothing else
+abbrev pub AreTold : {S : Type 0} → (S → List ℕ → S → Type 0) → (S → Bool) → S → List (List ℕ) → S → Type 0
+AreTold takes failed sink [] sink' = sink' ≡ sink
+AreTold takes failed sink (line ∷ lines) sink' =
+    (between : _) × IsTold takes failed sink line between × AreTold takes failed between lines sink'

@@ -1,5 +1,11 @@
+pub mod Differences
 pub mod Fault
+pub mod Folder
+pub mod HouseRun
 pub mod Inner
+pub mod Opening
+pub mod Outputs
+pub mod Run
 pub mod Schedule
 pub mod ScheduleFile
 pub mod ScheduleRead

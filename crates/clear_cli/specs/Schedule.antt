@@ -7,11 +7,11 @@ use Rattle.house_core.specs.declared.finished.Finished.{Finished}
 use Rattle.house_core.specs.OneHouse.{KeepsRules, OneHouse}
 use Rattle.request_lines.specs.Lines.{lines_of}
 use Rattle.clear_cli.specs.declared.fault.Fault.{Fault}
-use Rattle.clear_cli.specs.declared.fault.Fault.TheVariants.{CannotRead, CannotWrite, NoMemory, ScheduleLine}
+use Rattle.clear_cli.specs.declared.fault.Fault.TheVariants.{CannotRead, NoMemory, ScheduleLine}
 use Rattle.clear_cli.specs.declared.schedule_file.ScheduleFault.{ScheduleFault}
 use Rattle.clear_cli.specs.declared.schedule_file.ScheduleFault.TheVariants as read
 use Rattle.clear_cli.specs.declared.schedule_text.WriteFault.{WriteFault}
-use Rattle.clear_cli.specs.declared.schedule_text.WriteFault.TheVariants as write
+use Rattle.clear_cli.specs.Fault.{write_fault}
 use Rattle.clear_cli.specs.ScheduleFile.{IsSchedule, PlainSchedule}
 use Rattle.clear_cli.specs.ScheduleRead.{FailsToRead}
 use Rattle.clear_cli.specs.ScheduleText.{trace_text}
@@ -73,11 +73,6 @@ abbrev pub schedule_fault : Bor (List ℕ) → ScheduleFault → Fault
 schedule_fault path read.Read = CannotRead path
 schedule_fault path (read.Line line) = ScheduleLine line
 schedule_fault path read.NoMemory = NoMemory
-
--- the fault of lines that are not written
-abbrev pub write_fault : WriteFault → Fault
-write_fault write.Write = CannotWrite
-write_fault write.NoMemory = NoMemory
 
 -- what the reader gave is no schedule
 pub record IsNoSchedule {R W : Type 0} (streams : FileStreams R W) (path : Bor (List ℕ)) (config : Config) (fault : Fault) : Type 0 where

@@ -1,5 +1,5 @@
 -- How the writing of lines of calls ends.
-use Rattle.std.specs.Prelude.{◌≡◌, ◌≤◌, ◌<◌, ℕ, Bool, true, List, length, take}
+use Rattle.std.specs.Prelude.{◌≡◌, ◌<◌, ℕ, Bool, true, List, length, take}
 use Rattle.ocpi_types.specs.declared.config.Config.{Config}
 use Rattle.house_core.specs.declared.finished.Finished.{Finished}
 use Rattle.clear_cli.specs.declared.schedule_text.WriteFault.{WriteFault}

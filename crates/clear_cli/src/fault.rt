@@ -1,8 +1,8 @@
 //! What ends the program early, and the line that tells it.
 
-ghost use Rattle.std.specs.Prelude.{◌≡◌, ◌++◌};
-ghost use Rattle.clear_cli.specs.Fault.{IsTold, config_fault, exit_status, fault_line, script_fault};
-ghost use Rattle.clear_cli.specs.Schedule.{write_fault};
+ghost use Rattle.std.specs.Prelude.{◌≡◌, ◌++◌, codes};
+ghost use Rattle.clear_cli.specs.Fault.{IsTold, config_fault, exit_status, fault_line, fault_text, file_line, finish_fault, script_fault, write_fault};
+ghost use Rattle.clear_cli.specs.Inner.Parts.{text_of};
 ghost use Rattle.clear_cli.specs.declared.fault.Fault.TheVariants.{NoMemory};
 
 use crate::schedule_text::WriteFault;
@@ -10,7 +10,8 @@ use itoa::Buffer;
 use ocpi_json::name::Name;
 use ocpi_types::ConfigFault;
 use request_lines::{ScriptFault, Sink, write_all};
-use std::alloc::AllocError;
+use shared_house::FinishFault;
+use std::alloc::{AllocError, AllocFailed};
 
 /// What ends the program early.
 #[derive(Clone, Copy, PartialEq, Eq)]
@@ -35,6 +36,12 @@ pub enum Fault<'a> {
     /// The schedule's line of this number, from 1, is the first that is no request and no step.
     ScheduleLine { line: u128 },
 
+    /// Fewer passes came back to a house than it had made.
+    FinishMissingPass,
+
+    /// The history of a house breaks at this number, and at no smaller one.
+    FinishTorn { entry: u64 },
+
     NoMemory,
 }
 
@@ -54,6 +61,14 @@ impl From<AllocError> for Fault<'_> {
     ghost from_gives = { λ _ fault. fault ≡ NoMemory };
 
     fn from(_error: AllocError) -> Self {
+        Fault::NoMemory
+    }
+}
+
+impl<T: Drop> From<AllocFailed<T>> for Fault<'_> {
+    ghost from_gives = { λ _ fault. fault ≡ NoMemory };
+
+    fn from(_error: AllocFailed<T>) -> Self {
         Fault::NoMemory
     }
 }
@@ -83,6 +98,18 @@ impl From<ScriptFault> for Fault<'_> {
     }
 }
 
+impl From<FinishFault> for Fault<'_> {
+    ghost from_gives = { λ cause fault. fault ≡ finish_fault cause };
+
+    fn from(cause: FinishFault) -> Self {
+        match cause {
+            FinishFault::MissingPass => Fault::FinishMissingPass,
+            FinishFault::Torn { entry } => Fault::FinishTorn { entry },
+            FinishFault::NoMemory => Fault::NoMemory,
+        }
+    }
+}
+
 impl From<WriteFault> for Fault<'_> {
     ghost from_gives = { λ cause fault. fault ≡ write_fault cause };
 
@@ -94,7 +121,7 @@ impl From<WriteFault> for Fault<'_> {
     }
 }
 
-/// A fault's line in three parts.
+/// A fault's text in three parts.
 struct Parts<'a> {
     head: &'a str,
     middle: &'a str,
@@ -104,20 +131,32 @@ struct Parts<'a> {
 fn parts_of<'a, 'b>(fault: &Fault<'a>, buffer: &'b mut Buffer) -> Parts<'b>
 where
     'a: 'b,
-    ensures { result.head.now ++ (result.middle.now ++ result.tail.now) ≡ fault_line fault.now }
+    ensures { result.head.now ++ (result.middle.now ++ result.tail.now) ≡ fault_text fault.now }
 {
     let (head, middle, tail) = match *fault {
-        Fault::Usage => ("clear: usage", "", "\n"),
-        Fault::ConfigSyntax => ("clear: config: syntax", "", "\n"),
-        Fault::ConfigMember { name } => ("clear: config: ", name.key(), "\n"),
-        Fault::CannotRead { path } => ("clear: cannot read ", path, "\n"),
-        Fault::CannotReadInput => ("clear: cannot read -", "", "\n"),
-        Fault::CannotWrite => ("clear: cannot write", "", "\n"),
-        Fault::LineTooLong { line } => ("clear: line ", buffer.format(line), " is too long\n"),
-        Fault::ScheduleLine { line } => ("clear: schedule: line ", buffer.format(line), "\n"),
-        Fault::NoMemory => ("clear: no memory", "", "\n"),
+        Fault::Usage => ("usage", "", "\n"),
+        Fault::ConfigSyntax => ("config: syntax", "", "\n"),
+        Fault::ConfigMember { name } => ("config: ", name.key(), "\n"),
+        Fault::CannotRead { path } => ("cannot read ", path, "\n"),
+        Fault::CannotReadInput => ("cannot read -", "", "\n"),
+        Fault::CannotWrite => ("cannot write", "", "\n"),
+        Fault::LineTooLong { line } => ("line ", buffer.format(line), " is too long\n"),
+        Fault::ScheduleLine { line } => ("schedule: line ", buffer.format(line), "\n"),
+        Fault::FinishMissingPass => ("finish: missing pass", "", "\n"),
+        Fault::FinishTorn { entry } => ("finish: torn at ", buffer.format(entry), "\n"),
+        Fault::NoMemory => ("no memory", "", "\n"),
     };
     Parts { head, middle, tail }
+}
+
+fn tell_parts<F: Sink>(faults: &mut F, parts: &[&str])
+    ensures { IsTold F.takes F.failed faults.old (text_of parts.now) faults.new }
+{
+    for part in parts {
+        if write_all(faults, part.as_bytes()).is_err() {
+            return;
+        }
+    }
 }
 
 /// Tells the fault in one line, without taking memory. Where the sink fails, it has the line's first bytes.
@@ -126,11 +165,21 @@ pub fn tell<F: Sink>(faults: &mut F, fault: &Fault<'_>)
 {
     let mut buffer = Buffer::new();
     let Parts { head, middle, tail } = parts_of(fault, &mut buffer);
-    if write_all(faults, head.as_bytes()).is_err() {
-        return;
-    }
-    if write_all(faults, middle.as_bytes()).is_err() {
-        return;
-    }
-    let _ = write_all(faults, tail.as_bytes());
+    tell_parts(faults, &["clear: ", head, middle, tail]);
+}
+
+fn tell_file_parts<'a, F: Sink>(faults: &mut F, number: &'a str, text: Parts<'a>)
+    ensures { IsTold F.takes F.failed faults.old (codes "clear: file " ++ (number.entry.now ++ (codes ": " ++ (text.entry.head.now ++ (text.entry.middle.now ++ text.entry.tail.now))))) faults.new }
+{
+    let Parts { head, middle, tail } = text;
+    tell_parts(faults, &["clear: file ", number, ": ", head, middle, tail]);
+}
+
+/// Tells the fault of the file of this number, in the same way.
+pub fn tell_of_file<F: Sink>(faults: &mut F, number: u64, fault: &Fault<'_>)
+    ensures { IsTold F.takes F.failed faults.old (file_line number (fault_text fault.now)) faults.new }
+{
+    let mut digits = Buffer::new();
+    let mut buffer = Buffer::new();
+    tell_file_parts(faults, digits.format(number), parts_of(fault, &mut buffer));
 }

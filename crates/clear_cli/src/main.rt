@@ -3,8 +3,15 @@
 
 ghost use Rattle.std.specs.Prelude.{◌≡◌, ◌≢◌, IfErr};
 
+mod differences;
 mod fault;
 mod files;
+mod folder;
+mod house_run;
+mod opening;
+mod out_folder;
+mod outputs;
+mod run;
 mod schedule;
 mod schedule_file;
 mod schedule_text;
@@ -14,13 +21,18 @@ mod words;
 
 use fault::{Fault, tell};
 use files::{open_file, read_file};
+use out_folder::OutFolder;
 use request_lines::Device;
+use run::run;
 use schedule::schedule;
 use script::script;
 use std::alloc::Global;
 use std::env;
+use std::fs::File;
 use std::io::ErrorKind;
 use std::process::ExitCode;
+use std::sync::Wait;
+use std::thread::Threads;
 use words::{Job, read_words};
 
 // The words of the command line, the program's name first.
@@ -69,11 +81,61 @@ fn replay_file<'a>(rt: &HostRuntime, config: &'a str, path: &'a str) -> Result<u
     ))
 }
 
+// The files of these paths, each with its reader, where it can be opened.
+fn given_files(
+    rt: &HostRuntime,
+    alloc: Global,
+    paths: &[&str],
+) -> Result<Vec<(String, Option<Device<File>>)>, Fault<'static>> {
+    let mut files = Vec::new(alloc);
+    for path in paths {
+        let reader = match open_file(rt, path)? {
+            Some(opened) => Some(Device::new(opened)),
+            None => None,
+        };
+        files.push((String::from_str(alloc, path)?, reader))?;
+    }
+    Ok(files)
+}
+
+// Answers files by threads, and gives the exit status.
+fn answer_files<'a>(
+    rt: &HostRuntime,
+    threads: &(impl Threads + Wait + Sync),
+    config: &'a str,
+    folder: &str,
+    paths: &[&str],
+) -> Result<u8, Fault<'a>> {
+    let file = read_file(rt, rt.alloc(), config)?;
+    let files = given_files(rt, rt.alloc(), paths)?;
+    let mut folder = OutFolder::new(rt, folder);
+    let mut writer = Device::new(rt.stdout());
+    let mut faults = Device::new(rt.stderr());
+    Ok(run(
+        threads,
+        rt.alloc(),
+        file.as_slice(),
+        files,
+        &mut folder,
+        &mut writer,
+        &mut faults,
+    ))
+}
+
 // Does what the words ask for, and gives the exit status.
-fn perform<'a>(rt: &HostRuntime, words: &'a [String]) -> Result<u8, Fault<'a>> {
+fn perform<'a>(
+    rt: &HostRuntime,
+    threads: &(impl Threads + Wait + Sync),
+    words: &'a [String],
+) -> Result<u8, Fault<'a>> {
     match read_words(rt.alloc(), words)? {
         Job::Script { config } => answer_input(rt, config),
         Job::Schedule { config, file } => replay_file(rt, config, file),
+        Job::Run {
+            config,
+            folder,
+            files,
+        } => answer_files(rt, threads, config, folder, files.as_slice()),
     }
 }
 
@@ -87,7 +149,7 @@ fn main(rt: HostRuntime) -> ExitCode {
         Ok(words) => words,
         Err(fault) => return told(&rt, &fault),
     };
-    match perform(&rt, words.as_slice()) {
+    match perform(&rt, &rt, words.as_slice()) {
         Ok(status) => ExitCode::from(status),
         Err(fault) => told(&rt, &fault),
     }

@@ -1,11 +1,11 @@
 //! What a command line asks for.
 
-ghost use Rattle.std.specs.Prelude.{◌≡◌, ◌≢◌, ◌↔◌, IfErr, IfOk, IfSome, MatchResult, Some, false, map, option_map, option_and_then};
+ghost use Rattle.std.specs.Prelude.{◌≡◌, ◌≢◌, ◌↔◌, IfErr, IfOk, IfSome, MatchResult, Some, codes, false, map, option_map, option_and_then};
 ghost use Rattle.std.specs.String.{string_bytes};
 ghost use Rattle.clap.specs.Walk.{rule_of};
-ghost use Rattle.clap.specs.Words.{app_of, kind_of, subcommand_rows_of};
+ghost use Rattle.clap.specs.Words.{app_of, found_of, kind_of, rows_of, subcommand_rows_of};
 ghost use Rattle.clap.specs.declared.builder.command.Command.TheViews.{out-Command as fields_of};
-ghost use Rattle.clear_cli.specs.Inner.Commands.{asked_in, clear_command, path_rule, schedule_command, script_command};
+ghost use Rattle.clear_cli.specs.Inner.Commands.{asked_in, asked_under, clear_command, files_rule, path_rule, run_command, schedule_command, script_command};
 ghost use Rattle.clear_cli.specs.Words.{asked, asked_by};
 
 use crate::fault::Fault;
@@ -14,13 +14,28 @@ use clap::{Arg, ArgAction, ArgMatches, Command, Error};
 use std::alloc::{AllocError, Global};
 
 /// One of the program's commands.
-#[derive(Clone, Copy, PartialEq, Eq)]
+#[derive(Drop)]
 pub enum Job<'a> {
     /// Answers the lines of standard input under the configuration of this path.
-    Script { config: &'a str },
+    Script {
+        config: &'a str,
+    },
     /// Replays the calls and steps of the file of this path under the configuration of the other.
-    Schedule { config: &'a str, file: &'a str },
+    Schedule {
+        config: &'a str,
+        file: &'a str,
+    },
+    /// Answers the lines of the files of these paths under the configuration of the first path, and writes what their house leaves
+    /// in the folder of the other.
+    Run {
+        config: &'a str,
+        folder: &'a str,
+        files: Vec<&'a str>,
+    },
 }
+
+/// How many files a run answers at most.
+pub const MOST_FILES: usize = 128;
 
 // A path that has to be given.
 fn path<'a>(alloc: Global, id: &'a str) -> Arg<'a>
@@ -46,13 +61,32 @@ fn schedule<'a>(alloc: Global) -> Result<Command<'a>, AllocError>
         .arg(path(alloc, "file"))
 }
 
+// The paths of the files of a run.
+fn files<'a>(alloc: Global) -> Arg<'a>
+    ensures reads { rule_of result ≡ files_rule }
+    ensures local { result.global ≡ false }
+{
+    path(alloc, "files").num_args(1..=MOST_FILES)
+}
+
+fn run<'a>(alloc: Global) -> Result<Command<'a>, AllocError>
+    ensures reads { IfOk result (λ command. app_of command ≡ run_command) }
+    ensures local { IfOk result (λ command. (fields_of command).has_globals ≡ false) }
+{
+    Command::new(alloc, "run")
+        .arg(path(alloc, "config"))?
+        .arg(path(alloc, "folder"))?
+        .arg(files(alloc))
+}
+
 fn clear<'a>(alloc: Global) -> Result<Command<'a>, AllocError>
     ensures { IfOk result (λ command. app_of command ≡ clear_command) }
 {
     Command::new(alloc, "clear")
         .subcommand_required(true)
         .subcommand(script(alloc)?)?
-        .subcommand(schedule(alloc)?)
+        .subcommand(schedule(alloc)?)?
+        .subcommand(run(alloc)?)
 }
 
 // Every refused parse is the usage fault, but for want of memory.
@@ -66,20 +100,75 @@ fn fault_of(error: &Error) -> Fault<'static>
     }
 }
 
-// What the command that a parse entered asks for.
-fn job_of<'a>(matches: &ArgMatches<'a>) -> Option<Job<'a>>
-    ensures { option_map asked_by result ≡ option_and_then asked_in (subcommand_rows_of matches.now) }
+fn copied<'a>(alloc: Global, texts: &[&'a str]) -> Result<Vec<&'a str>, AllocError>
+    ensures { IfOk result (λ copy. map (λ text. text.now) copy.items ≡ map (λ text. text.now) texts.now) }
 {
-    let (name, words) = matches.subcommand()?;
-    let config = words.get_str("config")?;
-    match name {
-        "script" => Some(Job::Script { config }),
-        "schedule" => Some(Job::Schedule {
-            config,
-            file: words.get_str("file")?,
-        }),
-        _ => None,
+    let mut copy = Vec::new(alloc);
+    for text in texts {
+        copy.push(*text)?;
     }
+    Ok(copy)
+}
+
+// What `run` asks for.
+fn run_of<'a>(
+    alloc: Global,
+    config: &'a str,
+    words: &ArgMatches<'a>,
+) -> Result<Option<Job<'a>>, AllocError>
+    ensures { IfOk result (λ job. option_map asked_by job ≡ asked_under (codes "run") (rows_of (found_of words.now)) config.now) }
+{
+    let Some(folder) = words.get_str("folder") else {
+        return Ok(None);
+    };
+    let Some(files) = words.get_strs("files") else {
+        return Ok(None);
+    };
+    Ok(Some(Job::Run {
+        config,
+        folder,
+        files: copied(alloc, files)?,
+    }))
+}
+
+// What `schedule` asks for.
+fn schedule_of<'a>(config: &'a str, words: &ArgMatches<'a>) -> Option<Job<'a>>
+    ensures { option_map asked_by result ≡ asked_under (codes "schedule") (rows_of (found_of words.now)) config.now }
+{
+    Some(Job::Schedule {
+        config,
+        file: words.get_str("file")?,
+    })
+}
+
+// What the command of this name asks for, with this configuration.
+fn job_under<'a>(
+    alloc: Global,
+    name: &str,
+    config: &'a str,
+    words: &ArgMatches<'a>,
+) -> Result<Option<Job<'a>>, AllocError>
+    ensures { IfOk result (λ job. option_map asked_by job ≡ asked_under name.now (rows_of (found_of words.now)) config.now) }
+{
+    match name {
+        "script" => Ok(Some(Job::Script { config })),
+        "schedule" => Ok(schedule_of(config, words)),
+        "run" => run_of(alloc, config, words),
+        _ => Ok(None),
+    }
+}
+
+// What the command that a parse entered asks for.
+fn job_of<'a>(alloc: Global, matches: &ArgMatches<'a>) -> Result<Option<Job<'a>>, AllocError>
+    ensures { IfOk result (λ job. option_map asked_by job ≡ option_and_then asked_in (subcommand_rows_of matches.now)) }
+{
+    let Some((name, words)) = matches.subcommand() else {
+        return Ok(None);
+    };
+    let Some(config) = words.get_str("config") else {
+        return Ok(None);
+    };
+    job_under(alloc, name, config, words)
 }
 
 /// What the words ask for, the program's name first. Another form, help and version are the usage fault.
@@ -93,5 +182,5 @@ pub fn read_words<'a>(alloc: Global, words: &'a [String]) -> Result<Job<'a>, Fau
         Ok(matches) => matches,
         Err(error) => return Err(fault_of(&error)),
     };
-    job_of(&matches).ok_or(Fault::Usage)
+    job_of(alloc, &matches)?.ok_or(Fault::Usage)
 }

@@ -42,26 +42,20 @@ are_held config books accounts order books_each accounts_each legal_books legal_
   one_amount = sum_mapped total_of_book (λ (book : PlainBook). book.entries) books ∙ amounts ∙ sym (sum_mapped total_of_account (λ (account : PlainAccount). account.entries) accounts);
 }
 
--- of equal values the same is certified, and the same is torn
-module _ (config config' : Config) (books books' : List PlainBook) (accounts accounts' : List PlainAccount) (order order' : List OrderEntry) (passes passes' : List (List Made))
-    (same_config : config ≡ config') (same_books : books ≡ books') (same_accounts : accounts ≡ accounts') (same_order : order ≡ order') (same_passes : passes ≡ passes') where
+-- under equal configurations, and of equal calls, the same is certified, and the same is torn
+module _ (config config' : Config) (books : List PlainBook) (accounts : List PlainAccount) (order : List OrderEntry) (passes passes' : List (List Made))
+    (same_config : config ≡ config') (same_passes : passes ≡ passes') where
   pub certified_alike : (events : List Event) → IsCertified config (entries_of_books books) (entries_of_accounts accounts) order passes events
-      → IsCertified config' (entries_of_books books') (entries_of_accounts accounts') order' passes' events
+      → IsCertified config' (entries_of_books books) (entries_of_accounts accounts) order passes' events
   certified_alike events is =
-      subst (λ (x : List (List Made)). IsCertified config' (entries_of_books books') (entries_of_accounts accounts') order' x events) same_passes
-      (subst (λ (x : List OrderEntry). IsCertified config' (entries_of_books books') (entries_of_accounts accounts') x passes events) same_order
-      (subst (λ (x : List PlainAccount). IsCertified config' (entries_of_books books') (entries_of_accounts x) order passes events) same_accounts
-      (subst (λ (x : List PlainBook). IsCertified config' (entries_of_books x) (entries_of_accounts accounts) order passes events) same_books
-      (subst (λ (x : Config). IsCertified x (entries_of_books books) (entries_of_accounts accounts) order passes events) same_config is))))
+      subst (λ (x : List (List Made)). IsCertified config' (entries_of_books books) (entries_of_accounts accounts) order x events) same_passes
+      (subst (λ (x : Config). IsCertified x (entries_of_books books) (entries_of_accounts accounts) order passes events) same_config is)
 
   pub torn_alike : (number : ℕ) → IsTornFirst config (entries_of_books books) (entries_of_accounts accounts) order passes number
-      → IsTornFirst config' (entries_of_books books') (entries_of_accounts accounts') order' passes' number
+      → IsTornFirst config' (entries_of_books books) (entries_of_accounts accounts) order passes' number
   torn_alike number is =
-      subst (λ (x : List (List Made)). IsTornFirst config' (entries_of_books books') (entries_of_accounts accounts') order' x number) same_passes
-      (subst (λ (x : List OrderEntry). IsTornFirst config' (entries_of_books books') (entries_of_accounts accounts') x passes number) same_order
-      (subst (λ (x : List PlainAccount). IsTornFirst config' (entries_of_books books') (entries_of_accounts x) order passes number) same_accounts
-      (subst (λ (x : List PlainBook). IsTornFirst config' (entries_of_books x) (entries_of_accounts accounts) order passes number) same_books
-      (subst (λ (x : Config). IsTornFirst x (entries_of_books books) (entries_of_accounts accounts) order passes number) same_config is))))
+      subst (λ (x : List (List Made)). IsTornFirst config' (entries_of_books books) (entries_of_accounts accounts) order x number) same_passes
+      (subst (λ (x : Config). IsTornFirst x (entries_of_books books) (entries_of_accounts accounts) order passes number) same_config is)
 
 pub same_entry : (a b : ℕ) → (let x : Result Ended FinishFault = Err (fault.Torn a) in let y : Result Ended FinishFault = Err (fault.Torn b) in x ≡ y) → a ≡ b
 same_entry a b h = let same : a ≡ b = cc in same

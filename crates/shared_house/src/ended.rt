@@ -7,12 +7,10 @@ ghost use Rattle.shared_house.specs.Points.{AreAllAdmitted};
 ghost use Rattle.shared_house.specs.declared.certifying.CertifyFault.TheVariants as fault;
 
 use crate::certifying::{CertifyFault, certify};
+use crate::gathered::Gathered;
 use crate::made::Made;
 use ocpi_types::Config;
-use operator_book::Book;
-use period_order::OrderEntry;
 use plain_house::Event;
-use provider_account::Account;
 use std::alloc::Global;
 
 /// The events of a house, and the calls of each of its passes with what they returned, the first one first.
@@ -27,19 +25,30 @@ impl Ended {
     pub(crate) fn certified(
         alloc: Global,
         config: &Config,
-        order: &[OrderEntry],
-        books: &[Book],
-        accounts: &[Account],
-        calls: Vec<Vec<Made>>,
+        gathered: Gathered,
     ) -> Result<Ended, CertifyFault>
-        requires { AreAllAdmitted config.now (map (λ pass. pass.items) calls.items) }
-        ensures calls { IfOk result (λ ended. ended.calls ≡ calls) }
-        ensures ok { IfOk result (λ ended. IsCertified config.now (entries_of_books books.now) (entries_of_accounts accounts.now) order.now
-            (map (λ pass. pass.items) calls.items) ended.events.items) }
-        ensures torn { (entry : ℕ) → result ≡ Err (fault.Torn entry) → IsTornFirst config.now (entries_of_books books.now)
-            (entries_of_accounts accounts.now) order.now (map (λ pass. pass.items) calls.items) entry }
+        requires { AreAllAdmitted config.now (map (λ pass. pass.items) gathered.calls.items) }
+        ensures calls { IfOk result (λ ended. ended.calls ≡ gathered.calls) }
+        ensures ok { IfOk result (λ ended. IsCertified config.now (entries_of_books gathered.books.items) (entries_of_accounts gathered.accounts.items)
+            gathered.entries.items (map (λ pass. pass.items) gathered.calls.items) ended.events.items) }
+        ensures torn { (entry : ℕ) → result ≡ Err (fault.Torn entry) → IsTornFirst config.now (entries_of_books gathered.books.items)
+            (entries_of_accounts gathered.accounts.items) gathered.entries.items (map (λ pass. pass.items) gathered.calls.items) entry }
     {
-        match certify(alloc, config, order, books, accounts, calls.as_slice()) {
+        let Gathered {
+            entries,
+            books,
+            accounts,
+            calls,
+        } = gathered;
+        let certified = certify(
+            alloc,
+            config,
+            entries.as_slice(),
+            books.as_slice(),
+            accounts.as_slice(),
+            calls.as_slice(),
+        );
+        match certified {
             Ok(events) => Ok(Ended { events, calls }),
             Err(fault) => Err(fault),
         }

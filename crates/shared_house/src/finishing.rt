@@ -6,7 +6,7 @@ ghost use Rattle.shared_house.specs.declared.finishing.FinishFault.TheVariants a
 
 use crate::certifying::CertifyFault;
 use crate::ended::Ended;
-use crate::gathered::{Gathered, gather};
+use crate::gathered::gather;
 use crate::house::House;
 use crate::ledgers::{Configured, Names, Part};
 use crate::pass::Pass;
@@ -53,27 +53,11 @@ impl<N: Names> House<N> {
             return Err(FinishFault::MissingPass);
         }
         let config = self.config.copy(alloc)?;
-        let Gathered {
-            entries,
-            books,
-            accounts,
-            calls,
-        } = gather(alloc, self, passes)?;
-        let order = entries.as_slice();
-        let ended = Ended::certified(
-            alloc,
-            &config,
-            order,
-            books.as_slice(),
-            accounts.as_slice(),
-            calls,
-        );
-        match ended {
+        let gathered = gather(alloc, self, passes)?;
+        match Ended::certified(alloc, &config, gathered) {
             Ok(ended) => Ok(ended),
-            Err(cause) => match cause {
-                CertifyFault::Torn { entry } => Err(FinishFault::Torn { entry }),
-                CertifyFault::NoMemory => Err(FinishFault::NoMemory),
-            },
+            Err(CertifyFault::Torn { entry }) => Err(FinishFault::Torn { entry }),
+            Err(CertifyFault::NoMemory) => Err(FinishFault::NoMemory),
         }
     }
 }

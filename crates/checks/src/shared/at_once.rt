@@ -2,6 +2,7 @@
 
 ghost use Rattle.std.specs.Prelude.{◌≡◌};
 
+use super::ending::end;
 use crate::fault::Fault;
 use cdr_checks::Command;
 use ocpi_json::Room;
@@ -128,6 +129,15 @@ fn tell_rate(rt: &HostRuntime, what: &str, calls: usize, took: Duration) -> io::
     eprintln!(rt; "{calls} calls {what}: {rate} a second")
 }
 
+// How many commands the workers have.
+fn command_count<N: Names>(workers: &[Worker<N>]) -> usize {
+    let mut count = 0usize;
+    for worker in workers {
+        count = count.saturating_add(worker.commands.len());
+    }
+    count
+}
+
 // Makes the calls of all workers, each on a thread of its own, and gives their passes back.
 fn call_all<N: Names + Send + Sync, R: Threads + Wait + Sync>(
     rt: &HostRuntime,
@@ -143,10 +153,7 @@ where
     N::Events: Send + Sync,
 {
     let count = workers.len();
-    let mut calls = 0usize;
-    for worker in &workers {
-        calls = calls.saturating_add(worker.commands.len());
-    }
+    let calls = command_count(workers.as_slice());
     let before = Instant::now(rt)?;
     if count > 0 {
         thread::for_each_mut(
@@ -160,6 +167,15 @@ where
     Ok(passes_of(rt.alloc(), workers)?)
 }
 
+// How many calls the passes have made.
+fn call_count<N: Names>(passes: &[Pass<N>]) -> usize {
+    let mut count = 0usize;
+    for pass in passes {
+        count = count.saturating_add(pass.calls().len());
+    }
+    count
+}
+
 // Ends the house, and tells how many calls were certified, and how many events there are.
 fn certify_all<N: Names>(rt: &HostRuntime, house: House<N>, passes: Vec<Pass<N>>) -> io::Result<()>
     requires book_parts { (N.BookEntries.all ≡ N.BookEntries.parts) × (N.BookAmounts.all ≡ N.BookAmounts.parts) }
@@ -167,19 +183,13 @@ fn certify_all<N: Names>(rt: &HostRuntime, house: House<N>, passes: Vec<Pass<N>>
     requires pass_parts { N.Events.all ≡ N.Events.parts }
 {
     let count = passes.len();
-    let mut calls = 0usize;
-    for pass in &passes {
-        calls = calls.saturating_add(pass.calls().len());
-    }
+    let calls = call_count(passes.as_slice());
     let before = Instant::now(rt)?;
-    let Ok(ended) = house.finish(rt.alloc(), passes) else {
+    let Ok(events) = end(rt.alloc(), house, passes) else {
         return println!(rt; "at once: not certified");
     };
     tell_rate(rt, "certified", calls, before.elapsed(rt)?)?;
-    println!(rt;
-        "at once: {count} passes, {calls} calls, {} events",
-        ended.events.len()
-    )
+    println!(rt; "at once: {count} passes, {calls} calls, {events} events")
 }
 
 fn work<N: Names + Send + Sync, R: Threads + Wait + Sync>(

@@ -174,6 +174,17 @@ fn tell_amounts(rt: &HostRuntime, config: &Config, gathered: Gathered) -> Result
     tell_with_order(rt, config, &changed, entries.as_slice(), "other amounts", 0)
 }
 
+// Tells what is certified of the values as they are, and with each change.
+fn tell_all(rt: &HostRuntime, config: &Config, gathered: Gathered) -> Result<(), Fault<'static>>
+    requires { All (λ calls. AreAdmitted config.now calls.items) gathered.calls.items }
+{
+    let order = gathered.entries.as_slice();
+    tell_with_order(rt, config, &gathered, order, "as they are", 0)?;
+    tell_without(rt, config, &gathered)?;
+    tell_exchanged(rt, config, &gathered)?;
+    tell_amounts(rt, config, gathered)
+}
+
 /// Answers the lines of the reader by the last of the passes, and tells what is certified of what the house then leaves behind.
 pub fn tell<'a, N: Names, R: Wait, S: Source, W: Sink>(
     rt: &HostRuntime,
@@ -190,9 +201,5 @@ pub fn tell<'a, N: Names, R: Wait, S: Source, W: Sink>(
     let config = house.config().copy(rt.alloc())?;
     let passes = answer_by_last(rt.alloc(), locks, &house, passes, false, reader, writer)?;
     let gathered = gather(rt.alloc(), house, passes)?;
-    let order = gathered.entries.as_slice();
-    tell_with_order(rt, &config, &gathered, order, "as they are", 0)?;
-    tell_without(rt, &config, &gathered)?;
-    tell_exchanged(rt, &config, &gathered)?;
-    tell_amounts(rt, &config, gathered)
+    tell_all(rt, &config, gathered)
 }

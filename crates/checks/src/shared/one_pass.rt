@@ -3,6 +3,7 @@
 ghost use Rattle.std.specs.Prelude.{◌≡◌};
 
 use super::caller::Caller;
+use super::ending::end;
 use crate::fault::Fault;
 use ocpi_json::Room;
 use request_lines::{Sink, Source, run_lines};
@@ -66,9 +67,9 @@ pub fn answer_lines<'a, N: Names, R: Wait, S: Source, W: Sink>(
     requires pass_parts { N.Events.all ≡ N.Events.parts }
 {
     let passes = answer_by_last(rt.alloc(), locks, &house, passes, is_again, reader, writer)?;
-    match house.finish(rt.alloc(), passes) {
+    match end(rt.alloc(), house, passes) {
         Err(FinishFault::NoMemory) if is_again => Ok(()),
         Err(fault) => Err(Fault::from(fault)),
-        Ok(_ended) => Ok(()),
+        Ok(_) => Ok(()),
     }
 }

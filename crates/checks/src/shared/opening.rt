@@ -3,11 +3,11 @@
 ghost use Rattle.std.specs.Prelude.{◌≡◌, length};
 ghost use Rattle.shared_house.specs.Names.{IsLedgerOf};
 
-use super::{at_once, changes, missing_pass, one_pass};
+use super::{at_once, changes, held, missing_pass, one_pass, workers};
 use crate::fault::Fault;
 use ocpi_types::Config;
 use request_lines::{Sink, Source};
-use shared_house::{Blanks, Configured, House, Names, Part};
+use shared_house::{Blanks, Configured, House, Names, Part, Place};
 use std::marker::Brand;
 use std::sync::Wait;
 use std::sync::ledger::Blank;
@@ -27,6 +27,12 @@ pub enum Work<'a> {
 
     /// The calls of files' lines are made at once, each file's by a pass.
     AtOnce { files: &'a [String] },
+
+    /// A call is held up at a place while another pass is answered.
+    Held { place: Place, files: &'a [String] },
+
+    /// Workers answer the texts, and there are to be so many events.
+    Texts { texts: &'a [Vec<u8>], events: usize },
 }
 
 impl Work<'_> {
@@ -36,6 +42,8 @@ impl Work<'_> {
             Work::Lines { .. } | Work::Changes => 1,
             Work::MissingPass => 2,
             Work::AtOnce { files } => files.len(),
+            Work::Held { .. } => held::FILES,
+            Work::Texts { texts, .. } => texts.len(),
         }
     }
 }
@@ -93,6 +101,10 @@ fn perform_under<
         Work::Changes => changes::tell(rt, threads, house, passes, reader, writer),
         Work::MissingPass => missing_pass::tell(rt, house, passes),
         Work::AtOnce { files } => at_once::measure(rt, threads, house, passes, files),
+        Work::Held { place, files } => held::answer(rt, threads, house, passes, place, files),
+        Work::Texts { texts, events } => {
+            workers::answer_texts(rt.alloc(), threads, house, passes, texts, events)
+        }
     }
 }
 

@@ -1,6 +1,6 @@
 -- A schedule file on its way.
 use Rattle.std.specs.Prelude.{◌≡◌, ℕ, ◌+◌, ◌^◌, ◌<◌, List, [], ◌∷◌, ◌++◌, length, Option, Some, None, Result, Ok, Err, refl, unwrap_or}
-use Rattle.std.proofs.Common.{sym, ap, ap₂, ◌∙◌, subst, arith, append-nil, append_assoc, length-append}
+use Rattle.std.proofs.Common.{sym, ap₂, ◌∙◌, subst, arith, append-nil, append_assoc, length-append}
 use Rattle.ocpi_types.specs.declared.config.Config.{Config}
 use Rattle.request_lines.specs.declared.faults.Count.{Count}
 use Rattle.request_lines.specs.declared.faults.ScriptFault.{ScriptFault}

@@ -1,5 +1,4 @@
-use Rattle.std.proofs.Common.{rules, ◌≡◌, ◌∙◌, sym, ap, Some, arith, ◌≤◌}
-use Rattle.std.specs.Str.Parse.{digits_value}
+use Rattle.std.proofs.Common.{rules}
 use Rattle.clear_cli.proofs.StepLines.{number_from_one, number_parsed}
 use Rattle.clear_cli.proofs.step_line.call_named.Goals as goal
 

@@ -1,4 +1,4 @@
-use Rattle.std.proofs.Common.{rules, ◌≡◌, ◌∙◌, sym, ap, None, Some}
+use Rattle.std.proofs.Common.{rules, sym, None, Some}
 use Rattle.clear_cli.proofs.StepLines.{ascii_is_utf8, said}
 use Rattle.clear_cli.proofs.step_line.step_line_of.Goals as goal
 

@@ -1,30 +1,16 @@
-use Rattle.std.proofs.Common.{◌∙◌, ap, option_map, sym, None, Some}
+use Rattle.std.proofs.Common.{◌∙◌, sym}
+use Rattle.std.proofs.lemmas.Result.{IfOk-weaker}
 use Rattle.clap.specs.Words.{found_of}
-use Rattle.clear_cli.specs.Words.{asked_by}
-use Rattle.clear_cli.proofs.AskedWords.{entered_is, no_config, schedule_in, script_in}
+use Rattle.clear_cli.proofs.AskedWords.{entered_is, named_in, no_config}
 use Rattle.clear_cli.proofs.words.job_of.Goals as goal
 
-pub returns-in_err-config : goal.returns-in_err-config
-returns-in_err-config c =
-    let words = found_of c.in_ok-name.words.now in
-    let known = entered_is c.args.matches.now _ _ _ c.in_ok-name.was c.subcommand.ensures.name c.subcommand.ensures.rows in
-    ap (option_map asked_by) c.from_residual-in_err-config.ensures ∙ sym (known ∙ no_config words c.in_ok-name.name.now c.in_err-config.ensures)
+pub returns-in_default-get_str : goal.returns-in_default-get_str
+returns-in_default-get_str c =
+    let known = entered_is c.args.matches.now _ _ _ c.in-Some.is c.subcommand.ensures.name c.subcommand.ensures.rows in
+    sym (known ∙ no_config (found_of c.in-Some.words.now) c.in-Some.name.now c.in_default-get_str.ensures)
 
-pub returns-in-script : goal.returns-in-script
-returns-in-script c =
-    let words = found_of c.in_ok-name.words.now in
-    let known = entered_is c.args.matches.now _ _ _ c.in_ok-name.was c.subcommand.ensures.name c.subcommand.ensures.rows in
-    sym (known ∙ script_in words c.in_ok-name.name.now c.in_ok-config.config.now c.in-script.is c.in_ok-config.ensures)
-
-pub returns-in_err-get_str-in-schedule : goal.returns-in_err-get_str-in-schedule
-returns-in_err-get_str-in-schedule c =
-    let words = found_of c.in_ok-name.words.now in
-    let known = entered_is c.args.matches.now _ _ _ c.in_ok-name.was c.subcommand.ensures.name c.subcommand.ensures.rows in
-    ap (option_map asked_by) c.from_residual-in_err-get_str-in-schedule.ensures
-    ∙ sym (known ∙ schedule_in words c.in_ok-name.name.now c.in_ok-config.config.now None c.in-schedule.is c.in_ok-config.ensures c.in_err-get_str-in-schedule.ensures)
-
-pub returns-in_ok-get_str-in-schedule : goal.returns-in_ok-get_str-in-schedule
-returns-in_ok-get_str-in-schedule c =
-    let words = found_of c.in_ok-name.words.now in
-    let known = entered_is c.args.matches.now _ _ _ c.in_ok-name.was c.subcommand.ensures.name c.subcommand.ensures.rows in
-    sym (known ∙ schedule_in words c.in_ok-name.name.now c.in_ok-config.config.now (Some c.in_ok-get_str-in-schedule.field-0.now) c.in-schedule.is c.in_ok-config.ensures c.in_ok-get_str-in-schedule.ensures)
+pub returns : goal.returns
+returns c =
+    let known = entered_is c.args.matches.now _ _ _ c.in-Some.is c.subcommand.ensures.name c.subcommand.ensures.rows in
+    let named = named_in (found_of c.in-Some.words.now) c.in-Some.name.now c.in-Some-get_str.config.now c.in-Some-get_str.ensures in
+    IfOk-weaker c.job_under.result _ _ (λ job e. e ∙ sym (known ∙ named)) c.job_under.ensures

@@ -17,15 +17,15 @@ returns-in-Err-clause-asked c =
 pub returns-clause-asked : goal.returns-clause-asked
 returns-clause-asked c =
     let words : List (List ℕ) = map string_bytes c.args.words.now in
-    let found = c.job_of.ensures
+    let found = c.in_ok-job_of.ensures
     ∙ met _ words c.in-Ok.matches c.in_ok-clear.ensures (all_utf8 c.args.words.now) c.in-Ok.ensures.kinds c.in-Ok.ensures.matches in
     subst (λ (result : Result Job Fault). IfSome (asked words) (λ ask. MatchResult result (λ job. asked_by job ≡ ask) (λ fault. fault ≡ NoMemory)))
-    (sym c.ok_or.ensures.value) (answered c.job_of.result (asked words) found)
+    (sym c.ok_or.ensures.value) (answered c.in_ok-job_of.field-0 (asked words) found)
 
 pub returns-clause-given : goal.returns-clause-given
 returns-clause-given c =
     let words : List (List ℕ) = map string_bytes c.args.words.now in
-    let found = c.job_of.ensures
+    let found = c.in_ok-job_of.ensures
     ∙ met _ words c.in-Ok.matches c.in_ok-clear.ensures (all_utf8 c.args.words.now) c.in-Ok.ensures.kinds c.in-Ok.ensures.matches in
     subst (λ (result : Result Job Fault). IfOk result (λ job. asked words ≡ Some (asked_by job)))
-    (sym c.ok_or.ensures.value) (given c.job_of.result (asked words) found)
+    (sym c.ok_or.ensures.value) (given c.in_ok-job_of.field-0 (asked words) found)

@@ -1,16 +1,23 @@
-use Rattle.std.proofs.Common.{◌≡◌, Err, ap, List, Vec, Global, map, sym, subst}
+use Rattle.std.proofs.Common.{◌≡◌, Err, ap, List, Vec, Global, map, subst, sym}
+use Rattle.operator_book.specs.State.{PlainBook}
+use Rattle.period_order.specs.declared.order_entry.OrderEntry.{OrderEntry}
 use Rattle.period_order.specs.Resolved.{entries_of_accounts, entries_of_books}
+use Rattle.provider_account.specs.State.{PlainAccount}
 use Rattle.shared_house.specs.declared.certifying.CertifyFault.TheVariants as fault
 use Rattle.shared_house.specs.declared.made.Made.{Made}
 use Rattle.shared_house.specs.Certified.{IsTornFirst}
 use Rattle.shared_house.specs.Points.{AreAllAdmitted}
 use Rattle.shared_house.proofs.ended.Ended.certified.Goals as goal
 
-pub certify-requires : goal.certify-requires
-certify-requires c =
-    subst (λ (l : List (Vec Made Global)). AreAllAdmitted c.args.config.now (map (λ (pass : Vec Made Global). pass.items) l)) (sym c.as_slice.ensures.value) c.requires
+pub certify-certified-requires : goal.certify-certified-requires
+certify-certified-requires c =
+    subst (λ (l : List (Vec Made Global)). AreAllAdmitted c.args.config.now (map (λ (pass : Vec Made Global). pass.items) l)) (sym c.as_slice-4.ensures.value) c.requires
 
-pub returns-in-Err-clause-torn : goal.returns-in-Err-clause-torn
-returns-in-Err-clause-torn c = λ entry is.
-    subst (λ (l : List (Vec Made Global)). IsTornFirst c.args.config.now (entries_of_books c.args.books.now) (entries_of_accounts c.args.accounts.now) c.args.order.now (map (λ (pass : Vec Made Global). pass.items) l) entry) c.as_slice.ensures.value
-    (c.in-Err.ensures.torn entry (ap Err (let same : c.in-Err.fault ≡ fault.Torn entry = cc in same)))
+pub returns-clause-torn : goal.returns-clause-torn
+returns-clause-torn c = λ entry is.
+    let same : c.in-Err.fault ≡ fault.Torn entry = cc in
+    subst (λ (l : List (Vec Made Global)). IsTornFirst c.args.config.now (entries_of_books c.args.gathered.books.items) (entries_of_accounts c.args.gathered.accounts.items) c.args.gathered.entries.items (map (λ (pass : Vec Made Global). pass.items) l) entry) c.as_slice-4.ensures.value
+    (subst (λ (l : List PlainAccount). IsTornFirst c.args.config.now (entries_of_books c.args.gathered.books.items) (entries_of_accounts l) c.args.gathered.entries.items (map (λ (pass : Vec Made Global). pass.items) c.as_slice-4.result.now) entry) c.as_slice-3.ensures.value
+    (subst (λ (l : List PlainBook). IsTornFirst c.args.config.now (entries_of_books l) (entries_of_accounts c.as_slice-3.result.now) c.args.gathered.entries.items (map (λ (pass : Vec Made Global). pass.items) c.as_slice-4.result.now) entry) c.as_slice-2.ensures.value
+    (subst (λ (l : List OrderEntry). IsTornFirst c.args.config.now (entries_of_books c.as_slice-2.result.now) (entries_of_accounts c.as_slice-3.result.now) l (map (λ (pass : Vec Made Global). pass.items) c.as_slice-4.result.now) entry) c.as_slice.ensures.value
+    (c.in-Err.ensures.torn entry (ap Err same)))))

@@ -1,0 +1,113 @@
+//! A call that is held up at a place while another pass is answered.
+
+ghost use Rattle.std.specs.Prelude.{◌≡◌};
+
+mod flags;
+mod lines;
+
+use super::ending::end;
+use super::workers::answer_pairs;
+use crate::fault::Fault;
+use flags::{Flags, Holding};
+use lines::Lines;
+use request_lines::Device;
+use shared_house::{Configured, House, Names, Part, Pass, Place};
+use std::fs;
+use std::io::Stdout;
+use std::sync::Wait;
+use std::sync::atomic::{AtomicBool, Ordering};
+use std::thread::Threads;
+
+/// How many files that takes, and passes.
+pub const FILES: usize = 4;
+
+fn number_in(text: &str, name: &str) -> Option<usize> {
+    text.strip_prefix(name)?
+        .strip_prefix("(")?
+        .strip_suffix(")")?
+        .parse::<usize>()
+        .ok()
+}
+
+/// The place that a text names, as `BookHeld(0)`.
+pub fn place_of(text: &str) -> Option<Place> {
+    if let Some(number) = number_in(text, "BookHeld") {
+        return Some(Place::BookHeld(number));
+    }
+    if let Some(number) = number_in(text, "AccountHeld") {
+        return Some(Place::AccountHeld(number));
+    }
+    number_in(text, "Collecting").map(Place::Collecting)
+}
+
+// The lines of the file at the path, and where their answers go.
+fn pair_of<'f>(
+    rt: &HostRuntime,
+    path: &str,
+    behind: Option<&'f AtomicBool>,
+    sets: &'f AtomicBool,
+) -> Result<(Lines<'f>, Device<Stdout>), Fault<'static>> {
+    let Ok(file) = fs::open(rt, path) else {
+        return Err(Fault::NotHeld);
+    };
+    let lines = Lines {
+        file: Device::new(file),
+        behind,
+        sets,
+    };
+    Ok((lines, Device::new(rt.stdout())))
+}
+
+// The lines of four files: those of the second behind those of the first, those of the third once the second's call is at its
+// place, and those of the fourth behind those of the second.
+fn pairs_of<'f>(
+    rt: &HostRuntime,
+    files: &[String],
+    flags: &'f Flags,
+) -> Result<Vec<(Lines<'f>, Device<Stdout>)>, Fault<'static>> {
+    let [before, held, other, behind] = files else {
+        return Err(Fault::Usage);
+    };
+    let mut pairs = Vec::new(rt.alloc());
+    pairs.push(pair_of(rt, before.as_str(), None, &flags.before)?)?;
+    pairs.push(pair_of(rt, held.as_str(), Some(&flags.before), &flags.held)?)?;
+    pairs.push(pair_of(rt, other.as_str(), Some(&flags.at_place), &flags.other)?)?;
+    pairs.push(pair_of(rt, behind.as_str(), Some(&flags.held), &flags.behind)?)?;
+    Ok(pairs)
+}
+
+/// Answers the lines of the files by a pass each, on standard output, with the second pass's call held up at the place, and has
+/// all calls certified.
+pub fn answer<'a, N: Names + Send + Sync, R: Threads + Wait + Sync>(
+    rt: &HostRuntime,
+    threads: &R,
+    house: House<N>,
+    passes: Vec<Pass<N>>,
+    place: Place,
+    files: &[String],
+) -> Result<(), Fault<'a>>
+where
+    N::BookEntries: Send + Sync,
+    N::BookAmounts: Send + Sync,
+    N::AccountEntries: Send + Sync,
+    N::AccountAmounts: Send + Sync,
+    N::Events: Send + Sync,
+    requires book_parts { (N.BookEntries.all ≡ N.BookEntries.parts) × (N.BookAmounts.all ≡ N.BookAmounts.parts) }
+    requires account_parts { (N.AccountEntries.all ≡ N.AccountEntries.parts) × (N.AccountAmounts.all ≡ N.AccountAmounts.parts) }
+    requires pass_parts { N.Events.all ≡ N.Events.parts }
+{
+    let flags = Flags::new();
+    let gate = Holding {
+        pass: 1,
+        place,
+        flags: &flags,
+    };
+    let pairs = pairs_of(rt, files, &flags)?;
+    let passes = answer_pairs(rt.alloc(), threads, &house, passes, pairs, &gate)?;
+    end(rt.alloc(), house, passes)?;
+    if flags.was_held.load(Ordering::SeqCst) {
+        Ok(())
+    } else {
+        Err(Fault::NotHeld)
+    }
+}

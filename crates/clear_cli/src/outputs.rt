@@ -1,0 +1,223 @@
+//! The files that are written of a house that has ended.
+
+ghost use Rattle.std.specs.Prelude.{◌≡◌, ◌++◌, IfErr, IfOk, OnOk, filter, map, not, string_bytes};
+ghost use Rattle.ocpi_types.specs.Config.{is_operator};
+ghost use Rattle.house_statements.specs.Statement.{statement_text};
+ghost use Rattle.netting_positions.specs.Netting.{parties};
+ghost use Rattle.netting_positions.specs.Statement.{statement_rows};
+ghost use Rattle.plain_house.specs.Entries.{book_entries, period_of};
+ghost use Rattle.plain_house.specs.Legal.{IsLegal};
+ghost use Rattle.plain_house.specs.Obligations.{obligations};
+ghost use Rattle.clear_cli.specs.Folder.{AreLeft, AreWritten, FolderWords, IsFileLeft, IsFileWritten};
+ghost use Rattle.clear_cli.specs.Outputs.{order_output, outputs, statement_name, statement_output, statements};
+
+use crate::folder::{Folder, write_file};
+use crate::schedule_text::WriteFault;
+use house_statements::{statement_rows, write_order, write_statement};
+use ocpi_types::{Config, Party};
+use plain_house::{Event, legal_lists_can_be_netted, period_after};
+use std::alloc::{AllocError, Global};
+
+// How many periods are closed.
+fn periods_closed(events: &[Event]) -> u64
+    ensures { result ≡ period_of events.now }
+{
+    let mut periods = 0;
+    let mut rest = events;
+    while let Some((event, later)) = rest.split_first() {
+        periods = period_after(periods, event);
+        rest = later;
+    }
+    periods
+}
+
+fn add_operators(parties: &mut Vec<Party>, config: &Config) -> Result<(), AllocError>
+    ensures { OnOk result (parties.new.items ≡ parties.old.items ++ map (λ operator. operator.party) config.now.operators) }
+{
+    for operator in config.operators.as_slice() {
+        parties.push(operator.party)?;
+    }
+    Ok(())
+}
+
+fn add_providers(parties: &mut Vec<Party>, config: &Config) -> Result<(), AllocError>
+    ensures { OnOk result (parties.new.items ≡ parties.old.items
+        ++ filter (λ party. not (is_operator config.now party)) (map (λ provider. provider.party) config.now.providers)) }
+{
+    for provider in config.providers.as_slice() {
+        if !config.is_operator(&provider.party) {
+            parties.push(provider.party)?;
+        }
+    }
+    Ok(())
+}
+
+// The operators, and then the providers that are no operators.
+fn parties_of(alloc: Global, config: &Config) -> Result<Vec<Party>, AllocError>
+    ensures { IfOk result (λ found. found.items ≡ parties config.now) }
+{
+    let mut parties = Vec::new(alloc);
+    add_operators(&mut parties, config)?;
+    add_providers(&mut parties, config)?;
+    Ok(parties)
+}
+
+fn statement_name(alloc: Global, period: u64, party: &Party) -> Result<String, AllocError>
+    ensures { IfOk result (λ name. string_bytes name ≡ statement_name period party.now) }
+{
+    let country_code = party.country_code.as_str();
+    let party_id = party.party_id.as_str();
+    format!(in alloc; "statement-{period}-{country_code}-{party_id}.csv")
+}
+
+fn statement(
+    alloc: Global,
+    config: &Config,
+    events: &[Event],
+    period: u64,
+    party: &Party,
+) -> Result<Vec<u8>, AllocError>
+    requires { IsLegal config.now events.now }
+    ensures { IfOk result (λ text. text.items ≡ statement_text (statement_rows party.now (obligations period (book_entries events.now)))) }
+{
+    config.is_bounded();
+    legal_lists_can_be_netted();
+    let rows = statement_rows(alloc, config, events, period, party)?;
+    write_statement(alloc, rows.as_slice())
+}
+
+fn write_one<O: Folder>(
+    alloc: Global,
+    config: &Config,
+    events: &[Event],
+    folder: &mut O,
+    period: u64,
+    party: &Party,
+) -> Result<(), WriteFault>
+    requires { IsLegal config.now events.now }
+    ensures ok { let words : FolderWords O O.File = record {
+      makes = O.makes;
+      refuses = O.refuses;
+      takes = O.File.takes;
+      failed = O.File.failed;
+    } in OnOk result (IsFileWritten words (statement_output events.now period party.now) folder.old folder.new) }
+    ensures err { let words : FolderWords O O.File = record {
+      makes = O.makes;
+      refuses = O.refuses;
+      takes = O.File.takes;
+      failed = O.File.failed;
+    } in IfErr result (λ fault. IsFileLeft words (statement_output events.now period party.now) folder.old folder.new fault) }
+{
+    let name = statement_name(alloc, period, party)?;
+    let text = statement(alloc, config, events, period, party)?;
+    write_file(folder, name.as_str(), text.as_slice())
+}
+
+// Writes the statements of a period.
+fn write_period<O: Folder>(
+    alloc: Global,
+    config: &Config,
+    events: &[Event],
+    folder: &mut O,
+    period: u64,
+    parties: &[Party],
+) -> Result<(), WriteFault>
+    requires { IsLegal config.now events.now }
+    ensures ok { let words : FolderWords O O.File = record {
+      makes = O.makes;
+      refuses = O.refuses;
+      takes = O.File.takes;
+      failed = O.File.failed;
+    } in OnOk result (AreWritten words (map (statement_output events.now period) parties.now) folder.old folder.new) }
+    ensures err { let words : FolderWords O O.File = record {
+      makes = O.makes;
+      refuses = O.refuses;
+      takes = O.File.takes;
+      failed = O.File.failed;
+    } in IfErr result (λ fault. AreLeft words (map (statement_output events.now period) parties.now) folder.old folder.new fault) }
+{
+    for party in parties {
+        write_one(alloc, config, events, folder, period, party)?;
+    }
+    Ok(())
+}
+
+// Writes the statements of so many periods.
+fn write_periods<O: Folder>(
+    alloc: Global,
+    config: &Config,
+    events: &[Event],
+    folder: &mut O,
+    parties: &[Party],
+    periods: u64,
+) -> Result<(), WriteFault>
+    requires { IsLegal config.now events.now }
+    ensures ok { let words : FolderWords O O.File = record {
+      makes = O.makes;
+      refuses = O.refuses;
+      takes = O.File.takes;
+      failed = O.File.failed;
+    } in OnOk result (AreWritten words (statements events.now parties.now periods) folder.old folder.new) }
+    ensures err { let words : FolderWords O O.File = record {
+      makes = O.makes;
+      refuses = O.refuses;
+      takes = O.File.takes;
+      failed = O.File.failed;
+    } in IfErr result (λ fault. AreLeft words (statements events.now parties.now periods) folder.old folder.new fault) }
+{
+    for period in 0..periods {
+        write_period(alloc, config, events, folder, period, parties)?;
+    }
+    Ok(())
+}
+
+fn write_order_file<O: Folder>(
+    alloc: Global,
+    events: &[Event],
+    folder: &mut O,
+) -> Result<(), WriteFault>
+    ensures ok { let words : FolderWords O O.File = record {
+      makes = O.makes;
+      refuses = O.refuses;
+      takes = O.File.takes;
+      failed = O.File.failed;
+    } in OnOk result (IsFileWritten words (order_output events.now) folder.old folder.new) }
+    ensures err { let words : FolderWords O O.File = record {
+      makes = O.makes;
+      refuses = O.refuses;
+      takes = O.File.takes;
+      failed = O.File.failed;
+    } in IfErr result (λ fault. IsFileLeft words (order_output events.now) folder.old folder.new fault) }
+{
+    let text = write_order(alloc, events)?;
+    write_file(folder, "order.csv", text.as_slice())
+}
+
+/// Writes the order of the events, and the statement of each party in each closed period. The periods are counted.
+pub fn write_outputs<O: Folder>(
+    alloc: Global,
+    config: &Config,
+    events: &[Event],
+    folder: &mut O,
+) -> Result<u64, WriteFault>
+    requires { IsLegal config.now events.now }
+    ensures periods { IfOk result (λ periods. periods ≡ period_of events.now) }
+    ensures ok { let words : FolderWords O O.File = record {
+      makes = O.makes;
+      refuses = O.refuses;
+      takes = O.File.takes;
+      failed = O.File.failed;
+    } in OnOk result (AreWritten words (outputs config.now events.now) folder.old folder.new) }
+    ensures err { let words : FolderWords O O.File = record {
+      makes = O.makes;
+      refuses = O.refuses;
+      takes = O.File.takes;
+      failed = O.File.failed;
+    } in IfErr result (λ fault. AreLeft words (outputs config.now events.now) folder.old folder.new fault) }
+{
+    let parties = parties_of(alloc, config)?;
+    let periods = periods_closed(events);
+    write_order_file(alloc, events, folder)?;
+    write_periods(alloc, config, events, folder, parties.as_slice(), periods)?;
+    Ok(periods)
+}

@@ -1,0 +1,300 @@
+//! The command `run`.
+
+ghost use Rattle.std.specs.Prelude.{◌≡◌, ◌↔◌, ◌⊎◌, ◌≤◌, ℕ, [], List, true, IfErr, IfOk, MatchResult, length, map, string_bytes, vec_len};
+ghost use Rattle.plain_house.specs.Entries.{period_of};
+ghost use Rattle.plain_house.specs.Legal.{IsLegal};
+ghost use Rattle.shared_house.specs.declared.made.Made.{Made};
+ghost use Rattle.shared_house.specs.Finished.{IsFinished};
+ghost use Rattle.clear_cli.specs.Fault.{AreTold, exit_status, fault_text};
+ghost use Rattle.clear_cli.specs.Folder.{FolderWords};
+ghost use Rattle.clear_cli.specs.HouseRun.{IsUnfinished};
+ghost use Rattle.clear_cli.specs.Inner.Running.{HasNotBegun, HasWorked, RunsUnder};
+ghost use Rattle.clear_cli.specs.Run.{Fails, IsDone, IsEnded, IsLeftOpen, IsLineLeft, IsLineWritten, Run, RunWords, counts_of, counts_text, worker_line, worker_lines, worker_text};
+
+use crate::differences::difference_count;
+use crate::fault::{Fault, tell, tell_of_file};
+use crate::folder::Folder;
+use crate::house_run::{HouseRun, run_house};
+use crate::opening::{Named, Opened, open};
+use crate::outputs::write_outputs;
+use crate::script::read_config;
+use ocpi_types::{Config, TryCopy};
+use plain_house::Event;
+use platform_workers::WorkerEnd;
+use request_lines::{ScriptFault, Sink, Source, write_all};
+use shared_house::FinishFault;
+use std::alloc::{AllocError, Global};
+use std::sync::Wait;
+use std::thread::Threads;
+
+// Why a worker failed, whose file has this path.
+fn worker_fault<'a>(path: &'a str, fault: ScriptFault) -> Fault<'a>
+    ensures { fault_text result ≡ worker_text path.now fault }
+{
+    match fault {
+        ScriptFault::Read => Fault::CannotRead { path },
+        ScriptFault::Write { .. } => Fault::CannotWrite,
+        ScriptFault::NoMemory => Fault::NoMemory,
+        ScriptFault::LineTooLong { line } => Fault::LineTooLong { line },
+    }
+}
+
+// Whether a worker was done. If it failed, that is told.
+fn tell_if_failed<F: Sink>(faults: &mut F, named: &Named, end: WorkerEnd) -> bool
+    ensures told { AreTold F.takes F.failed faults.old (worker_line named.now end) faults.new }
+    ensures done { (result ≡ true) ↔ (worker_line named.now end ≡ []) }
+{
+    match end {
+        WorkerEnd::Done(_) => true,
+        WorkerEnd::Failed(fault) => {
+            let fault = worker_fault(named.path(), fault);
+            tell_of_file(faults, named.number(), &fault);
+            false
+        }
+    }
+}
+
+// Whether all workers were done. Those that failed are told.
+fn tell_failed<F: Sink>(faults: &mut F, named: &[Named], ends: &[WorkerEnd]) -> bool
+    requires { length named.now ≡ length ends.now }
+    ensures told { AreTold F.takes F.failed faults.old (worker_lines named.now ends.now) faults.new }
+    ensures done { (result ≡ true) ↔ (worker_lines named.now ends.now ≡ []) }
+{
+    let mut are_done = true;
+    for place in 0..named.len() {
+        let is_done = tell_if_failed(faults, &named[place], ends[place]);
+        are_done = are_done && is_done;
+    }
+    are_done
+}
+
+fn counts_text(
+    alloc: Global,
+    events: usize,
+    periods: u64,
+    differences: u128,
+) -> Result<String, AllocError>
+    ensures { IfOk result (λ text. string_bytes text ≡ counts_text events periods differences) }
+{
+    format!(in alloc; "events {events} periods {periods} differences {differences}\n")
+}
+
+fn write_text<W: Sink>(writer: &mut W, text: &str) -> Result<(), Fault<'static>>
+    ensures written { MatchResult result (λ _. IsLineWritten W.takes W.failed text.now writer.old writer.new)
+        (λ fault. IsLineLeft W.takes W.failed text.now writer.old writer.new fault) }
+    ensures status { IfErr result (λ fault. exit_status fault ≡ 1) }
+{
+    match write_all(writer, text.as_bytes()) {
+        Ok(()) => Ok(()),
+        Err(_) => Err(Fault::CannotWrite),
+    }
+}
+
+// Rates the CDRs of the events again, and writes the last line.
+fn write_counts<R: Threads + Sync, W: Sink>(
+    rt: &R,
+    alloc: Global,
+    config: &Config,
+    events: Vec<Event>,
+    periods: u64,
+    writer: &mut W,
+) -> Result<(), Fault<'static>>
+    requires { periods ≡ period_of events.items }
+    ensures written { MatchResult result (λ _. IsLineWritten W.takes W.failed (counts_of config.now events.items) writer.old writer.new)
+        (λ fault. IsLineLeft W.takes W.failed (counts_of config.now events.items) writer.old writer.new fault) }
+    ensures status { IfErr result (λ fault. exit_status fault ≡ 1) }
+{
+    let count = events.len();
+    let differences = difference_count(rt, alloc, config, events)?;
+    let text = counts_text(alloc, count, periods, differences)?;
+    write_text(writer, text.as_str())
+}
+
+// Writes the files of a house that finished, and the last line.
+fn write_end<R: Threads + Sync, O: Folder, W: Sink>(
+    rt: &R,
+    alloc: Global,
+    config: &Config,
+    events: Vec<Event>,
+    folder: &mut O,
+    writer: &mut W,
+) -> Result<(), Fault<'static>>
+    requires { IsLegal config.now events.items }
+    ensures ended { let words : FolderWords O O.File = record {
+      makes = O.makes;
+      refuses = O.refuses;
+      takes = O.File.takes;
+      failed = O.File.failed;
+    } in (calls : List (List Made)) → IsFinished config.now calls events.items →
+        MatchResult result (λ _. IsEnded words W.takes W.failed config.now calls folder.old folder.new writer.old writer.new)
+        (λ fault. IsLeftOpen words W.takes W.failed config.now calls folder.old folder.new writer.old writer.new fault) }
+    ensures status { IfErr result (λ fault. exit_status fault ≡ 1) }
+{
+    let periods = write_outputs(alloc, config, events.as_slice(), folder)?;
+    write_counts(rt, alloc, config, events, periods, writer)
+}
+
+// Writes the files and the last line, where the house finished.
+fn end_house<R: Threads + Sync, O: Folder, W: Sink>(
+    rt: &R,
+    alloc: Global,
+    config: &Config,
+    finished: Result<Vec<Event>, FinishFault>,
+    folder: &mut O,
+    writer: &mut W,
+) -> Result<(), Fault<'static>>
+    requires { IfOk finished (λ events. IsLegal config.now events.items) }
+    ensures ended { let words : FolderWords O O.File = record {
+      makes = O.makes;
+      refuses = O.refuses;
+      takes = O.File.takes;
+      failed = O.File.failed;
+    } in (calls : List (List Made)) →
+        MatchResult finished (λ events. IsFinished config.now calls events.items) (λ fault. IsUnfinished config.now calls fault) →
+        MatchResult result (λ _. IsEnded words W.takes W.failed config.now calls folder.old folder.new writer.old writer.new)
+        (λ fault. IsLeftOpen words W.takes W.failed config.now calls folder.old folder.new writer.old writer.new fault) }
+    ensures status { IfErr result (λ fault. exit_status fault ≡ 1) }
+{
+    match finished {
+        Ok(events) => write_end(rt, alloc, config, events, folder, writer),
+        Err(fault) => Err(Fault::from(fault)),
+    }
+}
+
+// Answers the files that were opened, tells which workers failed, and ends the house. True where none failed.
+fn run_opened<R: Threads + Wait + Sync, I: Source + Drop + Send, O: Folder, W: Sink, F: Sink>(
+    rt: &R,
+    alloc: Global,
+    config: &Config,
+    opened: Opened<I, O::File>,
+    folder: &mut O,
+    writer: &mut W,
+    faults: &mut F,
+) -> Result<bool, Fault<'static>>
+    requires { vec_len opened.named ≡ vec_len opened.pairs }
+    ensures ended { let words : RunWords I O O.File W = record {
+      gives = I.gives;
+      at_end = I.at_end;
+      reader_failed = I.failed;
+      makes = O.makes;
+      refuses = O.refuses;
+      takes = O.File.takes;
+      file_failed = O.File.failed;
+      writes = W.takes;
+      writer_failed = W.failed;
+    } in HasNotBegun folder.old folder.new writer.old writer.new faults.old faults.new result
+        ⊎ HasWorked words F.takes F.failed config.now opened.named.items opened.pairs.items folder.old folder.new writer.old writer.new faults.old faults.new result }
+    ensures status { IfErr result (λ fault. exit_status fault ≡ 1) }
+{
+    let Opened { named, pairs } = opened;
+    let HouseRun { ends, finished } = run_house(rt, alloc, config.copy(alloc)?, pairs)?;
+    let are_done = tell_failed(faults, named.as_slice(), ends.as_slice());
+    end_house(rt, alloc, config, finished, folder, writer)?;
+    Ok(are_done)
+}
+
+// The same from the opening on. True where no line was told.
+fn run_under<R: Threads + Wait + Sync, I: Source + Drop + Send, O: Folder, W: Sink, F: Sink>(
+    rt: &R,
+    alloc: Global,
+    config: &Config,
+    files: Vec<(String, Option<I>)>,
+    folder: &mut O,
+    writer: &mut W,
+    faults: &mut F,
+) -> Result<bool, Fault<'static>>
+    ensures ended { let words : RunWords I O O.File W = record {
+      gives = I.gives;
+      at_end = I.at_end;
+      reader_failed = I.failed;
+      makes = O.makes;
+      refuses = O.refuses;
+      takes = O.File.takes;
+      file_failed = O.File.failed;
+      writes = W.takes;
+      writer_failed = W.failed;
+    } in let run : Run I O W = record {
+      files = map (λ file. record { path = string_bytes file.0; reader = file.1 }) files.items;
+      folder = folder.old;
+      folder' = folder.new;
+      writer = writer.old;
+      writer' = writer.new;
+    } in RunsUnder words F.takes F.failed config.now run faults.old faults.new result }
+    ensures status { IfErr result (λ fault. exit_status fault ≡ 1) }
+{
+    let count = files.len();
+    let opened = open(alloc, folder, faults, files)?;
+    if opened.pairs.is_empty() {
+        return Ok(false);
+    }
+    let are_opened = opened.named.len() == count;
+    let are_done = run_opened(rt, alloc, config, opened, folder, writer, faults)?;
+    Ok(are_opened && are_done)
+}
+
+/// Answers the lines of the files by one house of the configuration of these bytes, each file by a thread of its own where one can
+/// be made, writes what the house leaves, and gives the exit status. Each file is its path and, if it could be opened, its reader.
+/// `folder` makes the files that are written, `writer` takes the last line, and faults are told on `faults`, each in one line.
+pub fn run<R: Threads + Wait + Sync, I: Source + Drop + Send, O: Folder, W: Sink, F: Sink>(
+    rt: &R,
+    alloc: Global,
+    config: &[u8],
+    files: Vec<(String, Option<I>)>,
+    folder: &mut O,
+    writer: &mut W,
+    faults: &mut F,
+) -> u8
+    ensures status { result ≤ 1 }
+    ensures done { let words : RunWords I O O.File W = record {
+      gives = I.gives;
+      at_end = I.at_end;
+      reader_failed = I.failed;
+      makes = O.makes;
+      refuses = O.refuses;
+      takes = O.File.takes;
+      file_failed = O.File.failed;
+      writes = W.takes;
+      writer_failed = W.failed;
+    } in let run : Run I O W = record {
+      files = map (λ file. record { path = string_bytes file.0; reader = file.1 }) files.items;
+      folder = folder.old;
+      folder' = folder.new;
+      writer = writer.old;
+      writer' = writer.new;
+    } in result ≡ 0 → IsDone words run config.now }
+    ensures silent { result ≡ 0 → faults.new ≡ faults.old }
+    ensures fault { let words : RunWords I O O.File W = record {
+      gives = I.gives;
+      at_end = I.at_end;
+      reader_failed = I.failed;
+      makes = O.makes;
+      refuses = O.refuses;
+      takes = O.File.takes;
+      file_failed = O.File.failed;
+      writes = W.takes;
+      writer_failed = W.failed;
+    } in let run : Run I O W = record {
+      files = map (λ file. record { path = string_bytes file.0; reader = file.1 }) files.items;
+      folder = folder.old;
+      folder' = folder.new;
+      writer = writer.old;
+      writer' = writer.new;
+    } in result ≡ 1 → (lines : List (List ℕ)) × Fails words run config.now lines
+        × AreTold F.takes F.failed faults.old lines faults.new }
+{
+    let config = match read_config(alloc, config) {
+        Ok(config) => config,
+        Err(fault) => {
+            tell(faults, &fault);
+            return fault.status();
+        }
+    };
+    match run_under(rt, alloc, &config, files, folder, writer, faults) {
+        Ok(true) => 0,
+        Ok(false) => 1,
+        Err(fault) => {
+            tell(faults, &fault);
+            fault.status()
+        }
+    }
+}

@@ -1,0 +1,4 @@
+mod AnswerLemmas
+mod CallLemmas
+mod EachLemmas
+mod WorkerLemmas

@@ -1,0 +1,4 @@
+pub mod Inner
+pub mod Laws
+pub mod Platforms
+pub mod Workers

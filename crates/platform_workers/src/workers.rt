@@ -1,0 +1,157 @@
+//! One worker for each pass.
+
+ghost use Rattle.std.specs.Prelude.{◌≡◌, ℕ, ◌<◌, IfErr, IfOk, slice_index_or, vec_len};
+ghost use Rattle.platform_workers.specs.Workers.{EachRan, Streams, WorkerRan, end_of};
+
+use super::jobs::{Job, WorkerEnd, ended, jobs_of};
+use super::platform::Platform;
+use ocpi_json::Room;
+use request_lines::{Count, ScriptFault, Sink, Source, run_lines};
+use shared_house::{Configured, Gate, House, Names, Part, Pass};
+use std::alloc::Global;
+use std::sync::Wait;
+use std::thread;
+use std::thread::Threads;
+
+/// Answers the lines of the reader in turn, until it ends, with the pass.
+fn run_platform<N: Names, I: Source, O: Sink, R: Wait, G: Gate>(
+    rt: &R,
+    alloc: Global,
+    house: &House<N>,
+    gate: &G,
+    pass: &mut Pass<N>,
+    reader: &mut I,
+    writer: &mut O,
+) -> Result<Count, ScriptFault>
+    ensures { let streams : Streams I O = record {
+      gives = I.gives;
+      at_end = I.at_end;
+      reader_failed = I.failed;
+      takes = O.takes;
+      writer_failed = O.failed;
+    } in WorkerRan streams N.BookEntries.config pass.old (reader.old, writer.old) pass.new (end_of result) }
+{
+    let mut room = Room::new(alloc);
+    let mut platform = Platform {
+        rt,
+        house,
+        gate,
+        pass,
+        room: &mut room,
+    };
+    run_lines(alloc, reader, writer, &mut platform)
+}
+
+/// Runs the worker of a job.
+fn work<N: Names, I: Source + Drop, O: Sink + Drop, R: Wait, G: Gate>(
+    rt: &R,
+    alloc: Global,
+    house: &House<N>,
+    gate: &G,
+    job: &mut Job<N, I, O>,
+)
+    ensures { let streams : Streams I O = record {
+      gives = I.gives;
+      at_end = I.at_end;
+      reader_failed = I.failed;
+      takes = O.takes;
+      writer_failed = O.failed;
+    } in WorkerRan streams N.BookEntries.config job.old.pass (job.old.reader, job.old.writer) job.new.pass job.new.end }
+{
+    let Job {
+        pass,
+        reader,
+        writer,
+        end,
+    } = job;
+    *end = match run_platform(rt, alloc, house, gate, pass, reader, writer) {
+        Ok(count) => WorkerEnd::Done(count),
+        Err(fault) => WorkerEnd::Failed(fault),
+    };
+}
+
+/// Runs the worker of each job, in a thread of its own where one can be made.
+fn run_jobs<
+    N: Names + Send + Sync,
+    I: Source + Drop + Send,
+    O: Sink + Drop + Send,
+    R: Threads + Wait + Sync,
+    G: Gate + Sync,
+>(rt: &R, alloc: Global, house: &House<N>, gate: &G, jobs: &mut Vec<Job<N, I, O>>)
+where
+    N::BookEntries: Send + Sync,
+    N::BookAmounts: Send + Sync,
+    N::AccountEntries: Send + Sync,
+    N::AccountAmounts: Send + Sync,
+    N::Events: Send + Sync,
+    ensures len { vec_len jobs.new ≡ vec_len jobs.old }
+    ensures each { let streams : Streams I O = record {
+      gives = I.gives;
+      at_end = I.at_end;
+      reader_failed = I.failed;
+      takes = O.takes;
+      writer_failed = O.failed;
+    } in (place : ℕ) (job : _) → place < vec_len jobs.old →
+        WorkerRan streams N.BookEntries.config (slice_index_or jobs.old.items place job).pass
+        ((slice_index_or jobs.old.items place job).reader, (slice_index_or jobs.old.items place job).writer)
+        (slice_index_or jobs.new.items place job).pass (slice_index_or jobs.new.items place job).end }
+{
+    let threads = jobs.len();
+    if threads > 0 {
+        thread::for_each_mut(
+            rt,
+            jobs,
+            threads,
+            &|_, job| { work(rt, alloc, house, gate, job) },
+        );
+    }
+}
+
+/// Answers the lines of each pair's reader onto its writer, with the pass in the same place: each pair in a thread of its own, or
+/// one after another where no thread can be made. The passes come back in their order, each with how its worker ended.
+///
+/// # Errors
+///
+/// The passes, where memory is refused: no worker has begun then, and the pairs are dropped.
+pub fn run_platforms<
+    N: Names + Send + Sync,
+    I: Source + Drop + Send,
+    O: Sink + Drop + Send,
+    R: Threads + Wait + Sync,
+    G: Gate + Sync,
+>(
+    rt: &R,
+    alloc: Global,
+    house: &House<N>,
+    passes: Vec<Pass<N>>,
+    pairs: Vec<(I, O)>,
+    gate: &G,
+) -> Result<Vec<(Pass<N>, WorkerEnd)>, Vec<Pass<N>>>
+where
+    N::BookEntries: Send + Sync,
+    N::BookAmounts: Send + Sync,
+    N::AccountEntries: Send + Sync,
+    N::AccountAmounts: Send + Sync,
+    N::Events: Send + Sync,
+    requires len { vec_len passes ≡ vec_len pairs }
+    ensures each { let streams : Streams I O = record {
+      gives = I.gives;
+      at_end = I.at_end;
+      reader_failed = I.failed;
+      takes = O.takes;
+      writer_failed = O.failed;
+    } in IfOk result (λ ended. EachRan streams N.BookEntries.config passes.items pairs.items ended.items) }
+    ensures len { IfOk result (λ ended. vec_len ended ≡ vec_len passes) }
+    ensures err { IfErr result (λ unchanged. unchanged.items ≡ passes.items) }
+{
+    let count = passes.len();
+    let Ok(jobs) = Vec::with_capacity(alloc, count) else {
+        return Err(passes);
+    };
+    let Ok(places) = Vec::with_capacity(alloc, count) else {
+        return Err(passes);
+    };
+    let mut jobs = jobs_of(jobs, passes, pairs);
+    run_jobs(rt, alloc, house, gate, &mut jobs);
+    Ok(ended(places, jobs))
+}
