@@ -3,6 +3,8 @@ use Rattle.std.proofs.Common.{◌≡◌, ℕ, zero, suc, ◌+◌, ◌-◌, ◌<�
 use Rattle.std.proofs.lemmas.List.{take_more, map-append}
 use Rattle.ocpi_types.specs.declared.party.Party.{Party}
 use Rattle.plain_house.specs.declared.event.Event.{Event}
+use Rattle.plain_house.specs.Entries.{book_entries}
+use Rattle.plain_house.specs.Obligations.{GoesOnFrom, obligations}
 use Rattle.clear_cli.specs.declared.schedule_text.WriteFault.{WriteFault}
 use Rattle.clear_cli.specs.Folder.{AreLeft, AreWritten, FolderWords, IsFileLeft, IsFileWritten, Output}
 use Rattle.clear_cli.specs.Outputs.{statement_output, statements}
@@ -67,29 +69,43 @@ module _ {O V : Type 0} (words : FolderWords O V) where
 
 -- ---- periods
 
-pub one_period_more : (events : List Event) (among : List Party) (period : ℕ) → statements events among (period + 1) ≡ statements events among period ++ map (statement_output events period) among
+pub one_period_more : (events : List Event) (among : List Party) (period : ℕ) → statements events among (period + 1) ≡ statements events among period ++ map (statement_output (obligations period (book_entries events)) period) among
 one_period_more events among period = ap (statements events among) (next period) where
   next : (n : ℕ) → n + 1 ≡ suc n
   next n = omega arith
+
+-- where what is owed in the first period of the rest is what is owed in this period of all
+pub owed_first : (events rest first : List Event) (period : ℕ) → GoesOnFrom events period rest → obligations 0 (book_entries first) ≡ obligations 0 (book_entries rest) →
+    obligations 0 (book_entries first) ≡ obligations period (book_entries events)
+owed_first events rest first period from same = same ∙ from 0 ∙ ap (λ n. obligations n (book_entries events)) (none period)
+  where
+    none : (n : ℕ) → n + 0 ≡ n
+    none n = omega arith
+
+pub goes_on : (events rest later : List Event) (period : ℕ) → GoesOnFrom events period rest → GoesOnFrom rest 1 later → GoesOnFrom events (period + 1) later
+goes_on events rest later period from next = λ number. next number ∙ from (1 + number) ∙ ap (λ n. obligations n (book_entries events)) (sum period number)
+  where
+    sum : (m n : ℕ) → m + (1 + n) ≡ (m + 1) + n
+    sum m n = omega arith
 
 later_periods : (events : List Event) (among : List Party) (m n : ℕ) → (more : List Output) × (statements events among (n + m) ≡ statements events among m ++ more)
 later_periods events among m zero =
     let same : 0 + m ≡ m = omega arith in ([], ap (statements events among) same ∙ sym (append-nil (statements events among m)))
 later_periods events among m (suc n) =
     let earlier = later_periods events among m n in
-    let last : List Output = map (statement_output events (n + m)) among in
+    let last : List Output = map (statement_output (obligations (n + m) (book_entries events)) (n + m)) among in
     let next : suc n + m ≡ suc (n + m) = omega arith in
     (earlier.0 ++ last, ap (statements events among) next ∙ ap (λ (l : List Output). l ++ last) earlier.1 ∙ append_assoc (statements events among m) earlier.0 last)
 
 -- the files of the periods before one are written, and not all of that one
 pub left_in_period : {O V : Type 0} (words : FolderWords O V) (events : List Event) (among : List Party) (period periods : ℕ) (a b c : O) (fault : WriteFault) → period < periods →
-    AreWritten words (statements events among period) a b → AreLeft words (map (statement_output events period) among) b c fault → AreLeft words (statements events among periods) a c fault
+    AreWritten words (statements events among period) a b → AreLeft words (map (statement_output (obligations period (book_entries events)) period) among) b c fault → AreLeft words (statements events among periods) a c fault
 left_in_period {O} {V} words events among period periods a b c fault within before left =
     let n : ℕ = periods - (period + 1) in
     let sum : n + (period + 1) ≡ periods = omega (arith, within) in
     let more = later_periods events among (period + 1) n in
-    let whole : statements events among periods ≡ (statements events among period ++ map (statement_output events period) among) ++ more.0 =
+    let whole : statements events among periods ≡ (statements events among period ++ map (statement_output (obligations period (book_entries events)) period) among) ++ more.0 =
     ap (statements events among) (sym sum) ∙ more.1 ∙ ap (λ (l : List Output). l ++ more.0) (one_period_more events among period) in
     subst (λ (l : List Output). AreLeft words l a c fault) (sym whole)
-    (left_in_front words (statements events among period ++ map (statement_output events period) among) more.0 a c fault
-    (left_behind words (statements events among period) (map (statement_output events period) among) a b c fault before left))
+    (left_in_front words (statements events among period ++ map (statement_output (obligations period (book_entries events)) period) among) more.0 a c fault
+    (left_behind words (statements events among period) (map (statement_output (obligations period (book_entries events)) period) among) a b c fault before left))

@@ -5,5 +5,6 @@ pub mod Parts
 pub mod ReadingFile
 pub mod RecordLists
 pub mod Running
+pub mod Stated
 pub mod UnderConfig
 pub mod WritingLines

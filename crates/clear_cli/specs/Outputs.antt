@@ -2,6 +2,7 @@
 use Rattle.std.specs.Prelude.{ℕ, zero, suc, List, [], ◌∷◌, ◌++◌, codes, decimal, map}
 use Rattle.ocpi_types.specs.declared.config.Config.{Config}
 use Rattle.ocpi_types.specs.declared.party.Party.{Party}
+use Rattle.netting_positions.specs.declared.obligation.Obligation.{Obligation}
 use Rattle.netting_positions.specs.Netting.{parties}
 use Rattle.netting_positions.specs.Statement.{statement_rows}
 use Rattle.plain_house.specs.declared.event.Event.{Event}
@@ -20,17 +21,18 @@ abbrev pub statement_name : ℕ → Party → List ℕ
 statement_name period party =
     codes "statement-" ++ (decimal period ++ (codes "-" ++ (party.country_code ++ (codes "-" ++ (party.party_id ++ codes ".csv")))))
 
--- the statement of a party in a period
-abbrev pub statement_output : List Event → ℕ → Party → Output
-statement_output events period party = record {
+-- a party's statement of a period, of what is owed in it
+abbrev pub statement_output : List Obligation → ℕ → Party → Output
+statement_output owed period party = record {
   name = statement_name period party;
-  text = statement_text (statement_rows party (obligations period (book_entries events)));
+  text = statement_text (statement_rows party owed);
 }
 
 -- the statements of these parties in each of so many periods, from period 0
 abbrev pub statements : List Event → List Party → ℕ → List Output
 statements events among zero = []
-statements events among (suc period) = statements events among period ++ map (statement_output events period) among
+statements events among (suc period) =
+    statements events among period ++ map (statement_output (obligations period (book_entries events)) period) among
 
 -- The order, and the statements of each closed period: those of the operators in the order of the configuration, and then those
 -- of the providers that are no operators.

@@ -9,13 +9,14 @@ ghost use Rattle.plain_house.specs.Entries.{book_entries, period_of};
 ghost use Rattle.plain_house.specs.Legal.{IsLegal};
 ghost use Rattle.plain_house.specs.Obligations.{obligations};
 ghost use Rattle.clear_cli.specs.Folder.{AreLeft, AreWritten, FolderWords, IsFileLeft, IsFileWritten};
+ghost use Rattle.clear_cli.specs.Inner.Stated.{CanBeStated};
 ghost use Rattle.clear_cli.specs.Outputs.{order_output, outputs, statement_name, statement_output, statements};
 
 use crate::folder::{Folder, write_file};
 use crate::schedule_text::WriteFault;
 use house_statements::{statement_rows, write_order, write_statement};
 use ocpi_types::{Config, Party};
-use plain_house::{Event, legal_lists_can_be_netted, period_after};
+use plain_house::{Event, legal_lists_can_be_netted, period_after, split_first_period};
 use std::alloc::{AllocError, Global};
 
 // How many periods are closed.
@@ -70,22 +71,21 @@ fn statement_name(alloc: Global, period: u64, party: &Party) -> Result<String, A
     format!(in alloc; "statement-{period}-{country_code}-{party_id}.csv")
 }
 
+// A party's statement of the first period of these events.
 fn statement(
     alloc: Global,
     config: &Config,
     events: &[Event],
-    period: u64,
     party: &Party,
 ) -> Result<Vec<u8>, AllocError>
-    requires { IsLegal config.now events.now }
-    ensures { IfOk result (λ text. text.items ≡ statement_text (statement_rows party.now (obligations period (book_entries events.now)))) }
+    requires { CanBeStated config.now (obligations 0 (book_entries events.now)) }
+    ensures { IfOk result (λ text. text.items ≡ statement_text (statement_rows party.now (obligations 0 (book_entries events.now)))) }
 {
-    config.is_bounded();
-    legal_lists_can_be_netted();
-    let rows = statement_rows(alloc, config, events, period, party)?;
+    let rows = statement_rows(alloc, config, events, 0, party)?;
     write_statement(alloc, rows.as_slice())
 }
 
+// Writes a party's statement of a period, of which these are the events.
 fn write_one<O: Folder>(
     alloc: Global,
     config: &Config,
@@ -94,26 +94,26 @@ fn write_one<O: Folder>(
     period: u64,
     party: &Party,
 ) -> Result<(), WriteFault>
-    requires { IsLegal config.now events.now }
+    requires { CanBeStated config.now (obligations 0 (book_entries events.now)) }
     ensures ok { let words : FolderWords O O.File = record {
       makes = O.makes;
       refuses = O.refuses;
       takes = O.File.takes;
       failed = O.File.failed;
-    } in OnOk result (IsFileWritten words (statement_output events.now period party.now) folder.old folder.new) }
+    } in OnOk result (IsFileWritten words (statement_output (obligations 0 (book_entries events.now)) period party.now) folder.old folder.new) }
     ensures err { let words : FolderWords O O.File = record {
       makes = O.makes;
       refuses = O.refuses;
       takes = O.File.takes;
       failed = O.File.failed;
-    } in IfErr result (λ fault. IsFileLeft words (statement_output events.now period party.now) folder.old folder.new fault) }
+    } in IfErr result (λ fault. IsFileLeft words (statement_output (obligations 0 (book_entries events.now)) period party.now) folder.old folder.new fault) }
 {
     let name = statement_name(alloc, period, party)?;
-    let text = statement(alloc, config, events, period, party)?;
+    let text = statement(alloc, config, events, party)?;
     write_file(folder, name.as_str(), text.as_slice())
 }
 
-// Writes the statements of a period.
+// Writes the statements of a period, of which these are the events.
 fn write_period<O: Folder>(
     alloc: Global,
     config: &Config,
@@ -122,19 +122,19 @@ fn write_period<O: Folder>(
     period: u64,
     parties: &[Party],
 ) -> Result<(), WriteFault>
-    requires { IsLegal config.now events.now }
+    requires { CanBeStated config.now (obligations 0 (book_entries events.now)) }
     ensures ok { let words : FolderWords O O.File = record {
       makes = O.makes;
       refuses = O.refuses;
       takes = O.File.takes;
       failed = O.File.failed;
-    } in OnOk result (AreWritten words (map (statement_output events.now period) parties.now) folder.old folder.new) }
+    } in OnOk result (AreWritten words (map (statement_output (obligations 0 (book_entries events.now)) period) parties.now) folder.old folder.new) }
     ensures err { let words : FolderWords O O.File = record {
       makes = O.makes;
       refuses = O.refuses;
       takes = O.File.takes;
       failed = O.File.failed;
-    } in IfErr result (λ fault. AreLeft words (map (statement_output events.now period) parties.now) folder.old folder.new fault) }
+    } in IfErr result (λ fault. AreLeft words (map (statement_output (obligations 0 (book_entries events.now)) period) parties.now) folder.old folder.new fault) }
 {
     for party in parties {
         write_one(alloc, config, events, folder, period, party)?;
@@ -165,8 +165,13 @@ fn write_periods<O: Folder>(
       failed = O.File.failed;
     } in IfErr result (λ fault. AreLeft words (statements events.now parties.now periods) folder.old folder.new fault) }
 {
+    config.is_bounded();
+    legal_lists_can_be_netted();
+    let mut rest = events;
     for period in 0..periods {
-        write_period(alloc, config, events, folder, period, parties)?;
+        let (first, later) = split_first_period(rest);
+        write_period(alloc, config, first, folder, period, parties)?;
+        rest = later;
     }
     Ok(())
 }

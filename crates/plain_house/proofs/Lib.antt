@@ -8,6 +8,7 @@ pub mod DebtsLemmas
 pub mod EntriesLemmas
 pub mod EventLemmas
 pub mod ExposureLater
+pub mod FirstPeriodLemmas
 pub mod FitLemmas
 pub mod GrownLemmas
 pub mod HoldsLemmas

@@ -1,5 +1,5 @@
 -- What booked CDRs and Credit CDRs oblige providers to pay to operators, period by period.
-use Rattle.std.specs.Prelude.{◌≡◌, ◌<◌, ℕ, ◌==◌, List, ◌++◌, Bool, filter, map}
+use Rattle.std.specs.Prelude.{◌≡◌, ◌<◌, ◌+◌, ℕ, ◌==◌, List, ◌++◌, Bool, filter, map}
 use Rattle.netting_positions.specs.declared.obligation.Obligation.{Obligation}
 use Rattle.plain_house.specs.declared.entry.BookEntry.{BookEntry}
 use Rattle.plain_house.specs.declared.event.Event.{Event}
@@ -27,3 +27,8 @@ abbrev pub ClosedPeriodsStay : Type 0
 ClosedPeriodsStay =
     (before later : List Event) (period : ℕ) → period < period_of before →
     obligations period (book_entries (before ++ later)) ≡ obligations period (book_entries before)
+
+-- what is owed in each period of the later events, from 0, is owed in the whole list's periods from this one
+abbrev pub GoesOnFrom : List Event → ℕ → List Event → Type 0
+GoesOnFrom whole period later =
+    (number : ℕ) → obligations number (book_entries later) ≡ obligations (period + number) (book_entries whole)

@@ -1,7 +1,8 @@
 //! The periods in which events stand.
 
-ghost use Rattle.std.specs.Prelude.{◌≡◌, ◌<◌, ◌≤◌, ◌+◌, ◌^◌};
-ghost use Rattle.plain_house.specs.Entries.{is_close, period_after, period_of};
+ghost use Rattle.std.specs.Prelude.{◌≡◌, ◌<◌, ◌≤◌, ◌+◌, ◌^◌, position};
+ghost use Rattle.plain_house.specs.Entries.{book_entries, is_close, period_after, period_of};
+ghost use Rattle.plain_house.specs.Obligations.{GoesOnFrom, obligations};
 
 use super::event::Event;
 
@@ -35,4 +36,22 @@ pub fn period_of(events: &[Event]) -> u64
         rest = later;
     }
     period
+}
+
+fn first_close(events: &[Event]) -> Option<usize>
+    ensures { result ≡ position is_close events.now }
+{
+    events.iter().position(|event| is_close(event))
+}
+
+/// The events of the first period, with its close where it is closed, and those of the later periods.
+pub fn split_first_period(events: &[Event]) -> (&[Event], &[Event])
+    ensures first { obligations 0 (book_entries result.0.now) ≡ obligations 0 (book_entries events.now) }
+    ensures later { GoesOnFrom events.now 1 result.1.now }
+{
+    let length = match first_close(events) {
+        Some(close) => close + 1,
+        None => events.len(),
+    };
+    events.split_at(length)
 }

@@ -1,3 +1,4 @@
+use Rattle.plain_house.specs.Obligations.{GoesOnFrom}
 use Rattle.clear_cli.specs.Folder.{AreWritten, FolderWords}
 use Rattle.clear_cli.specs.Outputs.{statements}
 use Rattle.clear_cli.proofs.outputs.write_periods.Given as goal
@@ -10,3 +11,4 @@ invariant-loop-period g l =
       takes = g.O.File.Sink.takes;
       failed = g.O.File.Sink.failed;
     } in AreWritten words (statements l.events l.parties l.period) l.fn.folder l.folder
+    × GoesOnFrom l.events l.period l.rest
