@@ -1,5 +1,5 @@
 -- An order that names events one by one, entry after entry.
-use Rattle.std.proofs.Common.{◌≡◌, ◌⊎◌, inl, inr, ℕ, ◌+◌, ◌-◌, suc, zero, List, [], ◌∷◌, ◌++◌, Bool, true, false, refl, sym, ap, ap₂, ◌∙◌, subst, append_assoc, arith, length, Option, None, Some, option_map, option_and_then, option_to_list, slice_get, if◌then◌else◌}
+use Rattle.std.proofs.Common.{◌≡◌, ◌↔◌, ◌⊎◌, inl, inr, ℕ, ◌+◌, ◌-◌, suc, zero, List, [], ◌∷◌, ◌++◌, Bool, true, false, refl, sym, ap, ap₂, ◌∙◌, subst, append_assoc, arith, length, Option, None, Some, option_map, option_and_then, option_to_list, slice_get, if◌then◌else◌}
 use Rattle.std.proofs.lemmas.List.{length-append}
 use Rattle.plain_house.specs.declared.event.Event.{Event}
 use Rattle.plain_house.specs.declared.event.Event.TheVariants as event
@@ -13,7 +13,6 @@ use Rattle.period_order.specs.declared.order_entry.OrderEntry.{OrderEntry}
 use Rattle.period_order.specs.declared.order_entry.OrderEntry.TheVariants as entry
 use Rattle.period_order.specs.Resolved.{account_event, book_event, entry_at, named_event, period_behind, resolved_from}
 use Rattle.period_order.specs.Resolves.{FailsAt, Names, Resolves, ResolvingIsUnique, ResolvingIsWhole}
-use Rattle.period_order.specs.Inner.Named.{IsNamed}
 use Rattle.period_order.proofs.EntriesLemmas.{period_push}
 
 -- ---- lists
@@ -275,11 +274,9 @@ current_behind books accounts kept events is =
     ap period_of is.events_are ∙ period_push is.before is.last ∙ sym (named_is books accounts (period_of is.before) kept is.last is.names).1
 
 -- what an entry names is one event
-named_so : (books : List (List BookEntry)) (accounts : List (List AccountEntry)) (period : ℕ) (kept : OrderEntry) (e : Event) (found : Option Event)
-    → Names books accounts period kept e → IsNamed books accounts period kept found → found ≡ Some e
-named_so books accounts period kept e None names is = absurd (is e names)
-named_so books accounts period kept e (Some other) names is =
-    sym (named_is books accounts period kept other is).0 ∙ (named_is books accounts period kept e names).0
+named_once : (books : List (List BookEntry)) (accounts : List (List AccountEntry)) (period : ℕ) (kept : OrderEntry) (e other : Event)
+    → Names books accounts period kept e → Names books accounts period kept other → Some e ≡ Some other
+named_once books accounts period kept e other names also = sym (named_is books accounts period kept e names).0 ∙ (named_is books accounts period kept other also).0
 
 last_got : {X : Type 0} (xs begin : List X) (x : X) → xs ≡ begin ++ x ∷ [] → slice_get xs (length xs - 1) ≡ Some x
 last_got xs begin x same =
@@ -287,16 +284,23 @@ last_got xs begin x same =
     ap₂ (λ (l : List _) (n : ℕ). slice_get l n) same n ∙ seam begin x []
 
 -- what the last entry names, in the current period or, where it closes one, in that before, is the last event
-pub last_is : (books : List (List BookEntry)) (accounts : List (List AccountEntry)) (order : List OrderEntry) (events : List Event) (kept : OrderEntry) (current period : ℕ) (found : Option Event)
+pub last_is : (books : List (List BookEntry)) (accounts : List (List AccountEntry)) (order : List OrderEntry) (events : List Event) (kept : OrderEntry) (current period : ℕ) (e : Event)
     → Resolves books accounts order events → slice_get order (length order - 1) ≡ Some kept → current ≡ period_of events
     → ((kept ≡ entry.Close) × (period ≡ current - 1)) ⊎ ((kept ≡ entry.Close → ⊥) × (period ≡ current))
-    → IsNamed books accounts period kept found → found ≡ slice_get events (length events - 1)
-last_is books accounts order events kept current period found resolves at now which named =
-    named_so books accounts (period_of is.before) kept is.last found is.names (subst (λ n. IsNamed books accounts n kept found) (before which) named)
-    ∙ sym (last_got events is.before is.last is.events_are)
+    → Names books accounts period kept e ↔ (slice_get events (length events - 1) ≡ Some e)
+last_is books accounts order events kept current period e resolves at now which = (
+  λ names. last ∙ sym (named_once books accounts (period_of is.before) kept e is.last (subst (λ n. Names books accounts n kept e) (before which) names) is.names),
+  λ there. let same : is.last ≡ e = only (sym last ∙ there) in subst (λ n. Names books accounts n kept e) (sym (before which)) (subst (Names books accounts (period_of is.before) kept) same is.names),
+)
   where
     is : IsLast books accounts kept events
     is = last_named books accounts order events kept resolves at
+
+    last : slice_get events (length events - 1) ≡ Some is.last
+    last = last_got events is.before is.last is.events_are
+
+    only : {a b : Event} → Some a ≡ Some b → a ≡ b
+    only h = cc
 
     behind : current ≡ period_behind (period_of is.before) kept
     behind = now ∙ current_behind books accounts kept events is

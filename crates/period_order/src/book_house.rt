@@ -1,11 +1,11 @@
 //! A house of books and accounts.
 
-ghost use Rattle.std.specs.Prelude.{◌≡◌, ◌-◌, [], length, slice_get, IfOk};
+ghost use Rattle.std.specs.Prelude.{◌≡◌, ◌↔◌, ◌-◌, true, [], length, slice_get, IfOk, Some};
 
 use super::laws::{orders_are_counted, orders_resolve, resolving_is_unique, resolving_is_whole};
 use super::order::Order;
 use super::order_entry::OrderEntry;
-use super::resolved::{ResolveFault, named, resolve};
+use super::resolved::{ResolveFault, names, resolve};
 use cdr_checks::Command;
 use ocpi_types::Config;
 use operator_book::Book;
@@ -82,26 +82,21 @@ impl BookHouse {
         }
     }
 
-    /// The last event, where there is one.
-    pub fn last_event(&self, alloc: Global) -> Result<Option<Event>, AllocError>
-        ensures { IfOk result (λ last. last ≡ slice_get self.now.events (length self.now.events - 1)) }
+    /// The event is the last one.
+    pub fn is_last(&self, event: &Event) -> bool
+        ensures { (result ≡ true) ↔ (slice_get self.now.events (length self.now.events - 1) ≡ Some event.now) }
     {
         orders_are_counted();
         orders_resolve();
         let Some(entry) = self.order.entries().last() else {
-            return Ok(None);
+            return false;
         };
         let period = match entry {
             OrderEntry::Close => self.order.current() - 1,
             _ => self.order.current(),
         };
-        named(
-            alloc,
-            self.books.as_slice(),
-            self.accounts.as_slice(),
-            period,
-            *entry,
-        )
+        let (books, accounts) = (self.books.as_slice(), self.accounts.as_slice());
+        names(books, accounts, period, *entry, event)
     }
 }
 

@@ -1,8 +1,9 @@
 //! The events that an order names in books and accounts.
 
-ghost use Rattle.std.specs.Prelude.{◌≡◌, ℕ, Err, option_map, IfOk};
+ghost use Rattle.std.specs.Prelude.{◌≡◌, ◌↔◌, ℕ, true, [], ◌∷◌, Err, option_map, IfOk};
+ghost use Rattle.plain_house.specs.Entries.{account_entry, book_entry};
 ghost use Rattle.period_order.specs.Resolved.{entries_of_accounts, entries_of_books, entry_at};
-ghost use Rattle.period_order.specs.Resolves.{FailsAt, Resolves};
+ghost use Rattle.period_order.specs.Resolves.{FailsAt, Names, Resolves};
 ghost use Rattle.period_order.specs.Inner.Named.{IsNamed};
 ghost use Rattle.period_order.specs.declared.order_entry.OrderEntry.TheVariants as entry;
 ghost use Rattle.period_order.specs.declared.resolved.ResolveFault.TheVariants as fault;
@@ -139,8 +140,8 @@ fn event_in_both(
     }
 }
 
-/// The event that an entry of the order names in a period.
-pub(crate) fn named(
+// The event that an entry of the order names in a period.
+fn named(
     alloc: Global,
     books: &[Book],
     accounts: &[Account],
@@ -156,6 +157,108 @@ pub(crate) fn named(
             event_in_both(alloc, books, accounts, period, book, account)
         }
         OrderEntry::Close => Ok(Some(Event::Closed { period })),
+    }
+}
+
+// What a book keeps is of the event, of which an account keeps nothing.
+fn is_of_book(kept: &BookEntry, period: u64, event: &Event) -> bool
+    ensures { (result ≡ true) ↔ ((kept.now ∷ [] ≡ book_entry event.now period) × ([] ≡ account_entry event.now period)) }
+{
+    match (kept, event) {
+        (BookEntry::Tariff(kept), Event::Tariff(tariff)) => kept.is_same(tariff),
+        _ => false,
+    }
+}
+
+// What an account keeps is of the event, of which a book keeps nothing.
+fn is_of_account(kept: &AccountEntry, period: u64, event: &Event) -> bool
+    ensures { (result ≡ true) ↔ (([] ≡ book_entry event.now period) × (kept.now ∷ [] ≡ account_entry event.now period)) }
+{
+    match (kept, event) {
+        (AccountEntry::Token(kept), Event::Token(token)) => kept.is_same(token),
+        (AccountEntry::Hold(kept), Event::Authorised(hold)) => kept.is_same(hold),
+        (AccountEntry::Release(kept), Event::Released(release)) => kept.is_same(release),
+        (AccountEntry::Settlement(kept), Event::Settled(settlement)) => kept.is_same(settlement),
+        _ => false,
+    }
+}
+
+// What a book and an account keep is of the event.
+fn is_of_both(booked: &BookEntry, billed: &AccountEntry, period: u64, event: &Event) -> bool
+    ensures { (result ≡ true) ↔ ((booked.now ∷ [] ≡ book_entry event.now period) × (billed.now ∷ [] ≡ account_entry event.now period)) }
+{
+    match (booked, billed, event) {
+        (
+            BookEntry::Cdr {
+                cdr,
+                cost,
+                period: dated,
+            },
+            AccountEntry::Charge(charge),
+            Event::Cdr {
+                cdr: posted,
+                cost: price,
+            },
+        ) => {
+            *dated == period
+                && cost.is_same(price)
+                && cdr.is_same(posted)
+                && charge.is_same(&charge_of(posted, *price, period))
+        }
+        (
+            BookEntry::Credit {
+                cdr,
+                amount,
+                period: dated,
+            },
+            AccountEntry::Credit(credit),
+            Event::Credit {
+                cdr: posted,
+                amount: taken,
+            },
+        ) => {
+            *dated == period
+                && amount.is_same(taken)
+                && cdr.is_same(posted)
+                && credit.is_same(&credit_of(posted, *taken, period))
+        }
+        _ => false,
+    }
+}
+
+/// The entry of the order names the event in a period.
+pub(crate) fn names(
+    books: &[Book],
+    accounts: &[Account],
+    period: u64,
+    entry: OrderEntry,
+    event: &Event,
+) -> bool
+    ensures { (result ≡ true) ↔ Names (entries_of_books books.now) (entries_of_accounts accounts.now) period entry event.now }
+{
+    match entry {
+        OrderEntry::InBook { book } => match book_entry_at(books, book) {
+            Some(kept) => is_of_book(kept, period, event),
+            None => false,
+        },
+        OrderEntry::InAccount { account } => match account_entry_at(accounts, account) {
+            Some(kept) => is_of_account(kept, period, event),
+            None => false,
+        },
+        OrderEntry::InBoth { book, account } => {
+            let kept = (
+                book_entry_at(books, book),
+                account_entry_at(accounts, account),
+            );
+            match kept {
+                (Some(booked), Some(billed)) => is_of_both(booked, billed, period, event),
+                _ => false,
+            }
+        }
+        OrderEntry::Close => match event {
+            Event::Closed { period: closed } => *closed == period,
+            _ => false,
+        },
     }
 }
 

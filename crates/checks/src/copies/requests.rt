@@ -115,11 +115,10 @@ impl Copying {
         }
     }
 
-    fn is_last_event_same(&self, alloc: Global) -> bool {
-        match (self.books.last_event(alloc), self.house.events().last()) {
-            (Ok(Some(ours)), Some(theirs)) => ours.is_same(theirs),
-            (Ok(None), None) => true,
-            _ => false,
+    fn is_last_event_same(&self) -> bool {
+        match self.house.events().last() {
+            Some(event) => self.books.is_last(event),
+            None => true,
         }
     }
 
@@ -182,7 +181,7 @@ impl Copying {
         for line in lines {
             if !self.is_answered(rt, line)
                 || !self.is_last_event_copied(rt.alloc())
-                || !self.is_last_event_same(rt.alloc())
+                || !self.is_last_event_same()
             {
                 return false;
             }

@@ -19,29 +19,14 @@ use plain_house::{
 };
 use std::alloc::{AllocError, Global};
 
-// The event of this number is this one.
-fn is_at(events: &[Event], number: u64, event: &Event) -> bool
-    ensures { (result ≡ true) ↔ (slice_get events.now number ≡ Some event.now) }
+// The event of this number is the last one of the house.
+fn is_last_at(house: &BookHouse, events: &[Event], number: u64) -> bool
+    ensures { (last : Event) → slice_get house.now.events (length house.now.events - 1) ≡ Some last →
+        (result ≡ true) ↔ (slice_get events.now number ≡ Some last) }
 {
     match events.get(number as usize) {
-        Some(there) => there.is_same(event),
+        Some(event) => house.is_last(event),
         None => false,
-    }
-}
-
-// The event of this number is the last one of the house.
-fn is_last_at(
-    alloc: Global,
-    house: &BookHouse,
-    events: &[Event],
-    number: u64,
-) -> Result<bool, AllocError>
-    ensures { IfOk result (λ is. (last : Event) → slice_get house.now.events (length house.now.events - 1) ≡ Some last →
-        (is ≡ true) ↔ (slice_get events.now number ≡ Some last)) }
-{
-    match house.last_event(alloc)? {
-        Some(last) => Ok(is_at(events, number, &last)),
-        None => Ok(false),
     }
 }
 
@@ -71,7 +56,7 @@ fn stands(
     if !adds_event(&reply) {
         return Ok(true);
     }
-    is_last_at(alloc, house, events, made.point())
+    Ok(is_last_at(house, events, made.point()))
 }
 
 // Does the next turn, when so many events are those of the turns before it, and tells where it breaks.

@@ -1,9 +1,9 @@
-use Rattle.std.proofs.Common.{◌≡◌, ◌↔◌, ◌-◌, ℕ, Bool, List, Some, true, false, refl, sym, ap, ◌∙◌, subst, length, slice_get}
+use Rattle.std.proofs.Common.{◌≡◌, ◌↔◌, ◌-◌, ℕ, List, Some, true, false, refl, sym, ap, ◌∙◌, subst, length, slice_get}
 use Rattle.plain_house.specs.declared.event.Event.{Event}
 use Rattle.plain_house.specs.House.{reply_of}
 use Rattle.shared_house.specs.Points.{adds_event}
-use Rattle.shared_house.specs.History.{Stands, events_before}
-use Rattle.shared_house.proofs.StandLemmas.{answered, if_ok, stands_adding, stands_silent}
+use Rattle.shared_house.specs.History.{events_before}
+use Rattle.shared_house.proofs.StandLemmas.{answered, stands_adding, stands_silent}
 use Rattle.shared_house.proofs.certifying.replay.stands.Goals as goal
 
 pub returns-then-not-adds_event-clause-stands : goal.returns-then-not-adds_event-clause-stands
@@ -25,10 +25,5 @@ returns-clause-stands c =
     let told = answered config events c.args.house.now.events now made c.in_ok-command.command c.do_command-reply.result c.requires.before c.in_ok-command.ensures c.do_command-reply.ensures.does (sym c.if-is_out_of_memory.ensures) in
     let same : made.reply ≡ reply_of config (events_before events made) made.command = sym (c.if-not-is_same.ensures.0 refl) ∙ told.0 in
     let some : adds_event (reply_of config (events_before events made) made.command) ≡ true = ap adds_event (sym told.0) ∙ sym c.if-not-adds_event.ensures in
-    if_ok c.is_last_at.result
-    (λ (is : Bool). (last : Event) → slice_get now (length now - 1) ≡ Some last → (is ≡ true) ↔ (slice_get events c.point.result ≡ Some last))
-    (λ (is : Bool). (is ≡ true) ↔ Stands config events made)
-    (λ is last_is.
-    stands_adding c.replies_tell_events.ensures config events made c.requires.within same some now told.1 is
-    (subst (λ (n : ℕ). (last : Event) → slice_get now (length now - 1) ≡ Some last → (is ≡ true) ↔ (slice_get events n ≡ Some last)) c.point.ensures last_is))
-    c.is_last_at.ensures
+    stands_adding c.replies_tell_events.ensures config events made c.requires.within same some now told.1 c.is_last_at.result
+    (subst (λ (n : ℕ). (last : Event) → slice_get now (length now - 1) ≡ Some last → (c.is_last_at.result ≡ true) ↔ (slice_get events n ≡ Some last)) c.point.ensures c.is_last_at.ensures)

@@ -1,22 +1,17 @@
-use Rattle.std.proofs.Common.{◌≡◌, ◌⊎◌, inl, inr, ◌-◌, IfOk, List, sym, ap, ◌∙◌, subst, Some, Result, Ok, Err, count_by, length, slice_get}
+use Rattle.std.proofs.Common.{◌≡◌, ◌⊎◌, ◌↔◌, inl, inr, ◌-◌, List, sym, ap, ◌∙◌, subst, Some, true, count_by, length, slice_get}
 use Rattle.plain_house.specs.declared.event.Event.{Event}
 use Rattle.plain_house.specs.Entries.{period_of}
 use Rattle.plain_house.specs.State.{State}
 use Rattle.period_order.specs.declared.order_entry.OrderEntry.{OrderEntry}
 use Rattle.period_order.specs.declared.order_entry.OrderEntry.TheVariants as entry
 use Rattle.period_order.specs.Inner.Kept.{kept_events}
-use Rattle.period_order.specs.Inner.Named.{IsNamed}
 use Rattle.period_order.specs.Order.{is_close_entry}
 use Rattle.period_order.specs.Resolved.{entries_of_accounts, entries_of_books}
-use Rattle.period_order.specs.Resolves.{Resolves}
+use Rattle.period_order.specs.Resolves.{Names, Resolves}
 use Rattle.period_order.proofs.ResolvedLemmas.{kept_resolves}
 use Rattle.period_order.proofs.ResolvesLemmas.{last_is}
-use Rattle.period_order.proofs.book_house.BookHouse.last_event.Goals as goal
-use Rattle.period_order.proofs.book_house.BookHouse.last_event.Goals.{in-Close, in_default-entry}
-
-if_ok : {X E : Type 0} (result : Result X E) (P Q : X → Type 0) → ((x : X) → P x → Q x) → IfOk result P → IfOk result Q
-if_ok (Ok x) P Q step is = step x is
-if_ok (Err e) P Q step is = tt
+use Rattle.period_order.proofs.book_house.BookHouse.is_last.Goals as goal
+use Rattle.period_order.proofs.book_house.BookHouse.is_last.Goals.{in-Close, in_default-entry}
 
 pub returns : goal.returns
 returns c =
@@ -34,9 +29,10 @@ returns c =
       | in-Close w ↦ inl (w.in-Close.is, w.period-is ∙ ap (λ n. n - 1) w.current.ensures)
       | in_default-entry w ↦ inr (w.in_default-entry.not-Close, w.period-is ∙ w.current-period.ensures)
     ] in
-    let named : IfOk c.named.result (IsNamed books accounts c.match-entry.period kept) =
-    subst (λ b. IfOk c.named.result (IsNamed (entries_of_books b) accounts c.match-entry.period kept)) c.as_slice.ensures.value
-    (subst (λ a. IfOk c.named.result (IsNamed (entries_of_books c.as_slice.result.now) (entries_of_accounts a) c.match-entry.period kept)) c.as_slice-2.ensures.value c.named.ensures) in
-    subst (λ (house : State). IfOk c.named.result (λ last. last ≡ slice_get house.events (length house.events - 1))) c.self.view_is
-    (if_ok c.named.result (IsNamed books accounts c.match-entry.period kept) (λ last. last ≡ slice_get events (length events - 1))
-    (λ found is. last_is books accounts order events kept (count_by is_close_entry order) c.match-entry.period found resolves at current which is) named)
+    let e : Event = c.args.event.now in
+    let told : (c.names.result ≡ true) ↔ Names books accounts c.match-entry.period kept e =
+    subst (λ b. (c.names.result ≡ true) ↔ Names (entries_of_books b) accounts c.match-entry.period kept e) c.as_slice-books.ensures.value
+    (subst (λ a. (c.names.result ≡ true) ↔ Names (entries_of_books c.as_slice-books.result.now) (entries_of_accounts a) c.match-entry.period kept e) c.as_slice-accounts.ensures.value c.names.ensures) in
+    let last = last_is books accounts order events kept (count_by is_close_entry order) c.match-entry.period e resolves at current which in
+    subst (λ (house : State). (c.names.result ≡ true) ↔ (slice_get house.events (length house.events - 1) ≡ Some e)) c.self.view_is
+    (λ yes. last.0 (told.0 yes), λ there. told.1 (last.1 there))
