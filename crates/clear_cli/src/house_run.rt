@@ -15,7 +15,6 @@ use shared_house::{Blanks, Configured, FinishFault, House, Names, NoGate, Part, 
 use std::alloc::{AllocError, Global};
 use std::marker::Brand;
 use std::sync::Wait;
-use std::sync::ledger::Blank;
 use std::thread::Threads;
 
 /// How the workers of a house ended, and the events of the house, where it finished.
@@ -59,23 +58,6 @@ fn split<N: Names>(places: Ended<N>, workers: Vec<(Pass<N>, WorkerEnd)>) -> Ende
         ends.push_reserved(end);
     }
     Ended { passes, ends }
-}
-
-// New ledgers, with a part for each operator, for each provider and for each of so many passes.
-fn blanks_of(config: &Config, passes: usize) -> Blanks
-    ensures books { (result.book_entries.parts ≡ length config.now.operators) × (result.book_amounts.parts ≡ length config.now.operators) }
-    ensures accounts { (result.account_entries.parts ≡ length config.now.providers) × (result.account_amounts.parts ≡ length config.now.providers) }
-    ensures events { result.events.parts ≡ passes }
-{
-    let operators = config.operators.as_slice().len() as u64;
-    let providers = config.providers.as_slice().len() as u64;
-    Blanks {
-        book_entries: Blank::new(operators),
-        book_amounts: Blank::new(operators),
-        account_entries: Blank::new(providers),
-        account_amounts: Blank::new(providers),
-        events: Blank::new(passes as u64),
-    }
 }
 
 // The events of a house, where it finishes with the passes.
@@ -230,6 +212,6 @@ pub fn run_house<I: Source + Drop + Send, V: Sink + Drop + Send, R: Threads + Wa
         × MatchResult run.finished (λ events. IsFinished config calls events.items) (λ fault. IsUnfinished config calls fault)) }
     ensures len { IfOk result (λ run. vec_len run.ends ≡ vec_len pairs) }
 {
-    let blanks = blanks_of(&config, pairs.len());
+    let blanks = Blanks::new(&config, pairs.len());
     work_under::<Brand, Brand, Brand, Brand, Brand, I, V, R>(rt, alloc, config, blanks, pairs)
 }

@@ -2,6 +2,7 @@
 
 ghost use Rattle.std.specs.Prelude.{◌≡◌, ◌<◌, ◌↔◌, ℕ, Err, map, vec_len, IfOk};
 ghost use Rattle.shared_house.specs.Finished.{IsFinished, IsTornInEnd};
+ghost use Rattle.shared_house.specs.declared.certifying.CertifyFault.TheVariants as certify_fault;
 ghost use Rattle.shared_house.specs.declared.finishing.FinishFault.TheVariants as fault;
 
 use crate::certifying::CertifyFault;
@@ -35,6 +36,20 @@ impl From<AllocError> for FinishFault {
 }
 
 impl<N: Names> House<N> {
+    // What is certified of the house and these passes.
+    fn certified(self, alloc: Global, passes: Vec<Pass<N>>) -> Result<Ended, CertifyFault>
+        requires book_parts { (N.BookEntries.all ≡ N.BookEntries.parts) × (N.BookAmounts.all ≡ N.BookAmounts.parts) }
+        requires account_parts { (N.AccountEntries.all ≡ N.AccountEntries.parts) × (N.AccountAmounts.all ≡ N.AccountAmounts.parts) }
+        requires pass_parts { N.Events.all ≡ N.Events.parts }
+        ensures calls { IfOk result (λ ended. map (λ calls. calls.items) ended.calls.items ≡ map (λ pass. pass.calls) passes.items) }
+        ensures ok { IfOk result (λ ended. IsFinished N.BookEntries.config (map (λ pass. pass.calls) passes.items) ended.events.items) }
+        ensures torn { (entry : ℕ) → result ≡ Err (certify_fault.Torn entry) → IsTornInEnd N.BookEntries.config (map (λ pass. pass.calls) passes.items) entry }
+    {
+        let config = self.config.copy(alloc)?;
+        let gathered = gather(alloc, self, passes)?;
+        Ended::certified(alloc, &config, gathered)
+    }
+
     /// The events of the house and the calls of its passes, where they are one history. The house is gone then, and so it is
     /// after a fault.
     ///
@@ -52,9 +67,7 @@ impl<N: Names> House<N> {
         if passes.len() < self.passes {
             return Err(FinishFault::MissingPass);
         }
-        let config = self.config.copy(alloc)?;
-        let gathered = gather(alloc, self, passes)?;
-        match Ended::certified(alloc, &config, gathered) {
+        match self.certified(alloc, passes) {
             Ok(ended) => Ok(ended),
             Err(CertifyFault::Torn { entry }) => Err(FinishFault::Torn { entry }),
             Err(CertifyFault::NoMemory) => Err(FinishFault::NoMemory),

@@ -1,5 +1,6 @@
 //! The house: its locks, and the calls of its passes.
 
+mod blanks;
 mod calls;
 mod closing;
 mod collecting;
@@ -11,5 +12,5 @@ mod numbers;
 mod replying;
 mod stating;
 
+pub use blanks::Blanks;
 pub use locks::{House, Locks};
-pub use making::Blanks;

@@ -10,7 +10,6 @@ use request_lines::{Sink, Source};
 use shared_house::{Blanks, Configured, House, Names, Part, Place};
 use std::marker::Brand;
 use std::sync::Wait;
-use std::sync::ledger::Blank;
 use std::thread::Threads;
 
 /// What is done with a new house.
@@ -45,23 +44,6 @@ impl Work<'_> {
             Work::Held { .. } => held::FILES,
             Work::Texts { texts, .. } => texts.len(),
         }
-    }
-}
-
-// New ledgers, with a part for each operator, for each provider and for each of so many passes.
-fn blanks_of(config: &Config, passes: usize) -> Blanks
-    ensures books { (result.book_entries.parts ≡ length config.now.operators) × (result.book_amounts.parts ≡ length config.now.operators) }
-    ensures accounts { (result.account_entries.parts ≡ length config.now.providers) × (result.account_amounts.parts ≡ length config.now.providers) }
-    ensures events { result.events.parts ≡ passes }
-{
-    let operators = config.operators.as_slice().len() as u64;
-    let providers = config.providers.as_slice().len() as u64;
-    Blanks {
-        book_entries: Blank::new(operators),
-        book_amounts: Blank::new(operators),
-        account_entries: Blank::new(providers),
-        account_amounts: Blank::new(providers),
-        events: Blank::new(passes as u64),
     }
 }
 
@@ -118,7 +100,7 @@ pub fn with_house<'a, R: Threads + Wait + Sync, S: Source, W: Sink>(
     writer: &mut W,
 ) -> Result<(), Fault<'a>> {
     let passes = work.passes();
-    let blanks = blanks_of(&config, passes);
+    let blanks = Blanks::new(&config, passes);
     perform_under::<Brand, Brand, Brand, Brand, Brand, R, S, W>(
         rt, threads, config, passes, blanks, work, reader, writer,
     )

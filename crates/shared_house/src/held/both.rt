@@ -1,6 +1,6 @@
 //! A command on a book and an account that are held.
 
-ghost use Rattle.std.specs.Prelude.{◌≡◌, ◌+◌, ◌≤◌, true, false, Some, is_some};
+ghost use Rattle.std.specs.Prelude.{◌≡◌, ◌+◌, ◌≤◌, true, false, Some, is_some, OnOk};
 ghost use Rattle.cdr_checks.specs.Admission.{IsAdmitted};
 ghost use Rattle.cdr_checks.specs.Parties.{operator_of_command, provider_of_command};
 ghost use Rattle.plain_house.specs.Replies.{stamped};
@@ -17,8 +17,19 @@ use operator_book::Book;
 use period_order::{Outcome, put_in_account, put_in_book};
 use plain_house::{Refused, Replied, out_of_memory, stamped};
 use provider_account::Account;
+use std::alloc::AllocError;
 use std::sync::ledger::Share;
 use std::sync::{Mutex, Wait};
+
+// Makes room for an entry in each.
+fn reserve_both(book: &mut Book, account: &mut Account) -> Result<(), AllocError>
+    ensures book { book.new.entries ≡ book.old.entries }
+    ensures account { account.new.entries ≡ account.old.entries }
+    ensures room { OnOk result ((book.new.has_room ≡ true) × (account.new.has_room ≡ true)) }
+{
+    book.reserve()?;
+    account.reserve()
+}
 
 // Puts what the command adds to its book and its account, and replies.
 fn put_both(book: &mut Book, account: &mut Account, placed: Placed) -> Result<Replied, Refused>
@@ -79,10 +90,7 @@ pub fn answer_both<N: Names, R: Wait>(
         account,
         shares: in_account,
     } = held_account;
-    if book.reserve().is_err() {
-        return Err(out_of_memory());
-    }
-    if account.reserve().is_err() {
+    if reserve_both(book, account).is_err() {
         return Err(out_of_memory());
     }
     let placed = order

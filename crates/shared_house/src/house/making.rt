@@ -1,8 +1,10 @@
 //! A new house and its passes.
 
-ghost use Rattle.std.specs.Prelude.{◌≡◌, ◌≤◌, [], length, vec_capacity, vec_len, All, IfOk};
+ghost use Rattle.std.specs.Prelude.{◌≡◌, ◌≤◌, [], length, map, vec_capacity, vec_len, All, IfOk};
+ghost use Rattle.std.specs.List.{range_with_len};
 ghost use Rattle.shared_house.specs.Names.{IsLedgerOf};
 
+use super::blanks::Blanks;
 use super::locks::{House, Locks};
 use crate::laws::house_laws;
 use crate::ledgers::{AccountShares, BookShares, Configured, Names, Part, Rest};
@@ -14,20 +16,7 @@ use period_order::Order;
 use provider_account::Account;
 use std::alloc::{AllocError, Global};
 use std::sync::Mutex;
-use std::sync::ledger::{Blank, Share};
-
-/// The five new ledgers of a house, which no type stands for yet.
-#[derive(Drop)]
-pub struct Blanks {
-    /// One part for each operator.
-    pub book_entries: Blank,
-    pub book_amounts: Blank,
-    /// One part for each provider.
-    pub account_entries: Blank,
-    pub account_amounts: Blank,
-    /// One part for each pass.
-    pub events: Blank,
-}
+use std::sync::ledger::Share;
 
 // An empty book under a lock for each operator, in a list that has places for them.
 fn lock_books<N: Names>(
@@ -97,6 +86,7 @@ fn make_passes<N: Names>(
     requires nothing { events.old.amount ≡ 0 }
     ensures len { vec_len result ≡ count }
     ensures fresh { All (λ pass. pass.calls ≡ []) result.items }
+    ensures numbers { map (λ pass. pass.number) result.items ≡ range_with_len 0 count }
     ensures none { (events.new.parts ≡ 0) × (events.new.amount ≡ 0) }
 {
     let alloc = *passes.allocator();
@@ -179,6 +169,7 @@ fn open<N: Names>(
     requires room { (length config.operators ≤ vec_capacity places.books) × (length config.providers ≤ vec_capacity places.accounts) × (passes ≤ vec_capacity places.passes) }
     ensures len { vec_len result.1 ≡ passes }
     ensures fresh { All (λ pass. pass.calls ≡ []) result.1.items }
+    ensures numbers { map (λ pass. pass.number) result.1.items ≡ range_with_len 0 passes }
 {
     let Blanks {
         book_entries,
@@ -227,7 +218,7 @@ fn open<N: Names>(
 }
 
 impl<N: Names> House<N> {
-    /// An empty house, and so many passes without calls.
+    /// An empty house, and so many passes without calls, numbered from 0.
     ///
     /// The ledgers are new ones, of which the names tell the parts; one of the names tells the configuration too.
     ///
@@ -248,6 +239,7 @@ impl<N: Names> House<N> {
         requires events { IsLedgerOf blanks.events N.Events.name N.Events.parts N.Events.all passes }
         ensures len { IfOk result (λ made. vec_len made.1 ≡ passes) }
         ensures fresh { IfOk result (λ made. All (λ pass. pass.calls ≡ []) made.1.items) }
+        ensures numbers { IfOk result (λ made. map (λ pass. pass.number) made.1.items ≡ range_with_len 0 passes) }
     {
         let places = make_places::<N>(alloc, &config, passes)?;
         Ok(open(config, passes, blanks, places))

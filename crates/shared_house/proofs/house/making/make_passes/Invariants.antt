@@ -1,4 +1,5 @@
-use Rattle.std.proofs.Common.{◌≡◌, ◌≤◌, ◌+◌, vec_capacity, vec_len, []}
+use Rattle.std.proofs.Common.{◌≡◌, ◌≤◌, ◌+◌, map, vec_capacity, vec_len, []}
+use Rattle.std.specs.List.{range_with_len}
 use Rattle.std.specs.Prelude.{All}
 use Rattle.shared_house.proofs.house.making.make_passes.Given as goal
 
@@ -9,4 +10,5 @@ invariant-loop-number g l = record {
   len : vec_len l.passes ≡ l.number;
   places : l.count ≤ vec_capacity l.passes;
   fresh : All (λ pass. pass.calls ≡ []) l.passes.items;
+  numbers : map (λ pass. pass.number) l.passes.items ≡ range_with_len 0 l.number;
 }
