@@ -7,7 +7,7 @@ use crate::fault::Fault;
 use cdr_checks::Command;
 use ocpi_json::Room;
 use request_lines::command_of;
-use shared_house::{Configured, House, Names, NoGate, Part, Pass};
+use shared_house::{Configured, FinishFault, House, Names, NoGate, Part, Pass};
 use std::alloc::{AllocError, Global};
 use std::io::{BufRead, BufReader};
 use std::marker::{Model, PhantomData};
@@ -176,7 +176,21 @@ fn call_count<N: Names>(passes: &[Pass<N>]) -> usize {
     count
 }
 
-// Ends the house, and tells how many calls were certified, and how many events there are.
+// Tells how many calls were certified, and how many events there are.
+fn tell_certified(
+    rt: &HostRuntime,
+    passes: usize,
+    calls: usize,
+    before: Instant,
+    ended: Result<usize, FinishFault>,
+) -> io::Result<()> {
+    let Ok(events) = ended else {
+        return println!(rt; "at once: not certified");
+    };
+    tell_rate(rt, "certified", calls, before.elapsed(rt)?)?;
+    println!(rt; "at once: {passes} passes, {calls} calls, {events} events")
+}
+
 fn certify_all<N: Names>(rt: &HostRuntime, house: House<N>, passes: Vec<Pass<N>>) -> io::Result<()>
     requires book_parts { (N.BookEntries.all ≡ N.BookEntries.parts) × (N.BookAmounts.all ≡ N.BookAmounts.parts) }
     requires account_parts { (N.AccountEntries.all ≡ N.AccountEntries.parts) × (N.AccountAmounts.all ≡ N.AccountAmounts.parts) }
@@ -185,11 +199,27 @@ fn certify_all<N: Names>(rt: &HostRuntime, house: House<N>, passes: Vec<Pass<N>>
     let count = passes.len();
     let calls = call_count(passes.as_slice());
     let before = Instant::now(rt)?;
-    let Ok(events) = end(rt.alloc(), house, passes) else {
-        return println!(rt; "at once: not certified");
-    };
-    tell_rate(rt, "certified", calls, before.elapsed(rt)?)?;
-    println!(rt; "at once: {count} passes, {calls} calls, {events} events")
+    let ended = end(rt.alloc(), house, passes);
+    tell_certified(rt, count, calls, before, ended)
+}
+
+// Makes the calls of the files' lines, each file's by a pass.
+fn called<N: Names + Send + Sync, R: Threads + Wait + Sync>(
+    rt: &HostRuntime,
+    threads: &R,
+    house: &House<N>,
+    passes: Vec<Pass<N>>,
+    files: &[String],
+) -> io::Result<Vec<Pass<N>>>
+where
+    N::BookEntries: Send + Sync,
+    N::BookAmounts: Send + Sync,
+    N::AccountEntries: Send + Sync,
+    N::AccountAmounts: Send + Sync,
+    N::Events: Send + Sync,
+{
+    let workers = workers_of(rt, house, passes, files)?;
+    call_all(rt, threads, house, workers)
 }
 
 fn work<N: Names + Send + Sync, R: Threads + Wait + Sync>(
@@ -209,9 +239,10 @@ where
     requires account_parts { (N.AccountEntries.all ≡ N.AccountEntries.parts) × (N.AccountAmounts.all ≡ N.AccountAmounts.parts) }
     requires pass_parts { N.Events.all ≡ N.Events.parts }
 {
-    let workers = workers_of(rt, &house, passes, files)?;
-    let passes = call_all(rt, threads, &house, workers)?;
-    certify_all(rt, house, passes)
+    match called(rt, threads, &house, passes, files) {
+        Ok(passes) => certify_all(rt, house, passes),
+        Err(fault) => Err(fault),
+    }
 }
 
 /// Makes the calls of the files' lines, each file's by a pass and on a thread of its own, has them certified, and tells how many

@@ -185,6 +185,22 @@ fn tell_all(rt: &HostRuntime, config: &Config, gathered: Gathered) -> Result<(),
     tell_amounts(rt, config, gathered)
 }
 
+// Tells what is certified of what the house leaves behind.
+fn tell_left<N: Names>(
+    rt: &HostRuntime,
+    config: &Config,
+    house: House<N>,
+    passes: Vec<Pass<N>>,
+) -> Result<(), Fault<'static>>
+    requires config { config.now ≡ N.BookEntries.config }
+    requires book_parts { (N.BookEntries.all ≡ N.BookEntries.parts) × (N.BookAmounts.all ≡ N.BookAmounts.parts) }
+    requires account_parts { (N.AccountEntries.all ≡ N.AccountEntries.parts) × (N.AccountAmounts.all ≡ N.AccountAmounts.parts) }
+    requires pass_parts { N.Events.all ≡ N.Events.parts }
+{
+    let gathered = gather(rt.alloc(), house, passes)?;
+    tell_all(rt, config, gathered)
+}
+
 /// Answers the lines of the reader by the last of the passes, and tells what is certified of what the house then leaves behind.
 pub fn tell<'a, N: Names, R: Wait, S: Source, W: Sink>(
     rt: &HostRuntime,
@@ -199,7 +215,8 @@ pub fn tell<'a, N: Names, R: Wait, S: Source, W: Sink>(
     requires pass_parts { N.Events.all ≡ N.Events.parts }
 {
     let config = house.config().copy(rt.alloc())?;
-    let passes = answer_by_last(rt.alloc(), locks, &house, passes, false, reader, writer)?;
-    let gathered = gather(rt.alloc(), house, passes)?;
-    tell_all(rt, &config, gathered)
+    match answer_by_last(rt.alloc(), locks, &house, passes, false, reader, writer) {
+        Ok(passes) => tell_left(rt, &config, house, passes),
+        Err(fault) => Err(fault),
+    }
 }

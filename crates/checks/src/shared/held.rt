@@ -5,7 +5,7 @@ ghost use Rattle.std.specs.Prelude.{◌≡◌};
 mod flags;
 mod lines;
 
-use super::ending::end;
+use super::ending::end_answered;
 use super::workers::answer_pairs;
 use crate::fault::Fault;
 use flags::{Flags, Holding};
@@ -76,6 +76,32 @@ fn pairs_of<'f>(
     Ok(pairs)
 }
 
+// Answers the lines of the files by a pass each, with the second pass's call held up at the place.
+fn answered<'a, N: Names + Send + Sync, R: Threads + Wait + Sync>(
+    rt: &HostRuntime,
+    threads: &R,
+    house: &House<N>,
+    passes: Vec<Pass<N>>,
+    place: Place,
+    files: &[String],
+    flags: &Flags,
+) -> Result<Vec<Pass<N>>, Fault<'a>>
+where
+    N::BookEntries: Send + Sync,
+    N::BookAmounts: Send + Sync,
+    N::AccountEntries: Send + Sync,
+    N::AccountAmounts: Send + Sync,
+    N::Events: Send + Sync,
+{
+    let gate = Holding {
+        pass: 1,
+        place,
+        flags,
+    };
+    let pairs = pairs_of(rt, files, flags)?;
+    answer_pairs(rt.alloc(), threads, house, passes, pairs, &gate)
+}
+
 /// Answers the lines of the files by a pass each, on standard output, with the second pass's call held up at the place, and has
 /// all calls certified.
 pub fn answer<'a, N: Names + Send + Sync, R: Threads + Wait + Sync>(
@@ -97,14 +123,8 @@ where
     requires pass_parts { N.Events.all ≡ N.Events.parts }
 {
     let flags = Flags::new();
-    let gate = Holding {
-        pass: 1,
-        place,
-        flags: &flags,
-    };
-    let pairs = pairs_of(rt, files, &flags)?;
-    let passes = answer_pairs(rt.alloc(), threads, &house, passes, pairs, &gate)?;
-    end(rt.alloc(), house, passes)?;
+    let answered = answered(rt, threads, &house, passes, place, files, &flags);
+    end_answered(rt.alloc(), house, answered)?;
     if flags.was_held.load(Ordering::SeqCst) {
         Ok(())
     } else {

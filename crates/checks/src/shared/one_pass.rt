@@ -51,8 +51,25 @@ pub fn answer_by_last<N: Names, R: Wait, S: Source, W: Sink>(
     Ok(passes)
 }
 
-/// Answers the lines, and ends the house. A house that is ended cannot be ended again, so where all else is done once more, want
-/// of memory is no fault there.
+// Ends the house. A house that is ended cannot be ended again, so where all else is done once more, want of memory is no fault there.
+fn end_lines<'a, N: Names>(
+    alloc: Global,
+    house: House<N>,
+    passes: Vec<Pass<N>>,
+    is_again: bool,
+) -> Result<(), Fault<'a>>
+    requires book_parts { (N.BookEntries.all ≡ N.BookEntries.parts) × (N.BookAmounts.all ≡ N.BookAmounts.parts) }
+    requires account_parts { (N.AccountEntries.all ≡ N.AccountEntries.parts) × (N.AccountAmounts.all ≡ N.AccountAmounts.parts) }
+    requires pass_parts { N.Events.all ≡ N.Events.parts }
+{
+    match end(alloc, house, passes) {
+        Err(FinishFault::NoMemory) if is_again => Ok(()),
+        Err(fault) => Err(Fault::from(fault)),
+        Ok(_) => Ok(()),
+    }
+}
+
+/// Answers the lines, and ends the house.
 pub fn answer_lines<'a, N: Names, R: Wait, S: Source, W: Sink>(
     rt: &HostRuntime,
     locks: &R,
@@ -66,10 +83,8 @@ pub fn answer_lines<'a, N: Names, R: Wait, S: Source, W: Sink>(
     requires account_parts { (N.AccountEntries.all ≡ N.AccountEntries.parts) × (N.AccountAmounts.all ≡ N.AccountAmounts.parts) }
     requires pass_parts { N.Events.all ≡ N.Events.parts }
 {
-    let passes = answer_by_last(rt.alloc(), locks, &house, passes, is_again, reader, writer)?;
-    match end(rt.alloc(), house, passes) {
-        Err(FinishFault::NoMemory) if is_again => Ok(()),
-        Err(fault) => Err(Fault::from(fault)),
-        Ok(_) => Ok(()),
+    match answer_by_last(rt.alloc(), locks, &house, passes, is_again, reader, writer) {
+        Ok(passes) => end_lines(rt.alloc(), house, passes, is_again),
+        Err(fault) => Err(fault),
     }
 }

@@ -2,7 +2,7 @@
 
 ghost use Rattle.std.specs.Prelude.{◌≡◌};
 
-use super::ending::end;
+use super::ending::end_answered;
 use crate::fault::Fault;
 use platform_workers::{WorkerEnd, run_platforms};
 use request_lines::{Device, Sink, Source};
@@ -71,6 +71,25 @@ fn pairs_of<'a>(
     Ok(pairs)
 }
 
+// Answers the texts by a worker each.
+fn answered_texts<'a, N: Names + Send + Sync, R: Threads + Wait + Sync>(
+    alloc: Global,
+    threads: &R,
+    house: &House<N>,
+    passes: Vec<Pass<N>>,
+    texts: &[Vec<u8>],
+) -> Result<Vec<Pass<N>>, Fault<'a>>
+where
+    N::BookEntries: Send + Sync,
+    N::BookAmounts: Send + Sync,
+    N::AccountEntries: Send + Sync,
+    N::AccountAmounts: Send + Sync,
+    N::Events: Send + Sync,
+{
+    let pairs = pairs_of(alloc, texts)?;
+    answer_pairs(alloc, threads, house, passes, pairs, &NoGate)
+}
+
 /// Answers the texts by a worker each, has all calls certified, and wants so many events.
 pub fn answer_texts<'a, N: Names + Send + Sync, R: Threads + Wait + Sync>(
     alloc: Global,
@@ -90,9 +109,8 @@ where
     requires account_parts { (N.AccountEntries.all ≡ N.AccountEntries.parts) × (N.AccountAmounts.all ≡ N.AccountAmounts.parts) }
     requires pass_parts { N.Events.all ≡ N.Events.parts }
 {
-    let pairs = pairs_of(alloc, texts)?;
-    let passes = answer_pairs(alloc, threads, &house, passes, pairs, &NoGate)?;
-    if end(alloc, house, passes)? == events {
+    let answered = answered_texts(alloc, threads, &house, passes, texts);
+    if end_answered(alloc, house, answered)? == events {
         Ok(())
     } else {
         Err(Fault::NotAsExpected)
