@@ -1,11 +1,13 @@
 /* Preloaded before a program: gives at most READ_MOST bytes of standard input a call and fails the call number READ_FAILS,
-   counted from 1; takes at most WRITE_MOST bytes for standard output a call, and fails when it has taken WRITE_ROOM bytes.
+   counted from 1, or does so with the file whose path ends with READ_OF where that is set; takes at most WRITE_MOST bytes for standard output a call, and fails when it has taken WRITE_ROOM bytes.
    A variable that is not set changes nothing. A call that fails makes the file FAILED. */
 #define _GNU_SOURCE
 #include <dlfcn.h>
 #include <errno.h>
 #include <fcntl.h>
+#include <stdio.h>
 #include <stdlib.h>
+#include <string.h>
 #include <unistd.h>
 
 static long reads;
@@ -29,6 +31,19 @@ static size_t at_most(const char *name, size_t size)
     return size < most ? size : most;
 }
 
+static int is_meant(int from)
+{
+    const char *end = getenv("READ_OF");
+    char link[32], path[4096];
+    ssize_t size;
+
+    if (end == NULL)
+        return from == STDIN_FILENO;
+    snprintf(link, sizeof link, "/proc/self/fd/%d", from);
+    size = readlink(link, path, sizeof path);
+    return size >= (ssize_t)strlen(end) && memcmp(path + size - strlen(end), end, strlen(end)) == 0;
+}
+
 ssize_t read(int from, void *bytes, size_t size)
 {
     static ssize_t (*next)(int, void *, size_t);
@@ -36,7 +51,7 @@ ssize_t read(int from, void *bytes, size_t size)
 
     if (next == NULL)
         next = (ssize_t (*)(int, void *, size_t))dlsym(RTLD_NEXT, "read");
-    if (from != STDIN_FILENO)
+    if (!is_meant(from))
         return next(from, bytes, size);
     if (number != NULL && ++reads == atol(number))
         return fail(EIO);
