@@ -1,0 +1,38 @@
+-- The members that the objects of a configuration have, and which of them a misspelt name means.
+use Rattle.std.specs.Cmp.Lexicographic.{pointwise}
+use Rattle.std.specs.Prelude.{ℕ, ◌==◌, List, [], ◌∷◌, Bool, Option, None, find, map, nat_eq, nat_le, nat_lt, length, if◌then◌else◌}
+use Rattle.std.specs.Char.{to_ascii_lowercase}
+use Rattle.std.specs.Str.{chars}
+use Rattle.strsim.specs.Edits.{levenshtein_row}
+use Rattle.ocpi_json.specs.Name.{key_text}
+use Rattle.ocpi_json.specs.declared.name.Name.{Name}
+use Rattle.ocpi_json.specs.declared.name.Name.TheVariants.{Version, Tolerance, Currencies, Providers, Limits, CreditWindow, Party, Zone, Name as NameMember, Parties, Hub, Operator, Provider, Currency, Limit, Hold, Cdrs, Tariffs, Entries, Order, Periods, Operators as OperatorsMember, Platforms as PlatformsMember, PairLimits as PairLimitsMember}
+use Rattle.check_config.specs.declared.objects.Listing.{Listing}
+use Rattle.check_config.specs.declared.objects.Listing.TheVariants.{Operators, Providers as ProvidersListing, Platforms, PairLimits}
+use Rattle.check_config.specs.declared.objects.Place.{Place}
+use Rattle.check_config.specs.declared.objects.Place.TheVariants.{Whole, Item, LimitOf, Limits as LimitsPlace}
+
+abbrev pub item_members : Listing → List Name
+item_members Operators = Party ∷ Zone ∷ []
+item_members ProvidersListing = Party ∷ Limits ∷ []
+item_members Platforms = NameMember ∷ Parties ∷ Hub ∷ []
+item_members PairLimits = Operator ∷ Provider ∷ Currency ∷ Limit ∷ []
+
+-- the members of the object there, in the order in which they are read
+abbrev pub members_of : Place → List Name
+members_of Whole = Version ∷ Tolerance ∷ Currencies ∷ OperatorsMember ∷ Providers ∷ PlatformsMember ∷ Limits ∷ PairLimitsMember ∷ CreditWindow ∷ []
+members_of (Item list index) = item_members list
+members_of (LimitOf provider index) = Currency ∷ Limit ∷ Hold ∷ []
+members_of LimitsPlace = Cdrs ∷ Tariffs ∷ Entries ∷ Order ∷ Periods ∷ []
+
+-- the member of that key, if the object there has one
+abbrev pub known_by : List ℕ → Place → Option Name
+known_by key place = find (λ called. pointwise ◌==◌ (key_text called) key) (members_of place)
+
+-- the name is at most two letters away from the key: put in, left out or changed
+abbrev pub is_near : List ℕ → Name → Bool
+is_near key called = nat_le (levenshtein_row nat_eq (chars (key_text called)) (chars key) (length (chars key))) 2
+
+-- the first of the names that is near the key, letters folded; none where the key is far too long
+abbrev pub meant_by : List ℕ → List Name → Option Name
+meant_by key names = if nat_lt 64 (length key) then None else find (is_near (map to_ascii_lowercase key)) names

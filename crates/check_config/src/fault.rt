@@ -1,0 +1,52 @@
+//! What ends the program early, and the line that tells it.
+
+use crate::no_json::Spot;
+use std::alloc::AllocError;
+use std::io;
+
+/// What ends the program before anything is written on standard output.
+#[derive(Clone, Copy)]
+pub enum Fault<'a> {
+    /// The command line has another form.
+    Usage,
+
+    CannotRead { path: &'a str },
+
+    CannotWrite,
+
+    /// The configuration has more bytes than one may have.
+    TooLong,
+
+    /// The configuration is no JSON, from this place on.
+    NoJson { spot: Spot },
+
+    NoMemory,
+}
+
+impl From<AllocError> for Fault<'_> {
+    fn from(_error: AllocError) -> Self {
+        Fault::NoMemory
+    }
+}
+
+impl Fault<'_> {
+    /// The exit status.
+    pub fn status(&self) -> u8 {
+        match self {
+            Fault::Usage => 2,
+            _ => 1,
+        }
+    }
+}
+
+/// Tells the fault in one line on standard error.
+pub fn tell(rt: &HostRuntime, fault: &Fault<'_>) -> io::Result<()> {
+    match *fault {
+        Fault::Usage => eprintln!(rt; "check_config: usage"),
+        Fault::CannotRead { path } => eprintln!(rt; "check_config: cannot read {path}"),
+        Fault::CannotWrite => eprintln!(rt; "check_config: cannot write"),
+        Fault::TooLong => eprintln!(rt; "check_config: longer than 1048576 bytes"),
+        Fault::NoJson { spot } => eprintln!(rt; "check_config: {spot}: no JSON"),
+        Fault::NoMemory => eprintln!(rt; "check_config: no memory"),
+    }
+}

@@ -1,0 +1,206 @@
+//! The objects of a configuration: where they stand, and which members they have.
+
+ghost use Rattle.std.specs.Prelude.{◌≡◌, ◌↔◌, IsTrue, Ok};
+ghost use Rattle.json.specs.Value.{value_view as view};
+ghost use Rattle.ocpi_json.specs.Fields.{required, as_whole};
+ghost use Rattle.ocpi_json.specs.declared.name.Name.TheVariants.{Version};
+
+use ocpi_json::name::Name;
+use ocpi_json::{Node, fields};
+use std::alloc::{AllocError, Global};
+use std::fmt;
+
+/// A list of objects in a configuration.
+#[derive(Clone, Copy)]
+pub enum Listing {
+    Operators,
+    Providers,
+    Platforms,
+    PairLimits,
+}
+
+impl Listing {
+    ghost use Rattle.std.specs.Prelude.{◌≡◌};
+    ghost use Rattle.check_config.specs.Known.{item_members};
+
+    pub fn name(self) -> Name {
+        match self {
+            Listing::Operators => Name::Operators,
+            Listing::Providers => Name::Providers,
+            Listing::Platforms => Name::Platforms,
+            Listing::PairLimits => Name::PairLimits,
+        }
+    }
+
+    /// The members of its items, in the order in which they are read.
+    fn members(self) -> &'static [Name]
+        ensures { result.now ≡ item_members self }
+    {
+        match self {
+            Listing::Operators => &[Name::Party, Name::Zone],
+            Listing::Providers => &[Name::Party, Name::Limits],
+            Listing::Platforms => &[Name::Name, Name::Parties, Name::Hub],
+            Listing::PairLimits => &[Name::Operator, Name::Provider, Name::Currency, Name::Limit],
+        }
+    }
+
+    /// The members by which its items differ.
+    pub fn keys(self) -> &'static [Name] {
+        match self {
+            Listing::Operators | Listing::Providers => &[Name::Party],
+            Listing::Platforms => &[Name::Name],
+            Listing::PairLimits => &[Name::Operator, Name::Provider, Name::Currency],
+        }
+    }
+}
+
+/// Where an object of a configuration stands.
+#[derive(Clone, Copy)]
+pub enum Place {
+    Whole,
+    Item { list: Listing, index: usize },
+    LimitOf { provider: usize, index: usize },
+    Limits,
+}
+
+impl Place {
+    ghost use Rattle.std.specs.Prelude.{◌≡◌};
+    ghost use Rattle.check_config.specs.Known.{members_of};
+
+    /// The members of the object, in the order in which they are read.
+    pub fn members(self) -> &'static [Name]
+        ensures { result.now ≡ members_of self }
+    {
+        match self {
+            Place::Whole => &[
+                Name::Version,
+                Name::Tolerance,
+                Name::Currencies,
+                Name::Operators,
+                Name::Providers,
+                Name::Platforms,
+                Name::Limits,
+                Name::PairLimits,
+                Name::CreditWindow,
+            ],
+            Place::Item { list, .. } => list.members(),
+            Place::LimitOf { .. } => &[Name::Currency, Name::Limit, Name::Hold],
+            Place::Limits => &[
+                Name::Cdrs,
+                Name::Tariffs,
+                Name::Entries,
+                Name::Order,
+                Name::Periods,
+            ],
+        }
+    }
+}
+
+/// What stands before the name of a member in its path.
+impl fmt::Display for Place {
+    fn fmt<W: fmt::Write>(&self, f: &mut fmt::Formatter<W>) -> fmt::Result {
+        match self {
+            Place::Whole => Ok(()),
+            Place::Item { list, index } => write!(f, "{}[{index}].", list.name().key()),
+            Place::LimitOf { provider, index } => write!(
+                f,
+                "providers[{provider}].limits[{index}]."
+            ),
+            Place::Limits => write!(f, "limits."),
+        }
+    }
+}
+
+/// An object of a configuration, and where it stands.
+#[derive(Clone, Copy)]
+pub struct Found<'n, 'a> {
+    pub place: Place,
+    pub node: &'n Node<'a>,
+}
+
+impl<'n, 'a> Found<'n, 'a> {
+    /// The configuration itself.
+    pub fn whole(node: &'n Node<'a>) -> Found<'n, 'a> {
+        Found {
+            place: Place::Whole,
+            node,
+        }
+    }
+}
+
+/// The configuration is of version 1, which has no pair limits and no credit window.
+pub fn is_of_version_1(whole: &Node) -> bool
+    ensures { IsTrue result ↔ (required (as_whole 1 2) Version (view whole.now) ≡ Ok 1) }
+{
+    match fields::whole(whole, Name::Version, 1, 2) {
+        Ok(version) => version == 1,
+        Err(_) => false,
+    }
+}
+
+fn no_items<'n, 'a>(_node: &'n Node<'a>) -> &'n [Node<'a>] {
+    &[]
+}
+
+/// The items of a member, and none where it is no array.
+pub fn items<'n, 'a>(node: &'n Node<'a>, name: Name) -> &'n [Node<'a>] {
+    match node.get(name.key()) {
+        Some(Node::Array(items)) => items.as_slice(),
+        _ => no_items(node),
+    }
+}
+
+fn add_items<'n, 'a>(
+    found: &mut Vec<Found<'n, 'a>>,
+    whole: &'n Node<'a>,
+    list: Listing,
+) -> Result<(), AllocError> {
+    for (index, node) in items(whole, list.name()).iter().enumerate() {
+        let place = Place::Item { list, index };
+        found.push(Found { place, node })?;
+    }
+    Ok(())
+}
+
+fn add_limits_of<'n, 'a>(
+    found: &mut Vec<Found<'n, 'a>>,
+    provider: usize,
+    node: &'n Node<'a>,
+) -> Result<(), AllocError> {
+    for (index, node) in items(node, Name::Limits).iter().enumerate() {
+        let place = Place::LimitOf { provider, index };
+        found.push(Found { place, node })?;
+    }
+    Ok(())
+}
+
+fn add_limits_of_each<'n, 'a>(
+    found: &mut Vec<Found<'n, 'a>>,
+    whole: &'n Node<'a>,
+) -> Result<(), AllocError> {
+    for (provider, node) in items(whole, Name::Providers).iter().enumerate() {
+        add_limits_of(found, provider, node)?;
+    }
+    Ok(())
+}
+
+/// The objects that are read within the configuration. Of two that have a member of the same name, the one that is read
+/// first stands before the other.
+pub fn objects_in<'n, 'a>(
+    alloc: Global,
+    whole: &'n Node<'a>,
+) -> Result<Vec<Found<'n, 'a>>, AllocError> {
+    let mut found = Vec::new(alloc);
+    add_items(&mut found, whole, Listing::Operators)?;
+    add_items(&mut found, whole, Listing::Providers)?;
+    add_limits_of_each(&mut found, whole)?;
+    add_items(&mut found, whole, Listing::Platforms)?;
+    if let Some(node) = whole.get(Name::Limits.key()) {
+        let place = Place::Limits;
+        found.push(Found { place, node })?;
+    }
+    if !is_of_version_1(whole) {
+        add_items(&mut found, whole, Listing::PairLimits)?;
+    }
+    Ok(found)
+}

@@ -1,0 +1,120 @@
+//! The members of a configuration that are passed over.
+
+ghost use Rattle.std.specs.Prelude.{◌≡◌, ◌==◌};
+ghost use Rattle.std.specs.Cmp.Lexicographic.{pointwise};
+ghost use Rattle.std.specs.List.{list_any};
+ghost use Rattle.check_config.specs.Causes.{cause, is_of_version_2};
+ghost use Rattle.check_config.specs.Known.{known_by};
+
+use crate::near::meant;
+use crate::objects::{Found, Place, is_of_version_1};
+use crate::spelled::Spelled;
+use ocpi_json::Node;
+use ocpi_json::name::Name;
+use std::alloc::{AllocError, Global};
+
+/// Why a member is passed over.
+#[derive(Clone, Copy)]
+enum Cause {
+    /// Its object has no member of that name.
+    Unknown,
+    /// Version 1 has no member of that name.
+    OfVersion2,
+    /// Another member of the same name comes later, and stands.
+    Repeated,
+}
+
+fn known(place: Place, key: &str) -> Option<Name>
+    ensures { result ≡ known_by key.now place }
+{
+    place
+        .members()
+        .iter()
+        .copied()
+        .find(|name| name.key() == key)
+}
+
+fn is_of_version_2(name: Name) -> bool
+    ensures { result ≡ is_of_version_2 name }
+{
+    matches!(name, Name::PairLimits | Name::CreditWindow)
+}
+
+fn is_repeated(key: &str, later: &[(&str, Node)]) -> bool
+    ensures { result ≡ list_any (λ member. pointwise ◌==◌ member.0.now key.now) later.now }
+{
+    later.iter().any(|(other, _)| *other == key)
+}
+
+// Why the member of that key is passed over, where others come later in its object.
+fn cause_of(is_version_1: bool, place: Place, key: &str, later: &[(&str, Node)]) -> Option<Cause>
+    ensures { result ≡ cause (known_by key.now place) is_version_1 (list_any (λ member. pointwise ◌==◌ member.0.now key.now) later.now) }
+{
+    let Some(name) = known(place, key) else {
+        return Some(Cause::Unknown);
+    };
+    if is_version_1 && is_of_version_2(name) {
+        return Some(Cause::OfVersion2);
+    }
+    if is_repeated(key, later) {
+        return Some(Cause::Repeated);
+    }
+    None
+}
+
+fn write_line(
+    alloc: Global,
+    lines: &mut String,
+    place: Place,
+    key: &str,
+    cause: Cause,
+) -> Result<(), AllocError> {
+    let spelled = Spelled { text: key };
+    match cause {
+        Cause::Unknown => match meant(alloc, place.members(), key)? {
+            Some(name) => writeln!(lines, "passed over: {place}{spelled} ({}?)", name.key()),
+            None => writeln!(lines, "passed over: {place}{spelled}"),
+        },
+        Cause::OfVersion2 => writeln!(lines, "passed over: {place}{spelled} (version 2 only)"),
+        Cause::Repeated => writeln!(lines, "passed over: {place}{spelled} (a later one stands)"),
+    }
+}
+
+fn write_members(
+    alloc: Global,
+    lines: &mut String,
+    is_version_1: bool,
+    place: Place,
+    members: &[(&str, Node)],
+) -> Result<(), AllocError> {
+    for (index, (key, _)) in members.iter().enumerate() {
+        let later = &members[index + 1..];
+        if let Some(cause) = cause_of(is_version_1, place, key, later) {
+            write_line(alloc, lines, place, key, cause)?;
+        }
+    }
+    Ok(())
+}
+
+fn write_object(
+    alloc: Global,
+    lines: &mut String,
+    is_version_1: bool,
+    found: &Found,
+) -> Result<(), AllocError> {
+    if let Node::Object(members) = found.node {
+        write_members(alloc, lines, is_version_1, found.place, members.as_slice())?;
+    }
+    Ok(())
+}
+
+/// A line for each member that is passed over, of the configuration and of the objects in it that are read.
+pub fn passed_over(alloc: Global, whole: &Node, objects: &[Found]) -> Result<String, AllocError> {
+    let mut lines = String::new(alloc);
+    let is_version_1 = is_of_version_1(whole);
+    write_object(alloc, &mut lines, is_version_1, &Found::whole(whole))?;
+    for found in objects {
+        write_object(alloc, &mut lines, is_version_1, found)?;
+    }
+    Ok(lines)
+}
