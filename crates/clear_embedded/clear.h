@@ -1,0 +1,89 @@
+/* The clearing house inside a program: a house that answers request lines, one at a time. README.md, "From other programs".
+   Link libclear_embedded.a and, of the kit, liblibc_c.a. It calls the program's malloc, realloc and free, and nothing else. */
+#ifndef CLEAR_H
+#define CLEAR_H
+
+#include <stdbool.h>
+#include <stddef.h>
+#include <stdint.h>
+
+#ifdef __cplusplus
+extern "C" {
+#endif
+
+/* A house, or none: `struct clear_house house = {0};` has none. The struct is the caller's, and what it points to is the
+   library's, from clear_open to clear_close. The caller changes neither, and uses no copy beside the one that it goes on with.
+   A house is called by the thread that opened it; other houses may be called by other threads meanwhile.
+   A call needs a stack of 512 KB, and is made from no signal handler. */
+struct clear_house {
+    void *at;
+    bool is_open;
+};
+
+/* What a call comes to. At every other code than CLEAR_DONE, CLEAR_TOO_SMALL and CLEAR_NOT_WRITTEN nothing is done. */
+enum clear_code {
+    CLEAR_DONE = 0,
+    CLEAR_NO_MEMORY = 1,     /* memory was refused; the same call may be made again */
+    CLEAR_NULL = 2,          /* a pointer is NULL that may not be */
+    CLEAR_CLOSED = 3,        /* no house is open */
+    CLEAR_OPEN = 4,          /* clear_open: a house is open already, and stays */
+    CLEAR_NO_JSON = 5,       /* clear_open: no JSON, or longer than 1,048,576 bytes */
+    CLEAR_MEMBER = 6,        /* clear_open: a member is at fault; `check_config` says which */
+    CLEAR_NO_LINE = 7,       /* clear_answer: longer than 1,048,576 bytes, or with a newline in it */
+    CLEAR_KEPT = 8,          /* clear_answer: an answer is kept, which clear_again gives first */
+    CLEAR_TOO_SMALL = 9,     /* the line is answered; its answer is longer than the buffer, and kept */
+    CLEAR_NOT_WRITTEN = 10,  /* the line is answered; memory for the answer's text was refused, and the answer is kept */
+    CLEAR_NOTHING_KEPT = 11  /* clear_again: no answer is kept */
+};
+
+/* The functions of the library, for other languages too. No pointer may be NULL, also where its length is 0; what is read
+   and what is written must not overlap. The functions behind them are for C, and test for NULL. */
+uint32_t clear_embedded_open(struct clear_house *house, const unsigned char *config, size_t config_length);
+uint32_t clear_embedded_answer(struct clear_house *house, const unsigned char *line, size_t line_length,
+                               unsigned char *buffer, size_t capacity, size_t *length);
+uint32_t clear_embedded_again(struct clear_house *house, unsigned char *buffer, size_t capacity, size_t *length);
+void clear_embedded_close(struct clear_house *house);
+
+/* Opens an empty house of the configuration that these bytes say. They are not used after the call. */
+static inline enum clear_code clear_open(struct clear_house *house, const unsigned char *config, size_t config_length)
+{
+    if (house == NULL || config == NULL)
+        return CLEAR_NULL;
+    return (enum clear_code)clear_embedded_open(house, config, config_length);
+}
+
+/* Answers a line, which stands without its newline. Each line is answered once, whatever the code: at CLEAR_DONE the answer
+   with its newline is in the buffer, and *length is its length; at CLEAR_TOO_SMALL *length is the length that it needs, and the
+   buffer is as it was. At all other codes *length is 0. A buffer of capacity 0 may be NULL. */
+static inline enum clear_code clear_answer(struct clear_house *house, const unsigned char *line, size_t line_length,
+                                           unsigned char *buffer, size_t capacity, size_t *length)
+{
+    unsigned char none;
+
+    if (house == NULL || line == NULL || length == NULL || (buffer == NULL && capacity > 0))
+        return CLEAR_NULL;
+    return (enum clear_code)clear_embedded_answer(house, line, line_length, buffer == NULL ? &none : buffer, capacity, length);
+}
+
+/* Gives the answer that is kept, which is kept no longer at CLEAR_DONE. Codes, buffer and length as with clear_answer. */
+static inline enum clear_code clear_again(struct clear_house *house, unsigned char *buffer, size_t capacity, size_t *length)
+{
+    unsigned char none;
+
+    if (house == NULL || length == NULL || (buffer == NULL && capacity > 0))
+        return CLEAR_NULL;
+    return (enum clear_code)clear_embedded_again(house, buffer == NULL ? &none : buffer, capacity, length);
+}
+
+/* Ends the house, if there is one, with all that it has and keeps, and frees its memory. The struct may be opened again. */
+static inline void clear_close(struct clear_house *house)
+{
+    if (house != NULL)
+        clear_embedded_close(house);
+}
+
+#ifdef __cplusplus
+}
+#endif
+
+#endif

@@ -1,0 +1,3 @@
+mod AnsweringLemmas
+mod HeldValues
+mod LooseValues

@@ -1,0 +1,94 @@
+-- What an open house is asked and how it stands then.
+use Rattle.std.specs.Prelude.{◌≡◌, ℕ, ◌<◌, ◌≤◌, List, [], ◌++◌, length, drop, Option, Some, None, IsSome}
+use Rattle.ocpi_types.specs.declared.config.Config.{Config}
+use Rattle.plain_house.specs.Replies.{Reply}
+use Rattle.request_lines.specs.AnswerText.{answer_text}
+use Rattle.request_lines.specs.Lines.{IsShort, HasNoNewline}
+use Rattle.request_lines.specs.Script.{answer_of, after, reply_in}
+use Rattle.clear_embedded.specs.Standing.{Standing}
+use Rattle.clear_embedded.specs.declared.code.Code.{Code}
+use Rattle.clear_embedded.specs.declared.code.Code.TheVariants.{Done, NoMemory, Closed, Open, NoJson, Member, NoLine, Kept, TooSmall, NotWritten, NothingKept}
+
+-- ---- the house
+
+-- an empty house of this configuration
+abbrev pub opened : Config → Standing
+opened config = record { config = config; events = []; kept = None }
+
+-- the line has been answered, and its reply is kept
+abbrev pub with_line : Standing → List ℕ → Standing
+with_line house line = record {
+  config = house.config;
+  events = after house.config house.events line;
+  kept = Some (reply_in house.config house.events line);
+}
+
+-- nothing is kept any more
+abbrev pub given : Standing → Standing
+given house = record { config = house.config; events = house.events; kept = None }
+
+-- at most 1,048,576 bytes, and none of them a newline
+abbrev pub IsLine : List ℕ → Type 0
+IsLine line = IsShort line × HasNoNewline line
+
+-- ---- the caller's buffer
+
+-- the buffer before the call and after it, and the length that was told
+pub record Buffer : Type 0 where
+  pub before : List ℕ
+  pub after : List ℕ
+  pub told : ℕ
+
+-- the text stands at the buffer's beginning, and what was behind it is as it was
+pub record IsWritten (text : List ℕ) (buffer : Buffer) : Type 0 where
+  pub fits : length text ≤ length buffer.before
+  pub after_is : buffer.after ≡ text ++ drop (length text) buffer.before
+  pub told_is : buffer.told ≡ length text
+
+-- the text is longer than the buffer, which is as it was, and its length is told
+pub record IsTooLong (text : List ℕ) (buffer : Buffer) : Type 0 where
+  pub too_long : length buffer.before < length text
+  pub after_is : buffer.after ≡ buffer.before
+  pub told_is : buffer.told ≡ length text
+
+-- no answer is told, and the buffer is as it was
+pub record IsUnwritten (buffer : Buffer) : Type 0 where
+  pub after_is : buffer.after ≡ buffer.before
+  pub told_is : buffer.told ≡ 0
+
+-- ---- a line
+
+-- The line is answered, once, at `Done`, `TooSmall` and `NotWritten`; the answer is in the buffer or kept. At any other
+-- code the house is as it was.
+abbrev pub IsAnswered : Code → Standing → List ℕ → Standing → Buffer → Type 0
+IsAnswered Done house line house' buffer = (house.kept ≡ None) × (house' ≡ given (with_line house line))
+    × IsWritten (answer_of house.config house.events line) buffer
+IsAnswered TooSmall house line house' buffer = (house.kept ≡ None) × (house' ≡ with_line house line)
+    × IsTooLong (answer_of house.config house.events line) buffer
+IsAnswered NotWritten house line house' buffer = (house.kept ≡ None) × (house' ≡ with_line house line) × IsUnwritten buffer
+IsAnswered NoMemory house line house' buffer = (house' ≡ house) × IsUnwritten buffer
+IsAnswered Kept house line house' buffer = IsSome house.kept × (house' ≡ house) × IsUnwritten buffer
+IsAnswered NoLine house line house' buffer = (IsLine line → ⊥) × (house' ≡ house) × IsUnwritten buffer
+IsAnswered Closed house line house' buffer = ⊥
+IsAnswered Open house line house' buffer = ⊥
+IsAnswered NoJson house line house' buffer = ⊥
+IsAnswered Member house line house' buffer = ⊥
+IsAnswered NothingKept house line house' buffer = ⊥
+
+-- ---- what is kept
+
+-- at `Done` the kept answer is in the buffer; else it stays kept
+abbrev pub IsGivenAgain : Code → Standing → Standing → Buffer → Type 0
+IsGivenAgain Done house house' buffer = (reply : Reply) × (house.kept ≡ Some reply) × (house' ≡ given house)
+    × IsWritten (answer_text house.config reply) buffer
+IsGivenAgain TooSmall house house' buffer = (reply : Reply) × (house.kept ≡ Some reply) × (house' ≡ house)
+    × IsTooLong (answer_text house.config reply) buffer
+IsGivenAgain NotWritten house house' buffer = IsSome house.kept × (house' ≡ house) × IsUnwritten buffer
+IsGivenAgain NothingKept house house' buffer = (house.kept ≡ None) × (house' ≡ house) × IsUnwritten buffer
+IsGivenAgain NoMemory house house' buffer = ⊥
+IsGivenAgain Kept house house' buffer = ⊥
+IsGivenAgain NoLine house house' buffer = ⊥
+IsGivenAgain Closed house house' buffer = ⊥
+IsGivenAgain Open house house' buffer = ⊥
+IsGivenAgain NoJson house house' buffer = ⊥
+IsGivenAgain Member house house' buffer = ⊥

@@ -1,0 +1,5 @@
+pub mod Answering
+pub mod Calls
+pub mod Codes
+pub mod Owned
+pub mod Standing

@@ -1,0 +1,112 @@
+//! What C has of a house.
+
+ghost use Rattle.std.specs.Prelude.{◌≡◌, Some, None, true, false, IsSome, MatchOption};
+ghost use Rattle.clear_embedded.specs.Calls.{AgainIs, AnswerIs, OpenIs};
+
+use super::answering_house::AnsweringHouse;
+use super::code::{Code, Told};
+use super::held::Held;
+use super::loose::Loose;
+use ocpi_types::ConfigFault;
+use std::alloc::Global;
+use std::mem::replace;
+use std::ptr::null_mut;
+
+/// What C has of a house: `struct clear_house`.
+#[repr(C)]
+#[derive(Drop)]
+pub struct ClearHouse {
+    pub held: Held,
+    is_open: bool,
+    ghost open_is: { is_open ≡ true → IsSome held.standing },
+    ghost closed_is: { is_open ≡ false → held.standing ≡ None },
+}
+
+fn nowhere() -> *mut u8 {
+    null_mut()
+}
+
+impl ClearHouse {
+    fn closed(at: *mut u8) -> ClearHouse
+        ensures { result.held.standing ≡ None }
+    {
+        ClearHouse {
+            held: Held::none(at),
+            is_open: false,
+        }
+    }
+
+    fn opened(house: Box<AnsweringHouse>) -> ClearHouse
+        ensures { result.held.standing ≡ Some house.value }
+    {
+        ClearHouse {
+            held: Held::of(Loose::of(house)),
+            is_open: true,
+        }
+    }
+
+    /// Gives out the house, if there is one, and is closed then.
+    pub(crate) fn take(&mut self, alloc: Global) -> Option<Box<AnsweringHouse>>
+        ensures house { MatchOption result (self.old.held.standing ≡ None) (λ house. self.old.held.standing ≡ Some house.value) }
+        ensures closed { self.new.held.standing ≡ None }
+    {
+        let ClearHouse { held, is_open } = replace(self, ClearHouse::closed(nowhere()));
+        if is_open {
+            Some(held.into_loose(alloc).into_box())
+        } else {
+            None
+        }
+    }
+
+    // Takes up a house where none is open.
+    fn put(&mut self, house: Box<AnsweringHouse>)
+        requires { self.old.held.standing ≡ None }
+        ensures { self.new.held.standing ≡ Some house.value }
+    {
+        *self = ClearHouse::opened(house);
+    }
+
+    /// Opens an empty house of the configuration that these bytes say.
+    pub(crate) fn open(&mut self, alloc: Global, config: &[u8]) -> Code
+        ensures { OpenIs result self.old.held.standing config.now self.new.held.standing }
+    {
+        if self.is_open {
+            return Code::Open;
+        }
+        match AnsweringHouse::boxed(alloc, config) {
+            Ok(house) => {
+                self.put(house);
+                Code::Done
+            }
+            Err(ConfigFault::Syntax) => Code::NoJson,
+            Err(ConfigFault::Member { .. }) => Code::Member,
+            Err(ConfigFault::NoMemory) => Code::NoMemory,
+        }
+    }
+
+    /// Answers one line.
+    pub(crate) fn answer(&mut self, alloc: Global, line: &[u8], buffer: &mut [u8]) -> Told
+        ensures { AnswerIs result.code self.old.held.standing line.now self.new.held.standing
+            (record { before = buffer.old; after = buffer.new; told = result.length }) }
+    {
+        let Some(mut house) = self.take(alloc) else {
+            return Told::of(Code::Closed);
+        };
+        let told = house.answer(alloc, line, buffer);
+        self.put(house);
+        told
+    }
+
+    /// Gives the answer that is kept.
+    pub(crate) fn again(&mut self, alloc: Global, buffer: &mut [u8]) -> Told
+        ensures { AgainIs result.code self.old.held.standing self.new.held.standing
+            (record { before = buffer.old; after = buffer.new; told = result.length }) }
+    {
+        let Some(mut house) = self.take(alloc) else {
+            return Told::of(Code::Closed);
+        };
+        let told = house.again(alloc, buffer);
+        self.put(house);
+        told
+    }
+}

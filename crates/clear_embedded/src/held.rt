@@ -1,0 +1,52 @@
+//! A house behind a pointer that C holds.
+
+ghost use Rattle.std.specs.Prelude.{◌≡◌, Some, None, IsSome, Option};
+ghost use Rattle.clear_embedded.specs.Standing.{Standing};
+
+use super::answering_house::AnsweringHouse;
+use super::loose::Loose;
+use std::alloc::Global;
+use std::marker::Model;
+
+/// A house behind a pointer that C holds, or none. C sees a pointer to nothing in particular.
+#[repr(C)]
+#[derive(Drop)]
+pub struct Held {
+    at: *mut u8,
+    /// How the house stands.
+    pub ghost standing: { Option Standing },
+}
+
+impl Model for Held {
+    ghost use Rattle.libc.specs.Heap.{chunk};
+    ghost use Rattle.clear_embedded.specs.Owned.{owned};
+    ghost use Rattle.clear_embedded.specs.contracts.answering_house.AnsweringHouse.{the_row};
+
+    ghost also_owns = { λ h. owned chunk the_row h.at h.standing };
+}
+
+impl Held {
+    pub(crate) fn none(at: *mut u8) -> Held
+        ensures { result.standing ≡ None }
+    {
+        Held { at }
+    }
+
+    pub(crate) fn of(loose: Loose<AnsweringHouse, Global>) -> Held
+        ensures { result.standing ≡ Some loose.value }
+    {
+        let Loose { at, alloc: _ } = loose;
+        Held { at: at as *mut u8 }
+    }
+
+    pub(crate) fn into_loose(self, alloc: Global) -> Loose<AnsweringHouse, Global>
+        requires { IsSome self.standing }
+        ensures { self.standing ≡ Some result.value }
+    {
+        let Held { at } = self;
+        Loose {
+            at: at as *mut AnsweringHouse,
+            alloc,
+        }
+    }
+}

@@ -1,0 +1,68 @@
+//! The clearing house for programs in C and in other languages that call C: four functions over a house that C holds.
+//! `clear.h` says how they are called.
+#![tactic(auto)]
+
+mod answering_house;
+mod clear_house;
+mod code;
+mod held;
+mod loose;
+
+ghost use Rattle.std.specs.Prelude.{◌≡◌, None};
+ghost use Rattle.clear_embedded.specs.Calls.{AgainIs, AnswerIs, OpenIs};
+ghost use Rattle.clear_embedded.specs.Codes.{code_number};
+ghost use Rattle.clear_embedded.specs.declared.code.Code.{Code as CodeValue};
+
+use clear_house::ClearHouse;
+use std::alloc::Global;
+
+/// Opens an empty house of the configuration that these bytes say.
+#[unsafe(no_mangle)]
+pub extern "C" fn clear_embedded_open(alloc: Global, house: &mut ClearHouse, config: &[u8]) -> u32
+    ensures { (code : CodeValue) × (result ≡ code_number code) × OpenIs code house.old.held.standing config.now house.new.held.standing }
+{
+    house.open(alloc, config).number()
+}
+
+/// Answers one line, which stands without its newline.
+#[unsafe(no_mangle)]
+pub extern "C" fn clear_embedded_answer(
+    alloc: Global,
+    house: &mut ClearHouse,
+    line: &[u8],
+    buffer: &mut [u8],
+    length: &mut usize,
+) -> u32
+    ensures { (code : CodeValue) × (result ≡ code_number code)
+        × AnswerIs code house.old.held.standing line.now house.new.held.standing
+        (record { before = buffer.old; after = buffer.new; told = length.new }) }
+{
+    let told = house.answer(alloc, line, buffer);
+    *length = told.length;
+    told.code.number()
+}
+
+/// Gives the answer that is kept.
+#[unsafe(no_mangle)]
+pub extern "C" fn clear_embedded_again(
+    alloc: Global,
+    house: &mut ClearHouse,
+    buffer: &mut [u8],
+    length: &mut usize,
+) -> u32
+    ensures { (code : CodeValue) × (result ≡ code_number code)
+        × AgainIs code house.old.held.standing house.new.held.standing
+        (record { before = buffer.old; after = buffer.new; told = length.new }) }
+{
+    let told = house.again(alloc, buffer);
+    *length = told.length;
+    told.code.number()
+}
+
+/// Ends the house, if there is one, with all that it has and keeps.
+#[unsafe(no_mangle)]
+pub extern "C" fn clear_embedded_close(alloc: Global, house: &mut ClearHouse)
+    ensures { house.new.held.standing ≡ None }
+{
+    let _ended = house.take(alloc);
+}

@@ -1,0 +1,184 @@
+/* Calls of the library for C that examples/embedded/answer_lines.c does not make. It takes no memory of its own.
+
+   embedded_calls codes CONFIG      makes calls that are answered by each code but want of memory, prints those that are answered
+                                    otherwise than is meant, and ends with status 0 where none is
+   embedded_calls again CONFIG      answers the lines of standard input into a buffer of 40 bytes, and asks again for each answer
+                                    that is kept; a call that is refused memory is made once more */
+#include "clear.h"
+
+#include <fcntl.h>
+#include <string.h>
+#include <unistd.h>
+
+#define MOST_LINE 1048576
+
+static unsigned char config[MOST_LINE + 1], input[1 << 24], buffer[1 << 24], small[40], longest[MOST_LINE + 1];
+static const char token[] = "{\"platform\":\"emp\",\"do\":\"exposure\",\"provider\":\"NL/MSA\",\"currency\":\"EUR\"}";
+static const char exposure[] =
+    "{\"status_code\":1000,\"answer\":\"Exposure\",\"at\":0,\"holds\":\"0.0000\",\"debts\":\"0.0000\",\"limit\":\"100.0000\"}\n";
+static const char no_json[] = "{\"status_code\":2001,\"refusal\":\"Syntax\",\"number\":1}\n";
+static int failed;
+
+static void is(int holds, const char *what)
+{
+    if (holds)
+        return;
+    failed++;
+    if (write(1, what, strlen(what)) < 0 || write(1, "\n", 1) < 0)
+        failed++;
+}
+
+#define IS(what) is(what, #what)
+
+/* The bytes of an open file, but no more than the room. */
+static size_t all_of(int file, unsigned char *bytes, size_t room)
+{
+    size_t size = 0;
+    ssize_t count;
+
+    while (size < room && (count = read(file, bytes + size, room - size)) > 0)
+        size += (size_t)count;
+    return size;
+}
+
+static const unsigned char *bytes_of(const char *text)
+{
+    return (const unsigned char *)text;
+}
+
+static void open_codes(struct clear_house *house, size_t size)
+{
+    IS(clear_open(NULL, config, size) == CLEAR_NULL);
+    IS(clear_open(house, NULL, 0) == CLEAR_NULL);
+    IS(clear_open(house, config, 0) == CLEAR_NO_JSON);
+    IS(clear_open(house, config, size - 2) == CLEAR_NO_JSON);
+    IS(clear_open(house, config, sizeof config) == CLEAR_NO_JSON);
+    IS(clear_open(house, bytes_of("{}"), 2) == CLEAR_MEMBER);
+    IS(!house->is_open);
+    IS(clear_open(house, config, size) == CLEAR_DONE);
+    IS(house->is_open);
+    IS(clear_open(house, config, size) == CLEAR_OPEN);
+    IS(clear_open(house, bytes_of("{}"), 2) == CLEAR_OPEN);
+}
+
+static void null_codes(struct clear_house *house)
+{
+    size_t length = 7;
+
+    IS(clear_answer(NULL, bytes_of(token), strlen(token), buffer, sizeof buffer, &length) == CLEAR_NULL);
+    IS(clear_answer(house, NULL, 0, buffer, sizeof buffer, &length) == CLEAR_NULL);
+    IS(clear_answer(house, bytes_of(token), strlen(token), NULL, 1, &length) == CLEAR_NULL);
+    IS(clear_answer(house, bytes_of(token), strlen(token), buffer, sizeof buffer, NULL) == CLEAR_NULL);
+    IS(clear_again(NULL, buffer, sizeof buffer, &length) == CLEAR_NULL);
+    IS(clear_again(house, NULL, 1, &length) == CLEAR_NULL);
+    IS(clear_again(house, buffer, sizeof buffer, NULL) == CLEAR_NULL);
+    IS(length == 7);
+    clear_close(NULL);
+}
+
+static void line_codes(struct clear_house *house)
+{
+    size_t length = 7;
+
+    memset(longest, 'x', sizeof longest);
+    IS(clear_answer(house, bytes_of("[\n]"), 3, buffer, sizeof buffer, &length) == CLEAR_NO_LINE && length == 0);
+    IS(clear_answer(house, longest, MOST_LINE + 1, buffer, sizeof buffer, &length) == CLEAR_NO_LINE && length == 0);
+    IS(clear_answer(house, longest, MOST_LINE, buffer, sizeof buffer, &length) == CLEAR_DONE);
+    IS(length == strlen(no_json) && memcmp(buffer, no_json, length) == 0);
+    IS(clear_answer(house, bytes_of(""), 0, buffer, sizeof buffer, &length) == CLEAR_DONE);
+    IS(length == strlen(no_json) && memcmp(buffer, no_json, length) == 0);
+}
+
+static void kept_codes(struct clear_house *house)
+{
+    size_t length = 7, size = strlen(exposure);
+
+    IS(clear_again(house, buffer, sizeof buffer, &length) == CLEAR_NOTHING_KEPT && length == 0);
+    memset(buffer, '.', size + 2);
+    IS(clear_answer(house, bytes_of(token), strlen(token), NULL, 0, &length) == CLEAR_TOO_SMALL && length == size);
+    IS(clear_answer(house, bytes_of(token), strlen(token), buffer, size, &length) == CLEAR_KEPT && length == 0);
+    IS(clear_answer(house, bytes_of("[\n]"), 3, buffer, size, &length) == CLEAR_KEPT && length == 0);
+    IS(clear_again(house, buffer, size - 1, &length) == CLEAR_TOO_SMALL && length == size);
+    IS(buffer[0] == '.' && buffer[size - 1] == '.');
+    IS(clear_again(house, buffer, size, &length) == CLEAR_DONE && length == size);
+    IS(memcmp(buffer, exposure, size) == 0 && buffer[size] == '.' && buffer[size + 1] == '.');
+    IS(clear_again(house, buffer, size, &length) == CLEAR_NOTHING_KEPT && length == 0);
+    IS(clear_answer(house, bytes_of(token), strlen(token), buffer, size, &length) == CLEAR_DONE && length == size);
+}
+
+static void closed_codes(struct clear_house *house)
+{
+    size_t length = 7;
+
+    IS(clear_answer(house, bytes_of(token), strlen(token), buffer, sizeof buffer, &length) == CLEAR_CLOSED && length == 0);
+    length = 7;
+    IS(clear_again(house, buffer, sizeof buffer, &length) == CLEAR_CLOSED && length == 0);
+    clear_close(house);
+    IS(!house->is_open);
+}
+
+static int codes(struct clear_house *house, size_t size)
+{
+    size_t length;
+
+    closed_codes(house);
+    open_codes(house, size);
+    null_codes(house);
+    line_codes(house);
+    kept_codes(house);
+    IS(clear_answer(house, bytes_of(token), strlen(token), small, sizeof small, &length) == CLEAR_TOO_SMALL);
+    clear_close(house); /* with an answer that is kept */
+    closed_codes(house);
+    IS(clear_open(house, config, size) == CLEAR_DONE);
+    kept_codes(house);
+    clear_close(house);
+    return failed > 0;
+}
+
+/* Answers a line, and gives the number of bytes of its answer, or 0 at a code that is not meant. */
+static size_t answered(struct clear_house *house, const unsigned char *line, size_t size)
+{
+    size_t length;
+    enum clear_code code = clear_answer(house, line, size, small, sizeof small, &length);
+
+    if (code == CLEAR_NO_MEMORY)
+        code = clear_answer(house, line, size, small, sizeof small, &length);
+    if (code == CLEAR_TOO_SMALL || code == CLEAR_NOT_WRITTEN)
+        code = clear_again(house, buffer, sizeof buffer, &length);
+    else if (code == CLEAR_DONE)
+        memcpy(buffer, small, length);
+    if (code == CLEAR_NOT_WRITTEN)
+        code = clear_again(house, buffer, sizeof buffer, &length);
+    return code == CLEAR_DONE ? length : 0;
+}
+
+static int again(struct clear_house *house, size_t size)
+{
+    size_t at, end, count = all_of(0, input, sizeof input);
+    enum clear_code code = clear_open(house, config, size);
+
+    if (code == CLEAR_NO_MEMORY)
+        code = clear_open(house, config, size);
+    if (code != CLEAR_DONE)
+        return 1;
+    for (at = 0; at < count; at = end + 1) {
+        for (end = at; end < count && input[end] != '\n'; end++)
+            continue;
+        size = answered(house, input + at, end - at);
+        if (size == 0 || write(1, buffer, size) != (ssize_t)size)
+            return 1;
+    }
+    clear_close(house);
+    return 0;
+}
+
+int main(int argc, char **argv)
+{
+    struct clear_house house = {0};
+    int file = argc == 3 ? open(argv[2], O_RDONLY) : -1;
+    size_t size = file < 0 ? 0 : all_of(file, config, sizeof config);
+
+    if (size == 0)
+        return 2;
+    return strcmp(argv[1], "codes") == 0 ? codes(&house, size) : again(&house, size);
+}
