@@ -1,5 +1,6 @@
 /* The clearing house inside a program: a house that answers request lines, one at a time. README.md, "From other programs".
-   Link libclear_embedded.a and, of the kit, liblibc_c.a. It calls the program's malloc, realloc and free, and nothing else. */
+   Link libclear_embedded.a and, of the kit, liblibc_c.a. They take memory by the program's malloc, realloc and free, and read and
+   write nothing but what they are handed. */
 #ifndef CLEAR_H
 #define CLEAR_H
 
@@ -20,7 +21,7 @@ struct clear_house {
     bool is_open;
 };
 
-/* What a call comes to. At every other code than CLEAR_DONE, CLEAR_TOO_SMALL and CLEAR_NOT_WRITTEN nothing is done. */
+/* What a call comes to. At every other code than CLEAR_DONE, CLEAR_TOO_SMALL and CLEAR_NOT_WRITTEN the house is as it was. */
 enum clear_code {
     CLEAR_DONE = 0,
     CLEAR_NO_MEMORY = 1,     /* memory was refused; the same call may be made again */
@@ -52,9 +53,10 @@ static inline enum clear_code clear_open(struct clear_house *house, const unsign
     return (enum clear_code)clear_embedded_open(house, config, config_length);
 }
 
-/* Answers a line, which stands without its newline. Each line is answered once, whatever the code: at CLEAR_DONE the answer
-   with its newline is in the buffer, and *length is its length; at CLEAR_TOO_SMALL *length is the length that it needs, and the
-   buffer is as it was. At all other codes *length is 0. A buffer of capacity 0 may be NULL. */
+/* Answers a line, which stands without its newline; one of length 0 is answered too. At CLEAR_DONE the answer stands at the
+   buffer's beginning, with its newline. At CLEAR_TOO_SMALL and CLEAR_NOT_WRITTEN the line is done: do not send it again, but take
+   its answer by clear_again. *length is the length of the answer at CLEAR_DONE and at CLEAR_TOO_SMALL, as it was at CLEAR_NULL, and
+   else 0. A buffer of capacity 0 may be NULL. */
 static inline enum clear_code clear_answer(struct clear_house *house, const unsigned char *line, size_t line_length,
                                            unsigned char *buffer, size_t capacity, size_t *length)
 {

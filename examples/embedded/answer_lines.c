@@ -2,47 +2,53 @@
 #define _POSIX_C_SOURCE 200809L
 #include "clear.h"
 
+#include <fcntl.h>
 #include <stdio.h>
 #include <stdlib.h>
+#include <unistd.h>
 
 static unsigned char config[1048577]; /* one byte more than a configuration may have */
+static unsigned char *buffer;
+static size_t capacity;
 
-static int told(enum clear_code code)
+/* Answers a line into the buffer, which grows where the answer is longer. */
+static enum clear_code answer(struct clear_house *house, const char *line, size_t size, size_t *length)
 {
-    if (code == CLEAR_NO_MEMORY || code == CLEAR_NOT_WRITTEN)
-        fprintf(stderr, "answer_lines: no memory\n");
-    else if (code != CLEAR_DONE)
-        fprintf(stderr, "answer_lines: code %d\n", (int)code);
-    return code != CLEAR_DONE;
+    enum clear_code code = clear_answer(house, (const unsigned char *)line, size, buffer, capacity, length);
+    unsigned char *larger;
+
+    if (code != CLEAR_TOO_SMALL)
+        return code;
+    larger = realloc(buffer, *length);
+    if (larger == NULL)
+        return CLEAR_NO_MEMORY;
+    buffer = larger;
+    capacity = *length;
+    return clear_again(house, buffer, capacity, length);
 }
 
 int main(int argc, char **argv)
 {
     struct clear_house house = {0};
-    size_t capacity = 128, room = 0, length = 0;
-    unsigned char *larger, *buffer = malloc(capacity);
+    int file = open(argv[argc - 1], O_RDONLY);
+    ssize_t count = read(file, config, sizeof config);
+    enum clear_code code = clear_open(&house, config, count < 0 ? 0 : (size_t)count);
     char *line = NULL;
-    ssize_t count;
-    FILE *file = buffer == NULL ? NULL : fopen(argv[argc - 1], "rb");
-    enum clear_code code = file == NULL ? CLEAR_NO_MEMORY : clear_open(&house, config, fread(config, 1, sizeof config, file));
+    size_t room = 0, length;
 
     while (code == CLEAR_DONE && (count = getline(&line, &room, stdin)) > 0) {
-        count -= line[count - 1] == '\n';
-        code = clear_answer(&house, (unsigned char *)line, (size_t)count, buffer, capacity, &length);
-        if (code == CLEAR_TOO_SMALL && (larger = realloc(buffer, length)) != NULL) {
-            buffer = larger;
-            capacity = length;
-            code = clear_again(&house, buffer, capacity, &length);
-        }
+        code = answer(&house, line, (size_t)count - (line[count - 1] == '\n'), &length);
         if (code == CLEAR_DONE)
             fwrite(buffer, 1, length, stdout);
     }
-    if (code == CLEAR_TOO_SMALL || (code == CLEAR_DONE && !feof(stdin)))
+    if (code == CLEAR_DONE && !feof(stdin)) /* getline found no memory */
         code = CLEAR_NO_MEMORY;
+    if (code == CLEAR_NO_MEMORY || code == CLEAR_NOT_WRITTEN)
+        fprintf(stderr, "answer_lines: no memory\n");
+    else if (code != CLEAR_DONE)
+        fprintf(stderr, "answer_lines: code %d\n", (int)code);
     clear_close(&house);
-    if (file != NULL)
-        fclose(file);
     free(line);
     free(buffer);
-    return told(code);
+    return code != CLEAR_DONE || fflush(stdout) != 0;
 }

@@ -58,6 +58,16 @@ fn house_of(alloc: Global, config: &Config) -> Result<BookHouse, AllocError>
     BookHouse::new(alloc, config.copy(alloc)?)
 }
 
+fn boxed(alloc: Global, house: AnsweringHouse) -> Result<Box<AnsweringHouse>, ConfigFault>
+    ensures ok { IfOk result (λ boxed. boxed.value ≡ house) }
+    ensures err { IfErr result (λ fault. fault ≡ NoMemory) }
+{
+    match Box::new(alloc, house) {
+        Ok(boxed) => Ok(boxed),
+        Err(_) => Err(ConfigFault::NoMemory),
+    }
+}
+
 impl AnsweringHouse {
     // An empty house of the configuration that these bytes say.
     fn of_bytes(alloc: Global, bytes: &[u8]) -> Result<AnsweringHouse, ConfigFault>
@@ -76,15 +86,12 @@ impl AnsweringHouse {
         }
     }
 
-    /// The same, in memory of its own.
-    pub(crate) fn boxed(alloc: Global, bytes: &[u8]) -> Result<Box<AnsweringHouse>, ConfigFault>
+    /// An empty house of the configuration that these bytes say, in memory of its own.
+    pub(crate) fn open(alloc: Global, bytes: &[u8]) -> Result<Box<AnsweringHouse>, ConfigFault>
         ensures ok { IfOk result (λ house. (config : ConfigValue) × (config_of bytes.now ≡ Ok config) × (house.value ≡ opened config)) }
         ensures err { IfErr result (λ fault. fault ≢ NoMemory → config_of bytes.now ≡ Err fault) }
     {
-        match Box::new(alloc, AnsweringHouse::of_bytes(alloc, bytes)?) {
-            Ok(house) => Ok(house),
-            Err(_) => Err(ConfigFault::NoMemory),
-        }
+        boxed(alloc, AnsweringHouse::of_bytes(alloc, bytes)?)
     }
 
     // Answers the line and keeps the reply, or gives `false` where memory was refused.

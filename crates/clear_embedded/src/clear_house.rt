@@ -73,7 +73,7 @@ impl ClearHouse {
         if self.is_open {
             return Code::Open;
         }
-        match AnsweringHouse::boxed(alloc, config) {
+        match AnsweringHouse::open(alloc, config) {
             Ok(house) => {
                 self.put(house);
                 Code::Done

@@ -4,7 +4,7 @@ ghost use Rattle.std.specs.Prelude.{◌≡◌};
 ghost use Rattle.clear_embedded.specs.Codes.{code_number};
 
 /// What a call from C is answered. C gets its number.
-#[derive(Clone, Copy, PartialEq, Eq)]
+#[derive(Clone, Copy)]
 pub enum Code {
     Done,
     /// Memory was refused, and nothing is done.
@@ -51,7 +51,7 @@ impl Code {
 }
 
 /// A code, and how many bytes the answer has that it speaks of: 0 where it speaks of none.
-#[derive(Clone, Copy, PartialEq, Eq)]
+#[derive(Clone, Copy)]
 pub struct Told {
     pub code: Code,
     pub length: usize,
