@@ -79,3 +79,11 @@ pub fn tell(rt: &HostRuntime, fault: &Fault<'_>) -> io::Result<()> {
         Fault::NoMemory => eprintln!(rt; "print_statements: no memory"),
     }
 }
+
+/// Tells on standard error how many lines were refused, if any were.
+pub fn tell_refused(rt: &HostRuntime, refused: u128) -> io::Result<()> {
+    if refused == 0 {
+        return Ok(());
+    }
+    eprintln!(rt; "print_statements: {refused} lines refused")
+}

@@ -2,11 +2,11 @@
 //! the statement of each party. The one word is the configuration's path. The answers to the lines are not printed.
 #![tactic(auto)]
 
-mod ended;
 mod fault;
+mod printed;
 
-use ended::EndedHouse;
-use fault::{Fault, tell};
+use fault::{Fault, tell, tell_refused};
+use printed::{ended_house, print};
 use request_lines::Device;
 use std::alloc::Global;
 use std::io::{Error, ErrorKind, Read};
@@ -56,9 +56,11 @@ fn perform<'a>(rt: &HostRuntime, words: &'a [String]) -> Result<(), Fault<'a>> {
     let path = path_of(words)?;
     let file = read_file(rt, rt.alloc(), path)?;
     let mut reader = Device::new(rt.stdin());
-    let ended = EndedHouse::of_lines(rt.alloc(), file.as_slice(), &mut reader)?;
+    let ended = ended_house(rt.alloc(), file.as_slice(), &mut reader)?;
     let mut writer = Device::new(rt.stdout());
-    ended.print(rt.alloc(), &mut writer)
+    print(rt.alloc(), &mut writer, &ended)?;
+    let _ = tell_refused(rt, ended.refused());
+    Ok(())
 }
 
 fn told(rt: &HostRuntime, fault: &Fault<'_>) -> ExitCode {

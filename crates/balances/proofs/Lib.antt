@@ -1,0 +1,5 @@
+pub mod EndingLemmas
+pub mod FitsLemmas
+pub mod PeriodsLemmas
+pub mod RowsLemmas
+pub mod SizeLemmas

@@ -1,0 +1,12 @@
+use Rattle.std.proofs.Common.{◌≡◌, ◌≤◌, ◌+◌, ◌++◌, length}
+use Rattle.balances.specs.Bookings.{bookings, bookings_from, endings}
+use Rattle.balances.proofs.booking.bookings.Given as goal
+
+abbrev pub invariant-loop-event : goal.invariant-loop-event
+invariant-loop-event l = record {
+  found : l.found.items ++ bookings_from (endings l.events) l.period l.rest ≡ bookings l.events;
+  periods : l.period + length l.rest ≤ length l.events;
+}
+
+abbrev pub decreases-loop-event : goal.decreases-loop-event
+decreases-loop-event l = length l.rest

@@ -1,0 +1,4 @@
+pub mod BalanceText
+pub mod Balances
+pub mod Bookings
+pub mod Inner

@@ -1,0 +1,100 @@
+//! What ends the debts of CDRs.
+
+ghost use Rattle.std.specs.Prelude.{◌≡◌, IfOk};
+ghost use Rattle.std.specs.Option.{option_to_list};
+ghost use Rattle.balances.specs.Bookings.{ending_in, endings, ends, is_settled, is_settlement};
+
+use ocpi_json::ci_text::CiText;
+use ocpi_types::{Currency, Party};
+use plain_house::{Charge, Event, names};
+use std::alloc::{AllocError, Global};
+
+/// What ends debts.
+#[derive(Clone, Copy)]
+pub enum Ending {
+    /// A Credit CDR takes back the CDR of that id of its operator.
+    TakenBack {
+        operator: Party,
+        original: Option<CiText<39>>,
+    },
+    /// A settlement ends the debts of a provider in a currency and a period.
+    Settled {
+        provider: Party,
+        currency: Currency,
+        period: u64,
+    },
+}
+
+fn ending_in(event: &Event) -> Option<Ending>
+    ensures { option_to_list result ≡ ending_in event.now }
+{
+    match event {
+        Event::Credit { cdr, .. } => Some(Ending::TakenBack {
+            operator: cdr.operator,
+            original: cdr.credit,
+        }),
+        Event::Settled(settlement) => Some(Ending::Settled {
+            provider: settlement.provider,
+            currency: settlement.currency,
+            period: settlement.period,
+        }),
+        _ => None,
+    }
+}
+
+/// The Credit CDRs and settlements, in order.
+pub fn endings(alloc: Global, events: &[Event]) -> Result<Vec<Ending>, AllocError>
+    ensures { IfOk result (λ found. found.items ≡ endings events.now) }
+{
+    let mut found = Vec::new(alloc);
+    let mut rest = events;
+    while let Some((event, later)) = rest.split_first() {
+        if let Some(ending) = ending_in(event) {
+            found.push(ending)?;
+        }
+        rest = later;
+    }
+    Ok(found)
+}
+
+fn ends(ending: &Ending, charge: &Charge) -> bool
+    ensures { result ≡ ends charge.now ending.now }
+{
+    match ending {
+        Ending::TakenBack { operator, original } => {
+            operator.is(&charge.operator) && names(&charge.cdr, original)
+        }
+        Ending::Settled {
+            provider,
+            currency,
+            period,
+        } => {
+            provider.is(&charge.provider)
+                && currency.is(&charge.currency)
+                && *period == charge.period
+        }
+    }
+}
+
+fn is_settlement(ending: &Ending) -> bool
+    ensures { result ≡ is_settlement ending.now }
+{
+    match ending {
+        Ending::TakenBack { .. } => false,
+        Ending::Settled { .. } => true,
+    }
+}
+
+/// The first that ends the debt of the charge is a settlement.
+pub fn is_settled(endings: &[Ending], charge: &Charge) -> bool
+    ensures { result ≡ is_settled endings.now charge.now }
+{
+    let mut rest = endings;
+    while let Some((ending, later)) = rest.split_first() {
+        if ends(ending, charge) {
+            return is_settlement(ending);
+        }
+        rest = later;
+    }
+    false
+}
