@@ -1,5 +1,8 @@
 pub mod EndingLemmas
-pub mod FitsLemmas
+pub mod LegalSettlements
+pub mod ListLemmas
+pub mod ObligationLemmas
 pub mod PeriodsLemmas
 pub mod RowsLemmas
+pub mod SettledLemmas
 pub mod SizeLemmas

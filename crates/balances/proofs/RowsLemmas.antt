@@ -1,32 +1,58 @@
--- Rows of one period after another.
-use Rattle.std.proofs.Common.{◌≡◌, ℕ, zero, suc, ◌+◌, ◌-◌, ◌<◌, List, ◌++◌, ap, sym, ◌∙◌, append_assoc, arith}
+-- Rows of bookings that are narrowed step by step are the rows of their places.
+use Rattle.std.proofs.Common.{◌≡◌, ℕ, suc, ◌+◌, ◌==◌, List, ◌++◌, ◌&&◌, ap, ap₂, sym, ◌∙◌, arith, filter, map}
+use Rattle.std.specs.Prelude.{flat_map}
+use Rattle.std.proofs.lemmas.List.Concat.{flat_map-append}
+use Rattle.std.proofs.lemmas.List.Folds.{flat_map-map}
+use Rattle.ocpi_types.specs.Currency.{same_currency}
+use Rattle.ocpi_types.specs.Party.{same_party}
+use Rattle.ocpi_types.specs.declared.config.Config.{Config}
 use Rattle.ocpi_types.specs.declared.party.Party.{Party}
-use Rattle.balances.specs.Balances.{of_period, rows_from, rows_of_period}
+use Rattle.balances.specs.Balances.{is_of, operators, place_of, places, places_in, providers, row_at, row_of}
+use Rattle.balances.specs.Inner.Narrowed.{of_currency, of_operator, of_period, of_provider, rows_of_currency, rows_of_operator, rows_of_period}
+use Rattle.balances.specs.Laws.{is_in}
 use Rattle.balances.specs.declared.booking.Booking.{Booking}
 use Rattle.balances.specs.declared.row.Row.{Row}
+use Rattle.balances.proofs.ListLemmas.{filter-filter, flat_map-flat_map, flat_map_alike}
 
-next : (n : ℕ) → suc n ≡ n + 1
-next n = omega arith
+module _ (bookings : List Booking) (period : ℕ) where
+  narrowed : (currency : List ℕ) (operator provider : Party)
+      → of_provider provider (of_operator operator (of_currency currency (of_period period bookings))) ≡ filter (is_of (place_of period currency operator provider)) bookings
+  narrowed currency operator provider =
+      ap (λ found. of_provider provider (of_operator operator found)) (filter-filter (λ b. same_currency b.currency currency) (is_in period) bookings)
+      ∙ ap (of_provider provider) (filter-filter (λ b. same_party b.operator operator) (λ b. is_in period b && same_currency b.currency currency) bookings)
+      ∙ filter-filter (λ b. same_party b.provider provider) (λ b. is_in period b && same_currency b.currency currency && same_party b.operator operator) bookings
 
-one_less : (n : ℕ) → n ≡ suc n - 1
-one_less n = omega arith
+  module _ (currency : List ℕ) (operator : Party) (providers : List Party) where
+    of_operator_rows : rows_of_operator period currency operator providers (of_operator operator (of_currency currency (of_period period bookings)))
+        ≡ flat_map (row_at bookings) (map (place_of period currency operator) providers)
+    of_operator_rows =
+        flat_map_alike (λ provider. row_of (place_of period currency operator provider) (of_provider provider (of_operator operator (of_currency currency (of_period period bookings)))))
+        (λ provider. row_at bookings (place_of period currency operator provider)) (λ provider. ap (row_of (place_of period currency operator provider)) (narrowed currency operator provider)) providers
+        ∙ sym (flat_map-map (row_at bookings) (place_of period currency operator) providers)
 
--- the rows of a period, and those of one period less from the next on
-pub next_rows : (more period : ℕ) (currencies : List (List ℕ)) (operators providers : List Party) (bookings : List Booking) → 0 < more
-    → rows_from more period currencies operators providers bookings
-    ≡ rows_of_period period currencies operators providers (of_period period bookings) ++ rows_from (more - 1) (period + 1) currencies operators providers bookings
-next_rows zero period currencies operators providers bookings h = absurd (omega arith)
-next_rows (suc more) period currencies operators providers bookings h =
-    ap (λ n. rows_of_period period currencies operators providers (of_period period bookings) ++ rows_from more n currencies operators providers bookings) (next period)
-    ∙ ap (λ n. rows_of_period period currencies operators providers (of_period period bookings) ++ rows_from n (period + 1) currencies operators providers bookings) (one_less more)
+  module _ (currency : List ℕ) (operators providers : List Party) where
+    of_currency_rows : rows_of_currency period currency operators providers (of_currency currency (of_period period bookings))
+        ≡ flat_map (row_at bookings) (flat_map (λ operator. map (place_of period currency operator) providers) operators)
+    of_currency_rows =
+        flat_map_alike (λ operator. rows_of_operator period currency operator providers (of_operator operator (of_currency currency (of_period period bookings))))
+        (λ operator. flat_map (row_at bookings) (map (place_of period currency operator) providers)) (λ operator. of_operator_rows currency operator providers) operators
+        ∙ sym (flat_map-flat_map (row_at bookings) (λ operator. map (place_of period currency operator) providers) operators)
 
--- all the rows are still these, once those of a period are added
-pub rows_step : (added before all : List Row) (more period : ℕ) (currencies : List (List ℕ)) (operators providers : List Party) (bookings : List Booking) → 0 < more
-    → added ≡ before ++ rows_of_period period currencies operators providers (of_period period bookings)
-    → before ++ rows_from more period currencies operators providers bookings ≡ all
-    → added ++ rows_from (more - 1) (period + 1) currencies operators providers bookings ≡ all
-rows_step added before all more period currencies operators providers bookings h e is =
-    ap (λ rows. rows ++ rows_from (more - 1) (period + 1) currencies operators providers bookings) e
-    ∙ append_assoc before (rows_of_period period currencies operators providers (of_period period bookings)) (rows_from (more - 1) (period + 1) currencies operators providers bookings)
-    ∙ ap (λ rows. before ++ rows) (sym (next_rows more period currencies operators providers bookings h))
-    ∙ is
+  rows_in : (config : Config) → rows_of_period period config.currencies (operators config) (providers config) (of_period period bookings) ≡ flat_map (row_at bookings) (places_in config period)
+  rows_in config =
+      flat_map_alike (λ currency. rows_of_currency period currency (operators config) (providers config) (of_currency currency (of_period period bookings)))
+      (λ currency. flat_map (row_at bookings) (flat_map (λ operator. map (place_of period currency operator) (providers config)) (operators config)))
+      (λ currency. of_currency_rows currency (operators config) (providers config)) config.currencies
+      ∙ sym (flat_map-flat_map (row_at bookings) (λ currency. flat_map (λ operator. map (place_of period currency operator) (providers config)) (operators config)) config.currencies)
+
+-- the rows of one period more
+pub rows_step : (config : Config) (bookings : List Booking) (period next : ℕ) (before after added : List Row) → next ≡ period + 1
+    → added ≡ rows_of_period period config.currencies (operators config) (providers config) (of_period period bookings)
+    → after ≡ before ++ added → before ≡ flat_map (row_at bookings) (places config period) → after ≡ flat_map (row_at bookings) (places config next)
+rows_step config bookings period next before after added next_is added_is after_is before_is =
+    after_is ∙ ap₂ (λ (l m : List Row). l ++ m) before_is (added_is ∙ rows_in bookings period config)
+    ∙ sym (flat_map-append (row_at bookings) (places config period) (places_in config period))
+    ∙ ap (λ n. flat_map (row_at bookings) (places config n)) (is_next period next next_is)
+  where
+    is_next : (n m : ℕ) → m ≡ n + 1 → suc n ≡ m
+    is_next n m e = omega (arith, e)

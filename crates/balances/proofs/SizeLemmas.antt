@@ -3,7 +3,8 @@ use Rattle.std.proofs.Common.{◌≡◌, ℕ, ◌+◌, ◌≤◌, ◌^◌, ◌<�
 use Rattle.std.specs.Prelude.{◌+ℤ◌, ◌-ℤ◌, unsigned_abs}
 use Rattle.std.proofs.lemmas.Int.{ints}
 use Rattle.std.proofs.lemmas.List.Sums.{sum_by-cons}
-use Rattle.balances.specs.Balances.{owed, settled, size}
+use Rattle.balances.specs.Balances.{owed, settled}
+use Rattle.balances.specs.Inner.Narrowed.{size}
 use Rattle.balances.specs.declared.booking.Booking.{Booking}
 
 pub size-cons : (b : Booking) (bs : List Booking) → size (b ∷ bs) ≡ unsigned_abs b.amount + size bs

@@ -1,11 +1,15 @@
 //! The rows of all that is booked, by period, currency, operator and provider.
 
-ghost use Rattle.std.specs.Prelude.{◌≡◌, ◌++◌, ◌<◌, ◌≤◌, ◌^◌, ℕ, length, IfOk, OnOk};
-ghost use Rattle.plain_house.specs.Entries.{period_of};
-ghost use Rattle.balances.specs.Balances.{operators, providers, rows, rows_of_currency, rows_of_operator, rows_of_period, of_period, size};
+ghost use Rattle.std.specs.Prelude.{◌≡◌, ◌++◌, ◌<◌, ◌≤◌, ◌^◌, ℕ, flat_map, length, IfOk, OnOk};
+ghost use Rattle.netting_positions.specs.Netting.{total_size};
+ghost use Rattle.plain_house.specs.Entries.{book_entries, period_of};
+ghost use Rattle.plain_house.specs.Obligations.{obligations};
+ghost use Rattle.balances.specs.Balances.{operators, places_in, providers, row_at, rows};
 ghost use Rattle.balances.specs.Bookings.{bookings};
+ghost use Rattle.balances.specs.Inner.Narrowed.{of_period, rows_of_currency, rows_of_operator, rows_of_period, size};
 
 use super::booking::{Booking, bookings};
+use super::laws::bookings_are_obligations;
 use super::row::{Place, Row, of_currency, of_operator, of_period, of_provider, row_of};
 use ocpi_types::{Config, Currency, Party};
 use plain_house::{Event, period_after};
@@ -13,7 +17,7 @@ use std::alloc::{AllocError, Global};
 
 /// The parties and currencies of which there are rows, in their order.
 #[derive(Drop)]
-pub struct Listed {
+struct Listed {
     currencies: Vec<Currency>,
     operators: Vec<Party>,
     providers: Vec<Party>,
@@ -154,20 +158,16 @@ fn period_of(events: &[Event]) -> u64
 }
 
 /// The rows, by period, currency, operator and provider.
-#[tactic(auto, using(crate::proofs::RowsLemmas::next_rows))]
 pub fn rows(alloc: Global, config: &Config, events: &[Event]) -> Result<Vec<Row>, AllocError>
-    requires { (period : ℕ) → size (of_period period (bookings events.now)) < 2 ^ 63 }
+    requires { (period : ℕ) → total_size (obligations period (book_entries events.now)) < 2 ^ 63 }
     ensures { IfOk result (λ found. found.items ≡ rows config.now events.now) }
 {
+    bookings_are_obligations();
     let listed = listed_in(alloc, config)?;
     let bookings = bookings(alloc, events)?;
     let mut rows = Vec::new(alloc);
-    let mut period = 0;
-    let mut more = period_of(events) + 1;
-    while more > 0 {
+    for period in 0..period_of(events) + 1 {
         add_chosen(alloc, &mut rows, &listed, period, bookings.as_slice())?;
-        period += 1;
-        more -= 1;
     }
     Ok(rows)
 }

@@ -3,6 +3,7 @@
 ghost use Rattle.std.specs.Prelude.{◌≡◌, IfOk};
 ghost use Rattle.std.specs.Option.{option_to_list};
 ghost use Rattle.balances.specs.Bookings.{booking_in, booking_of, bookings};
+ghost use Rattle.balances.specs.Inner.Endings.{is_settled_by};
 
 use super::ending::{Ending, endings, is_settled};
 use ocpi_types::{Cdr, Currency, Party};
@@ -36,7 +37,7 @@ fn booking_of(cdr: &Cdr, amount: BookedAmount, period: u64, is_settled: bool) ->
 }
 
 fn booking_in(endings: &[Ending], event: &Event, period: u64) -> Option<Booking>
-    ensures { option_to_list result ≡ booking_in endings.now event.now period }
+    ensures { option_to_list result ≡ booking_in (is_settled_by endings.now) event.now period }
 {
     match event {
         Event::Cdr { cdr, cost } => {
@@ -49,7 +50,7 @@ fn booking_in(endings: &[Ending], event: &Event, period: u64) -> Option<Booking>
     }
 }
 
-/// What is booked, in the order of the events.
+/// What is booked, in the order of the events. It takes time for each CDR by how many Credit CDRs and settlements there are.
 pub fn bookings(alloc: Global, events: &[Event]) -> Result<Vec<Booking>, AllocError>
     ensures { IfOk result (λ found. found.items ≡ bookings events.now) }
 {

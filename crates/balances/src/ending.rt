@@ -2,10 +2,11 @@
 
 ghost use Rattle.std.specs.Prelude.{◌≡◌, IfOk};
 ghost use Rattle.std.specs.Option.{option_to_list};
-ghost use Rattle.balances.specs.Bookings.{ending_in, endings, ends, is_settled, is_settlement};
+ghost use Rattle.balances.specs.Inner.Endings.{ending_in, endings, ends, is_settled_by, is_settlement};
 
+use cdr_checks::Settlement;
 use ocpi_json::ci_text::CiText;
-use ocpi_types::{Currency, Party};
+use ocpi_types::Party;
 use plain_house::{Charge, Event, names};
 use std::alloc::{AllocError, Global};
 
@@ -17,12 +18,8 @@ pub enum Ending {
         operator: Party,
         original: Option<CiText<39>>,
     },
-    /// A settlement ends the debts of a provider in a currency and a period.
-    Settled {
-        provider: Party,
-        currency: Currency,
-        period: u64,
-    },
+    /// A provider has paid what it owed of a period in a currency.
+    Settled(Settlement),
 }
 
 fn ending_in(event: &Event) -> Option<Ending>
@@ -33,11 +30,7 @@ fn ending_in(event: &Event) -> Option<Ending>
             operator: cdr.operator,
             original: cdr.credit,
         }),
-        Event::Settled(settlement) => Some(Ending::Settled {
-            provider: settlement.provider,
-            currency: settlement.currency,
-            period: settlement.period,
-        }),
+        Event::Settled(settlement) => Some(Ending::Settled(*settlement)),
         _ => None,
     }
 }
@@ -64,14 +57,10 @@ fn ends(ending: &Ending, charge: &Charge) -> bool
         Ending::TakenBack { operator, original } => {
             operator.is(&charge.operator) && names(&charge.cdr, original)
         }
-        Ending::Settled {
-            provider,
-            currency,
-            period,
-        } => {
-            provider.is(&charge.provider)
-                && currency.is(&charge.currency)
-                && *period == charge.period
+        Ending::Settled(settlement) => {
+            settlement.provider.is(&charge.provider)
+                && settlement.currency.is(&charge.currency)
+                && settlement.period == charge.period
         }
     }
 }
@@ -81,13 +70,13 @@ fn is_settlement(ending: &Ending) -> bool
 {
     match ending {
         Ending::TakenBack { .. } => false,
-        Ending::Settled { .. } => true,
+        Ending::Settled(_) => true,
     }
 }
 
 /// The first that ends the debt of the charge is a settlement.
 pub fn is_settled(endings: &[Ending], charge: &Charge) -> bool
-    ensures { result ≡ is_settled endings.now charge.now }
+    ensures { result ≡ is_settled_by endings.now charge.now }
 {
     let mut rest = endings;
     while let Some((ending, later)) = rest.split_first() {

@@ -1,6 +1,6 @@
 //! The words of the command line.
 
-use super::fault::Fault;
+use house_program::StartFault;
 
 /// How rows are printed.
 #[derive(Clone, Copy)]
@@ -19,27 +19,15 @@ pub struct Asked<'a> {
     pub form: Form,
 }
 
-fn form_of(word: &str) -> Option<Form> {
-    match word {
-        "-table" => Some(Form::Table),
-        _ => None,
-    }
-}
-
 /// What is asked for; the program's name is the first of the words.
-pub fn asked_of(words: &[String]) -> Result<Asked<'_>, Fault<'static>> {
-    match words {
-        [_, path] => Ok(Asked {
-            path: path.as_str(),
-            form: Form::Csv,
-        }),
-        [_, path, word] => match form_of(word.as_str()) {
-            Some(form) => Ok(Asked {
-                path: path.as_str(),
-                form,
-            }),
-            None => Err(Fault::Usage),
-        },
-        _ => Err(Fault::Usage),
-    }
+pub fn asked_of(words: &[String]) -> Result<Asked<'_>, StartFault<'static>> {
+    let (path, form) = match words {
+        [_, path] => (path, Form::Csv),
+        [_, path, word] if word.as_str() == "--table" => (path, Form::Table),
+        _ => return Err(StartFault::Usage),
+    };
+    Ok(Asked {
+        path: path.as_str(),
+        form,
+    })
 }

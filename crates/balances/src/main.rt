@@ -1,79 +1,48 @@
 //! Prints what of each period each provider owes each operator after the lines of standard input, how much of it is settled
 //! and how much is open, as CSV or as a table for a terminal. The first word is the configuration's path. The answers to the
-//! lines are not printed.
+//! lines are not printed; how many lines were refused is told on standard error.
 #![tactic(auto)]
 
 mod balances;
 mod booking;
 mod csv_text;
 mod ending;
-mod fault;
+mod fields;
 mod form;
+mod laws;
 mod printed;
 mod row;
 mod terminal_text;
 
-use fault::{Fault, tell, tell_refused};
+use ended_house::{EndedHouse, Fault, tell, tell_refused};
 use form::asked_of;
-use printed::{ended_house, print};
+use house_program::{given_words, read_config};
+use printed::print;
 use request_lines::Device;
-use std::alloc::Global;
-use std::io::{Error, ErrorKind, Read};
 use std::process::ExitCode;
-use std::{env, fs};
 
-/// How many bytes of a configuration are read at most: one more than it may have.
-const MOST_READ: u64 = 1_048_577;
-
-// The words of the command line, the program's name first.
-fn given_words(rt: &HostRuntime, alloc: Global) -> Result<Vec<String>, Fault<'static>> {
-    let args = match env::args(rt) {
-        Ok(args) => args,
-        Err(error) if error.kind() == ErrorKind::OutOfMemory => return Err(Fault::NoMemory),
-        Err(_) => return Err(Fault::Usage),
-    };
-    Ok(args.collect::<Vec<String>>(alloc)?)
-}
-
-fn cannot_read<'a>(error: &Error, path: &'a str) -> Fault<'a> {
-    match error.kind() {
-        ErrorKind::OutOfMemory => Fault::NoMemory,
-        _ => Fault::CannotRead { path },
-    }
-}
-
-fn read_file<'a>(rt: &HostRuntime, alloc: Global, path: &'a str) -> Result<Vec<u8>, Fault<'a>> {
-    let file = match fs::open(rt, path) {
-        Ok(file) => file,
-        Err(error) => return Err(cannot_read(&error, path)),
-    };
-    let mut bytes = Vec::new(alloc);
-    match file.take(MOST_READ).read_to_end(&mut bytes) {
-        Ok(_) => Ok(bytes),
-        Err(error) => Err(cannot_read(&error, path)),
-    }
-}
+const PROGRAM: &str = "balances";
 
 fn perform<'a>(rt: &HostRuntime, words: &'a [String]) -> Result<(), Fault<'a>> {
     let asked = asked_of(words)?;
-    let file = read_file(rt, rt.alloc(), asked.path)?;
+    let file = read_config(rt, asked.path)?;
     let mut reader = Device::new(rt.stdin());
-    let ended = ended_house(rt.alloc(), file.as_slice(), &mut reader)?;
+    let ended = EndedHouse::of_file(rt.alloc(), file.as_slice(), &mut reader)?;
     let mut writer = Device::new(rt.stdout());
     print(rt.alloc(), &mut writer, &ended, asked.form)?;
-    let _ = tell_refused(rt, ended.refused());
+    let _ = tell_refused(rt, PROGRAM, ended.refused());
     Ok(())
 }
 
 fn told(rt: &HostRuntime, fault: &Fault<'_>) -> ExitCode {
-    let _ = tell(rt, fault);
+    let _ = tell(rt, PROGRAM, "CONFIG [--table] < LINES", fault);
     ExitCode::from(fault.status())
 }
 
 fn main(rt: HostRuntime) -> ExitCode {
-    let words = match given_words(&rt, rt.alloc()) {
+    let words = match given_words(&rt) {
         Ok(words) => words,
-        Err(fault) => return told(&rt, &fault),
+        Err(fault) => return told(&rt, &Fault::from(fault)),
     };
     match perform(&rt, words.as_slice()) {
         Ok(()) => ExitCode::SUCCESS,

@@ -1,34 +1,34 @@
-//! A house after its last line, and what is printed of it.
+//! What is printed of a house after its last line.
+
+ghost use Rattle.std.specs.Prelude.{◌≡◌, ℕ, List, IfOk, OnOk};
+ghost use Rattle.balances.specs.BalanceText.{balance_text};
+ghost use Rattle.balances.specs.Balances.{rows};
 
 use super::balances::rows;
-use super::csv_text::write_rows;
-use super::fault::Fault;
+use super::csv_text::csv_of;
+use super::fields::{Fields, lines_of};
 use super::form::Form;
 use super::terminal_text::table_of;
-use ended_house::EndedHouse;
-use ocpi_types::Config;
+use ended_house::{EndedHouse, Fault, write_text};
 use plain_house::legal_lists_can_be_netted;
-use request_lines::{Sink, Source, write_all};
+use request_lines::Sink;
 use std::alloc::{AllocError, Global};
 
-/// A house of the configuration in this file, after the lines of the reader.
-pub fn ended_house<R: Source>(
-    alloc: Global,
-    file: &[u8],
-    reader: &mut R,
-) -> Result<EndedHouse, Fault<'static>> {
-    let config = Config::read(alloc, file)?;
-    Ok(EndedHouse::of_lines(alloc, config, reader)?)
+fn balance_lines(alloc: Global, ended: &EndedHouse) -> Result<Vec<Fields>, AllocError> {
+    let events = ended.events();
+    ended.config().is_bounded();
+    legal_lists_can_be_netted();
+    let rows = rows(alloc, ended.config(), events)?;
+    lines_of(alloc, rows.as_slice())
 }
 
-fn text_of(alloc: Global, ended: &EndedHouse, form: Form) -> Result<Vec<u8>, AllocError> {
-    ended.config().is_bounded();
-    ended.is_legal();
-    legal_lists_can_be_netted();
-    let rows = rows(alloc, ended.config(), ended.events())?;
+fn text_of(alloc: Global, ended: &EndedHouse, form: Form) -> Result<Vec<u8>, AllocError>
+    ensures { form ≡ Form.Csv → IfOk result (λ text. text.items ≡ balance_text (rows ended.now.config ended.now.events)) }
+{
+    let lines = balance_lines(alloc, ended)?;
     match form {
-        Form::Csv => write_rows(alloc, rows.as_slice()),
-        Form::Table => Ok(table_of(alloc, rows.as_slice())?.into_bytes()),
+        Form::Csv => csv_of(alloc, lines.as_slice()),
+        Form::Table => Ok(table_of(alloc, lines.as_slice())?.into_bytes()),
     }
 }
 
@@ -38,10 +38,9 @@ pub fn print<W: Sink>(
     writer: &mut W,
     ended: &EndedHouse,
     form: Form,
-) -> Result<(), Fault<'static>> {
+) -> Result<(), Fault<'static>>
+    ensures { form ≡ Form.Csv → OnOk result (W.takes writer.old (balance_text (rows ended.now.config ended.now.events)) writer.new) }
+{
     let text = text_of(alloc, ended, form)?;
-    match write_all(writer, text.as_slice()) {
-        Ok(()) => Ok(()),
-        Err(_) => Err(Fault::CannotWrite),
-    }
+    write_text(writer, text.as_slice())
 }

@@ -2,14 +2,15 @@
 
 ghost use Rattle.std.specs.Prelude.{◌≡◌, ◌≤◌, ◌<◌, ◌^◌, ◌-ℤ◌, unsigned_abs, IfOk};
 ghost use Rattle.std.specs.Option.{option_to_list};
-ghost use Rattle.balances.specs.Balances.{of_currency, of_operator, of_period, of_provider, owed, row_of, settled, size, sums_of};
+ghost use Rattle.balances.specs.Balances.{owed, row_of, settled, sums_of};
+ghost use Rattle.balances.specs.Inner.Narrowed.{of_currency, of_operator, of_period, of_provider, size};
 
 use super::booking::Booking;
 use exact_money::Amount;
 use ocpi_types::{Currency, Party};
 use std::alloc::{AllocError, Global};
 
-/// What a row is of.
+/// Where something is booked.
 #[derive(Clone, Copy)]
 pub struct Place {
     pub period: u64,
@@ -18,7 +19,7 @@ pub struct Place {
     pub provider: Party,
 }
 
-/// What is booked of an operator and a provider in a period and a currency.
+/// What is booked of a place: of an operator and a provider, in a period and a currency.
 #[derive(Clone, Copy)]
 pub struct Row {
     pub place: Place,

@@ -1,6 +1,7 @@
 //! What ends the program early, and the line that tells it.
 
 use crate::no_json::Spot;
+use house_program::StartFault;
 use std::alloc::AllocError;
 use std::io;
 
@@ -26,6 +27,16 @@ pub enum Fault<'a> {
 impl From<AllocError> for Fault<'_> {
     fn from(_error: AllocError) -> Self {
         Fault::NoMemory
+    }
+}
+
+impl<'a> From<StartFault<'a>> for Fault<'a> {
+    fn from(cause: StartFault<'a>) -> Self {
+        match cause {
+            StartFault::Usage => Fault::Usage,
+            StartFault::CannotRead { path } => Fault::CannotRead { path },
+            StartFault::NoMemory => Fault::NoMemory,
+        }
     }
 }
 

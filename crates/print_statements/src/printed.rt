@@ -1,29 +1,11 @@
-//! A house after its last line, and what is printed of it.
+//! What is printed of a house after its last line.
 
-use crate::fault::Fault;
-use ended_house::EndedHouse;
+use ended_house::{EndedHouse, Fault, write_text};
 use house_statements::{statement_rows, write_order, write_statement};
-use ocpi_types::{Config, Party};
+use ocpi_types::Party;
 use plain_house::{Event, legal_lists_can_be_netted};
-use request_lines::{Sink, Source, write_all};
+use request_lines::Sink;
 use std::alloc::{AllocError, Global};
-
-fn put<W: Sink>(writer: &mut W, text: &[u8]) -> Result<(), Fault<'static>> {
-    match write_all(writer, text) {
-        Ok(()) => Ok(()),
-        Err(_) => Err(Fault::CannotWrite),
-    }
-}
-
-/// A house of the configuration in this file, after the lines of the reader.
-pub fn ended_house<R: Source>(
-    alloc: Global,
-    file: &[u8],
-    reader: &mut R,
-) -> Result<EndedHouse, Fault<'static>> {
-    let config = Config::read(alloc, file)?;
-    Ok(EndedHouse::of_lines(alloc, config, reader)?)
-}
 
 fn statement_of(
     alloc: Global,
@@ -32,10 +14,10 @@ fn statement_of(
     period: u64,
 ) -> Result<Vec<u8>, AllocError> {
     let config = ended.config();
+    let events = ended.events();
     config.is_bounded();
-    ended.is_legal();
     legal_lists_can_be_netted();
-    let rows = statement_rows(alloc, config, ended.events(), period, party)?;
+    let rows = statement_rows(alloc, config, events, period, party)?;
     write_statement(alloc, rows.as_slice())
 }
 
@@ -48,8 +30,8 @@ fn print_statement<W: Sink>(
 ) -> Result<(), Fault<'static>> {
     let head = format!(in alloc; "statement {period} {party}\n")?;
     let text = statement_of(alloc, ended, party, period)?;
-    put(writer, head.as_bytes())?;
-    put(writer, text.as_slice())
+    write_text(writer, head.as_bytes())?;
+    write_text(writer, text.as_slice())
 }
 
 fn print_operators<W: Sink>(
@@ -87,7 +69,7 @@ pub fn print<W: Sink>(
     ended: &EndedHouse,
 ) -> Result<(), Fault<'static>> {
     let order = write_order(alloc, ended.events())?;
-    put(writer, order.as_slice())?;
+    write_text(writer, order.as_slice())?;
     for event in ended.events() {
         if let Event::Closed { period } = event {
             print_operators(alloc, writer, ended, *period)?;

@@ -1,5 +1,5 @@
 use Rattle.std.proofs.Common.{◌≡◌, ◌++◌, take}
-use Rattle.balances.specs.Balances.{rows_of_currency}
+use Rattle.balances.specs.Inner.Narrowed.{rows_of_currency}
 use Rattle.balances.proofs.balances.add_currency.Given as goal
 
 abbrev pub invariant-loop-operator : goal.invariant-loop-operator

@@ -1,5 +1,5 @@
 use Rattle.std.proofs.Common.{◌≡◌, ◌++◌, take}
-use Rattle.balances.specs.Balances.{rows_of_operator}
+use Rattle.balances.specs.Inner.Narrowed.{rows_of_operator}
 use Rattle.balances.proofs.balances.add_operator.Given as goal
 
 abbrev pub invariant-loop-provider : goal.invariant-loop-provider

@@ -1,5 +1,5 @@
 use Rattle.std.proofs.Common.{◌≡◌, ◌++◌, take}
-use Rattle.balances.specs.Balances.{rows_of_period}
+use Rattle.balances.specs.Inner.Narrowed.{rows_of_period}
 use Rattle.balances.proofs.balances.add_period.Given as goal
 
 abbrev pub invariant-loop-currency : goal.invariant-loop-currency

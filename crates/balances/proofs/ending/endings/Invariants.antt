@@ -1,5 +1,5 @@
 use Rattle.std.proofs.Common.{◌≡◌, ◌++◌, length}
-use Rattle.balances.specs.Bookings.{endings}
+use Rattle.balances.specs.Inner.Endings.{endings}
 use Rattle.balances.proofs.ending.endings.Given as goal
 
 abbrev pub invariant-loop-event : goal.invariant-loop-event

@@ -1,6 +1,7 @@
 use Rattle.std.proofs.Common.{◌≡◌, ◌≤◌, ◌+◌, length}
 use Rattle.std.specs.Prelude.{◌+ℤ◌, unsigned_abs}
-use Rattle.balances.specs.Balances.{owed, size}
+use Rattle.balances.specs.Balances.{owed}
+use Rattle.balances.specs.Inner.Narrowed.{size}
 use Rattle.balances.proofs.row.owed.Given as goal
 
 abbrev pub invariant-loop-booking : goal.invariant-loop-booking
