@@ -1,8 +1,9 @@
 //! What is printed of a house after its last line.
 
-ghost use Rattle.std.specs.Prelude.{◌≡◌, ℕ, List, IfOk, OnOk};
-ghost use Rattle.balances.specs.BalanceText.{balance_text};
+ghost use Rattle.std.specs.Prelude.{◌≡◌, ◌∷◌, IfOk, OnOk, map};
+ghost use Rattle.balances.specs.BalanceText.{balance_text, header, row_fields};
 ghost use Rattle.balances.specs.Balances.{rows};
+ghost use Rattle.balances.specs.Inner.Fields.{texts_of};
 
 use super::balances::rows;
 use super::csv_text::csv_of;
@@ -14,7 +15,9 @@ use plain_house::legal_lists_can_be_netted;
 use request_lines::Sink;
 use std::alloc::{AllocError, Global};
 
-fn balance_lines(alloc: Global, ended: &EndedHouse) -> Result<Vec<Fields>, AllocError> {
+fn balance_lines(alloc: Global, ended: &EndedHouse) -> Result<Vec<Fields>, AllocError>
+    ensures { IfOk result (λ lines. map texts_of lines.items ≡ header ∷ map row_fields (rows ended.now.config ended.now.events)) }
+{
     let events = ended.events();
     ended.config().is_bounded();
     legal_lists_can_be_netted();
