@@ -14,8 +14,7 @@ use denote.Param.{layout}
 use denote.Struct.Struct.{within}
 use denote.Struct.Owning.{shape}
 use Rattle.core.proofs.cell.Inside.{Good}
-use Rattle.libc.specs.Heap.{chunk}
-use Rattle.clear_embedded.specs.Owned.{owned}
+use Rattle.clear_embedded.specs.Owned.{may_free, owned}
 use Rattle.clear_embedded.specs.contracts.held.Held as held
 use Rattle.clear_embedded.specs.contracts.answering_house.AnsweringHouse as house
 
@@ -28,13 +27,13 @@ held_good null_ptr = (tt, (record { fits = lit< tt }, tt))
 
 module _ {M : Type 1} {𝓤 : Ura M} {𝓛 : Logic 𝓤} {K : Type 0} {Γ : List (Item 𝓤)} {G : Goal 𝓤 𝓛.H} where
   pub held_in : K → (p : Ptr) (s : Option house.the_row.Denot)
-      → Step K 𝓛 (‵ (held.the_row.own_val (record { at = p; standing = s }) (one (ptr_val p) ∷ [])) ∷ Γ) G (‵ (owned chunk house.the_row p s) ∷ Γ) G
+      → Step K 𝓛 (‵ (held.the_row.own_val (record { at = p; standing = s }) (one (ptr_val p) ∷ [])) ∷ Γ) G (‵ (owned may_free house.the_row p s) ∷ Γ) G
   held_in t p s = step (λ k. let v : Val = one (ptr_val p) in
       nothing t $ feq_i t (List Val) (ptr_val p ∷ []) (ptr_val p ∷ []) refl $ fjoin t $ feq_i t (List Val) (v ∷ []) (v ∷ []) refl $ fjoin t $
       fpack t (Valss (RawPtr ∷ [])) (within (shape held.the_type) (p, tt) (v ∷ [])) (ptr_val p ∷ [], tt) $ fjoin t $ k)
 
   pub held_out : K → (d : held.the_row.Denot) (vs : List Val)
-      → (vs ≡ one (ptr_val d.at) ∷ [] → Seq K 𝓛 (‵ (owned chunk house.the_row d.at d.standing) ∷ Γ) G)
+      → (vs ≡ one (ptr_val d.at) ∷ [] → Seq K 𝓛 (‵ (owned may_free house.the_row d.at d.standing) ∷ Γ) G)
       → Seq K 𝓛 (‵ (held.the_row.own_val d vs) ∷ Γ) G
   held_out t d vs k = fsplit t $ fpick t (λ vss. fsplit t $ feq_l t (λ ev. fsplit t $ feq_l t (λ ep. drop t $
       k (subst (λ (ps : List Val). vs ≡ vstruct (of_list (ps ++ [])) ∷ []) ep ev))))

@@ -18,11 +18,10 @@ pub struct Held {
 }
 
 impl Model for Held {
-    ghost use Rattle.libc.specs.Heap.{chunk};
-    ghost use Rattle.clear_embedded.specs.Owned.{owned};
+    ghost use Rattle.clear_embedded.specs.Owned.{may_free, owned};
     ghost use Rattle.clear_embedded.specs.contracts.answering_house.AnsweringHouse.{the_row};
 
-    ghost also_owns = { λ h. owned chunk the_row h.at h.standing };
+    ghost also_owns = { λ h. owned may_free the_row h.at h.standing };
 }
 
 impl Held {

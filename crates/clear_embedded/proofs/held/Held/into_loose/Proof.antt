@@ -24,13 +24,12 @@ use denote.RawPtr.{Ptr, block_ptr, null_ptr, ptr_val, in_a_block}
 use denote.Steps.{nothing, heard}
 use denote.Triple.Walked.{Stays, stay_dropped, walk_of, says, ends_at, Goes-dropped}
 use Rattle.core.proofs.alloc.Calls.{Al, handle_tells}
-use Rattle.libc.specs.Heap.{chunk}
 use Rattle.std_alloc.specs.Box.Ownership.{box_owns}
 use Rattle.std.specs.contracts.alloc.Global as heap
 use Rattle.std.proofs.alloc.Global.TheLaws as heap_laws
 use Rattle.std.specs.contracts.impls.GlobalAllocator.TheImpl.{ghosts}
 use Rattle.std.proofs.raw_atomic.Walks.{proved_at}
-use Rattle.clear_embedded.specs.Owned.{owned}
+use Rattle.clear_embedded.specs.Owned.{may_free, owned}
 use Rattle.clear_embedded.proofs.HeldValues.{one, held_good, held_out}
 use Rattle.clear_embedded.proofs.LooseValues.{both, Loose, loose_good, loose_in}
 use Rattle.clear_embedded.specs.contracts.answering_house.AnsweringHouse as house
@@ -54,8 +53,8 @@ into_loose_spec 𝓤 𝓛 𝓜 𝓡 wired =
     qed 𝓛 ((‵ ftrue ⊛ ‵ (owns (types_at f.ended.signature.params z.0.0) z.0.3 z.0.4)) ∷ raw (fact 𝓤 (IsSome v.standing)) ∷ []) ∵
     move ! (1 ∷ []) $ heard ! (IsSome v.standing) (λ is. let given = some_of v.standing is in let x = given.0 in
     split ! $ move ! (1 ∷ []) $ fsplit ! $ move ! (1 ∷ []) $ fsplit ! $ handle_tells al ! a z.0.4.1.0 (λ h eh fits.
-    move ! (2 ∷ []) $ held_out ! v z.0.4.0 (λ ev. rewrite ! 0 (λ (s : Option R.Denot). ‵ (owned chunk R v.at s)) given.1 refl $
-    in_a_block ! v.at (λ p. box_owns chunk R p x) (fst∗ 𝓤 (never 𝓤) (sem 𝓛 (chunk (bare (lone R.mir)) null_ptr))) (λ b o e.
+    move ! (2 ∷ []) $ held_out ! v z.0.4.0 (λ ev. rewrite ! 0 (λ (s : Option R.Denot). ‵ (owned may_free R v.at s)) given.1 refl $
+    in_a_block ! v.at (λ p. box_owns may_free R p x) (fst∗ 𝓤 (never 𝓤) (sem 𝓛 (may_free (bare (lone R.mir)) null_ptr))) (λ b o e.
     let w : Val = one (vptr b o) in
     let ew : z.0.4.0 ≡ w ∷ [] = ev ∙ ap (λ (p : Ptr). one (ptr_val p) ∷ []) e in
     suffices ! (Run (w ∷ h ∷ [])) (subst (λ (us : List Val). ent 𝓤 (Run (w ∷ h ∷ [])) (Run us)) (sym (λ i. ew i ++ (eh i ++ []))) (id⊢ 𝓤 (Run (w ∷ h ∷ [])))) $
