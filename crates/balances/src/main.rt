@@ -15,7 +15,7 @@ mod row;
 mod terminal_text;
 
 use ended_house::{EndedHouse, Fault, tell, tell_refused};
-use form::asked_of;
+use form::{Form, asked_of};
 use house_program::{given_words, read_config};
 use printed::print;
 use request_lines::Device;
@@ -23,15 +23,23 @@ use std::process::ExitCode;
 
 const PROGRAM: &str = "balances";
 
-fn perform<'a>(rt: &HostRuntime, words: &'a [String]) -> Result<(), Fault<'a>> {
-    let asked = asked_of(words)?;
-    let file = read_config(rt, asked.path)?;
+// A house of the configuration at this path, after the lines of standard input.
+fn house_of<'a>(rt: &HostRuntime, path: &'a str) -> Result<EndedHouse, Fault<'a>> {
+    let file = read_config(rt, path)?;
     let mut reader = Device::new(rt.stdin());
-    let ended = EndedHouse::of_file(rt.alloc(), file.as_slice(), &mut reader)?;
-    let mut writer = Device::new(rt.stdout());
-    print(rt.alloc(), &mut writer, &ended, asked.form)?;
+    Ok(EndedHouse::of_file(rt.alloc(), file.as_slice(), &mut reader)?)
+}
+
+fn print_house(rt: &HostRuntime, ended: &EndedHouse, form: Form) -> Result<(), Fault<'static>> {
+    print(rt.alloc(), &mut Device::new(rt.stdout()), ended, form)?;
     let _ = tell_refused(rt, PROGRAM, ended.refused());
     Ok(())
+}
+
+fn perform<'a>(rt: &HostRuntime, words: &'a [String]) -> Result<(), Fault<'a>> {
+    let asked = asked_of(words)?;
+    let ended = house_of(rt, asked.path)?;
+    print_house(rt, &ended, asked.form)
 }
 
 fn told(rt: &HostRuntime, fault: &Fault<'_>) -> ExitCode {

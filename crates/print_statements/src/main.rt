@@ -13,14 +13,22 @@ use std::process::ExitCode;
 
 const PROGRAM: &str = "print_statements";
 
-fn perform<'a>(rt: &HostRuntime, words: &'a [String]) -> Result<(), Fault<'a>> {
-    let file = read_config(rt, only_word(words)?)?;
+// A house of the configuration at this path, after the lines of standard input.
+fn house_of<'a>(rt: &HostRuntime, path: &'a str) -> Result<EndedHouse, Fault<'a>> {
+    let file = read_config(rt, path)?;
     let mut reader = Device::new(rt.stdin());
-    let ended = EndedHouse::of_file(rt.alloc(), file.as_slice(), &mut reader)?;
-    let mut writer = Device::new(rt.stdout());
-    print(rt.alloc(), &mut writer, &ended)?;
+    Ok(EndedHouse::of_file(rt.alloc(), file.as_slice(), &mut reader)?)
+}
+
+fn print_house(rt: &HostRuntime, ended: &EndedHouse) -> Result<(), Fault<'static>> {
+    print(rt.alloc(), &mut Device::new(rt.stdout()), ended)?;
     let _ = tell_refused(rt, PROGRAM, ended.refused());
     Ok(())
+}
+
+fn perform<'a>(rt: &HostRuntime, words: &'a [String]) -> Result<(), Fault<'a>> {
+    let ended = house_of(rt, only_word(words)?)?;
+    print_house(rt, &ended)
 }
 
 fn told(rt: &HostRuntime, fault: &Fault<'_>) -> ExitCode {
