@@ -11,7 +11,7 @@ use Rattle.plain_house.specs.Entries.{account_entries, account_entries_from, cha
 use Rattle.plain_house.specs.Exposure.{ends_debt}
 use Rattle.balances.specs.declared.ending.Ending.{Ending}
 use Rattle.balances.specs.Bookings.{booking_in, booking_of, bookings, bookings_from, is_charge_settled, is_settlement as is_settlement_entry}
-use Rattle.balances.specs.Inner.Endings.{endings, ends, is_settled_by, is_settlement}
+use Rattle.balances.specs.Inner.Endings.{endings, is_settled_by}
 use Rattle.balances.proofs.ListLemmas.{flat_map_alike}
 
 -- one that ends the debt decides, in both lists

@@ -9,13 +9,12 @@ use Rattle.cdr_checks.specs.declared.request.Settlement.{Settlement}
 use Rattle.plain_house.specs.declared.answer.Answer.TheVariants as answer
 use Rattle.plain_house.specs.declared.event.Event.{Event}
 use Rattle.plain_house.specs.declared.event.Event.TheVariants as event
-use Rattle.plain_house.specs.Entries.{account_entries, period_of}
 use Rattle.plain_house.specs.House.{full_for, unless_open, unless_settled, verdict}
 use Rattle.plain_house.specs.Known.{Known, known}
 use Rattle.plain_house.specs.Legal.{IsGivenBy, IsLegal}
 use Rattle.plain_house.specs.Settlements.{is_settled, settled_debt}
 use Rattle.plain_house.specs.Verdict.{Case, accepts}
-use Rattle.plain_house.proofs.EventLemmas.{Gives, GivesPost, event_has}
+use Rattle.plain_house.proofs.EventLemmas.{GivesPost, event_has}
 use Rattle.plain_house.proofs.VerdictLemmas.{unless_event}
 
 -- so by what is known

@@ -1,5 +1,5 @@
 -- Rows of bookings that are narrowed step by step are the rows of their places.
-use Rattle.std.proofs.Common.{◌≡◌, ℕ, suc, ◌+◌, ◌==◌, List, ◌++◌, ◌&&◌, ap, ap₂, sym, ◌∙◌, arith, filter, map}
+use Rattle.std.proofs.Common.{◌≡◌, ℕ, suc, ◌+◌, List, ◌++◌, ◌&&◌, ap, ap₂, sym, ◌∙◌, arith, filter, map}
 use Rattle.std.specs.Prelude.{flat_map}
 use Rattle.std.proofs.lemmas.List.Concat.{flat_map-append}
 use Rattle.std.proofs.lemmas.List.Folds.{flat_map-map}

@@ -9,7 +9,6 @@ use Rattle.std.proofs.lemmas.List.Elements.{filter-append}
 use Rattle.std.proofs.lemmas.List.Sums.{sum_by-cons}
 use Rattle.ocpi_types.specs.Currency.{same_currency}
 use Rattle.ocpi_types.specs.Party.{same_party}
-use Rattle.ocpi_types.specs.declared.config.Config.{Config}
 use Rattle.cdr_checks.specs.declared.request.Settlement.{Settlement}
 use Rattle.netting_positions.proofs.SameParties.{both_are, same_party_equiv}
 use Rattle.plain_house.specs.declared.entry.AccountEntry.{AccountEntry}

@@ -1,5 +1,5 @@
 -- What each provider owes each operator, period by period and currency by currency.
-use Rattle.std.specs.Prelude.{ℕ, zero, suc, ◌==◌, ℤ, ◌-ℤ◌, List, [], ◌∷◌, ◌++◌, Bool, ◌&&◌, filter, flat_map, map, sum_by, unsigned_abs}
+use Rattle.std.specs.Prelude.{ℕ, zero, suc, ◌==◌, ℤ, ◌-ℤ◌, List, [], ◌∷◌, ◌++◌, Bool, ◌&&◌, filter, flat_map, map}
 use Rattle.ocpi_types.specs.Config.{as_configured}
 use Rattle.ocpi_types.specs.Currency.{same_currency}
 use Rattle.ocpi_types.specs.Party.{same_party}

@@ -1,10 +1,10 @@
 //! The rows of all that is booked, by period, currency, operator and provider.
 
-ghost use Rattle.std.specs.Prelude.{◌≡◌, ◌++◌, ◌<◌, ◌≤◌, ◌^◌, ℕ, flat_map, length, IfOk, OnOk};
+ghost use Rattle.std.specs.Prelude.{◌≡◌, ◌++◌, ◌<◌, ◌≤◌, ◌^◌, ℕ, length, IfOk, OnOk};
 ghost use Rattle.netting_positions.specs.Netting.{total_size};
 ghost use Rattle.plain_house.specs.Entries.{book_entries, period_of};
 ghost use Rattle.plain_house.specs.Obligations.{obligations};
-ghost use Rattle.balances.specs.Balances.{operators, places_in, providers, row_at, rows};
+ghost use Rattle.balances.specs.Balances.{operators, providers, rows};
 ghost use Rattle.balances.specs.Bookings.{bookings};
 ghost use Rattle.balances.specs.Inner.Narrowed.{of_period, rows_of_currency, rows_of_operator, rows_of_period, size};
 

@@ -1,5 +1,5 @@
 -- A house after the lines of a reader.
-use Rattle.std.specs.Prelude.{◌≡◌, ◌≢◌, ℕ, ◌^◌, ◌≤◌, Bool, List, [], Result, Ok, Err, All}
+use Rattle.std.specs.Prelude.{◌≡◌, ℕ, ◌^◌, ◌≤◌, Bool, List, [], Result, Ok, Err, All}
 use Rattle.ocpi_types.specs.declared.config.Config.{Config}
 use Rattle.ocpi_types.specs.declared.config.reading.ConfigFault.{ConfigFault}
 use Rattle.plain_house.specs.declared.event.Event.{Event}
@@ -8,7 +8,6 @@ use Rattle.request_lines.specs.Answering.{IsFault}
 use Rattle.request_lines.specs.Lines.{lines_of, IsShort}
 use Rattle.request_lines.specs.Script.{list_after, script_rule}
 use Rattle.ended_house.specs.declared.fault.Fault.{Fault}
-use Rattle.ended_house.specs.declared.fault.Fault.TheVariants.{NoMemory}
 use Rattle.ended_house.specs.Fault.{config_fault, script_fault}
 
 -- A reader, before its lines and after them, and what it tells of itself. `gives before calls bytes after`: so many calls gave

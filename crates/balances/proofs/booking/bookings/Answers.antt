@@ -1,4 +1,4 @@
-use Rattle.std.proofs.Common.{◌≡◌, ◌++◌, List, [], ap, ◌∙◌, arith, sym, append-nil}
+use Rattle.std.proofs.Common.{◌≡◌, ◌++◌, [], ap, ◌∙◌, arith, sym, append-nil}
 use Rattle.std.proofs.lemmas.Grind.{common_steps}
 use Rattle.balances.specs.Bookings.{bookings_from}
 use Rattle.balances.specs.Inner.Endings.{is_settled_by}
