@@ -1,5 +1,7 @@
 //! The words of the command line.
 
+ghost use Rattle.std.specs.Prelude.{◌≡◌, ◌↔◌, length, slice_get, string_bytes, IfErr, IfOk, IfSome};
+
 use house_program::StartFault;
 
 /// How rows are printed.
@@ -20,7 +22,11 @@ pub struct Asked<'a> {
 }
 
 /// What is asked for; the program's name is the first of the words.
-pub fn asked_of(words: &[String]) -> Result<Asked<'_>, StartFault<'static>> {
+pub fn asked_of(words: &[String]) -> Result<Asked<'_>, StartFault<'static>>
+    ensures path { IfOk result (λ asked. IfSome (slice_get words.now 1) (λ given. asked.path.now ≡ string_bytes given)) }
+    ensures csv { IfOk result (λ asked. (asked.form ≡ Form.Csv) ↔ (length words.now ≡ 2)) }
+    ensures fault { IfErr result (λ fault. fault ≡ StartFault.Usage) }
+{
     let (path, form) = match words {
         [_, path] => (path, Form::Csv),
         [_, path, word] if word.as_str() == "--table" => (path, Form::Table),
