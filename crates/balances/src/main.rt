@@ -43,7 +43,7 @@ fn perform<'a>(rt: &HostRuntime, words: &'a [String]) -> Result<(), Fault<'a>> {
 }
 
 fn told(rt: &HostRuntime, fault: &Fault<'_>) -> ExitCode {
-    let _ = tell(rt, PROGRAM, "CONFIG [--table] < LINES", fault);
+    let _ = tell(rt, PROGRAM, "CONFIG [-table] < LINES", fault);
     ExitCode::from(fault.status())
 }
 
