@@ -1,6 +1,7 @@
 ghost use Rattle.std.specs.Prelude.{◌≡◌, is_none, IfSome};
+ghost use Rattle.std.specs.Option.{option_copied};
 ghost use Rattle.tariff_elements.specs.Active.{active};
-ghost use Rattle.cdr_rating.specs.Pricing.{lacks_its_tariff, lacks_tariff, moment_after};
+ghost use Rattle.cdr_rating.specs.Pricing.{active_after, lacks_its_tariff, lacks_tariff, moment_after};
 ghost use Rattle.cdr_rating.specs.Inner.Room.{HasRoom, IsOneMore};
 ghost use Rattle.cdr_rating.specs.Inner.Session.{AreOfSession, IsCharged};
 ghost use Rattle.cdr_rating.specs.Inner.Tally.{added};
@@ -10,7 +11,7 @@ use super::measure::Measure;
 use super::pricing::{seconds_between, tariff_of};
 use super::tally::Tally;
 use super::volumes::{energy_in, parking_in, time_in};
-use ocpi_types::{Cdr, ChargingPeriod, ComponentKind, Tariff, Zone};
+use ocpi_types::{Cdr, ChargingPeriod, ComponentKind, PriceComponent, Tariff, Zone};
 use tariff_elements::{Moment, active, moment};
 
 /// The sums over a session's energy, parking and charging time.
@@ -32,6 +33,23 @@ pub(crate) fn moment_after(cdr: &Cdr, zone: &Zone, energy: u128, period: &Chargi
         energy,
         seconds_between(cdr.start_date_time, start),
     )
+}
+
+/// The component of the kind that is active in a period, given the energy of the earlier periods in millionths of a kWh. There is
+/// none where the period names no tariff of the CDR.
+pub fn active_component<'a>(
+    cdr: &'a Cdr,
+    zone: &Zone,
+    kind: ComponentKind,
+    energy: u128,
+    period: &ChargingPeriod,
+) -> Option<&'a PriceComponent>
+    ensures { option_copied result ≡ active_after cdr.now zone.now kind energy period.now }
+{
+    match tariff_of(cdr, period) {
+        Some(tariff) => active(tariff, kind, &moment_after(cdr, zone, energy, period)),
+        None => None,
+    }
 }
 
 fn add_active(

@@ -28,8 +28,8 @@ pub(crate) fn flat(price: Quantity) -> Exact
     Exact::flat(millionths_of(price))
 }
 
-/// The least volume that makes the whole a multiple of the step; a step of 0 rounds nothing.
-pub(crate) fn up_to_step(step: u128, volume: u128) -> u128
+/// The least volume that makes the whole a multiple of the step, all in one unit; a step of 0 rounds nothing.
+pub fn up_to_step(step: u128, volume: u128) -> u128
     ensures value { result ≡ up_to_step step volume }
     ensures bound { result ≤ step }
 {

@@ -1,19 +1,17 @@
 ghost use Rattle.std.specs.Prelude.{◌≡◌, ◌+◌, ◌*◌, ◌^◌, ◌≤◌, nat_lt, if◌then◌else◌, false, is_none, IfSome};
-ghost use Rattle.std.specs.Option.{option_copied, option_map_or};
+ghost use Rattle.std.specs.Option.{option_copied};
 ghost use Rattle.ocpi_types.specs.Cdr.{is_credit};
-ghost use Rattle.tariff_elements.specs.Active.{active};
 ghost use Rattle.cdr_rating.specs.Price.{bounded, first_tariff, flat_cost, lowered, price, raised, rounded, sum_of, within_limit};
-ghost use Rattle.cdr_rating.specs.Pricing.{lacks_tariff, moment_after};
+ghost use Rattle.cdr_rating.specs.Pricing.{lacks_tariff};
 ghost use Rattle.cdr_rating.specs.Inner.Tally.{step_cost_of};
 
-use super::charging::{moment_after, tallies_of};
+use super::charging::{active_component, tallies_of};
 use super::measure::flat;
 use super::pricing::tariff_of;
 use super::tally::Tally;
 use exact_money::{Amount, Exact};
 use ocpi_types::members::Quantity;
-use ocpi_types::{Cdr, ChargingPeriod, ComponentKind, Refusal, Tariff, Zone};
-use tariff_elements::active;
+use ocpi_types::{Cdr, ComponentKind, Refusal, Tariff, Zone};
 
 fn energy_cost(energy: &Tally) -> Exact
     requires { energy.now.cost ≤ 10 ^ 36 }
@@ -46,20 +44,6 @@ fn time_cost(parking: &Tally, time: &Tally) -> Exact
         .add(time_step_cost(parking, time))
 }
 
-fn flat_cost_in(cdr: &Cdr, zone: &Zone, tariff: &Tariff, first: &ChargingPeriod) -> Exact
-    ensures value { result ≡ option_map_or (λ component. 9_000_000 * component.price) (active tariff.now ComponentKind.Flat (moment_after cdr.now zone.now 0 first.now)) 0 }
-    ensures bound { result ≤ 10 ^ 22 }
-{
-    match active(
-        tariff,
-        ComponentKind::Flat,
-        &moment_after(cdr, zone, 0, first),
-    ) {
-        Some(component) => flat(component.price),
-        None => Exact::zero(),
-    }
-}
-
 /// The flat component that is active where the session begins.
 fn flat_cost(cdr: &Cdr, zone: &Zone) -> Exact
     ensures value { result ≡ flat_cost cdr.now zone.now cdr.now.charging_periods }
@@ -68,8 +52,8 @@ fn flat_cost(cdr: &Cdr, zone: &Zone) -> Exact
     let Some(first) = cdr.charging_periods.as_slice().first() else {
         return Exact::zero();
     };
-    match tariff_of(cdr, first) {
-        Some(tariff) => flat_cost_in(cdr, zone, tariff, first),
+    match active_component(cdr, zone, ComponentKind::Flat, 0, first) {
+        Some(component) => flat(component.price),
         None => Exact::zero(),
     }
 }
@@ -89,7 +73,8 @@ fn sum_of(cdr: &Cdr, zone: &Zone) -> Option<Exact>
     }
 }
 
-fn first_tariff(cdr: &Cdr) -> Option<&Tariff>
+/// The tariff of the first period, whose minimum and maximum are those of the session.
+pub fn first_tariff(cdr: &Cdr) -> Option<&Tariff>
     ensures { option_copied result ≡ first_tariff cdr.now cdr.now.charging_periods }
 {
     match cdr.charging_periods.as_slice().first() {

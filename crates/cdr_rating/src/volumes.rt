@@ -77,6 +77,20 @@ pub(crate) fn time_in(period: &ChargingPeriod) -> u128
     seconds_of_hours(millionths_in(ComponentKind::Time, period))
 }
 
+/// The volume that a component of the kind charges for in a period: energy in millionths of a kWh, time and parking in seconds,
+/// and none where the component is due once.
+pub fn volume_in(kind: ComponentKind, period: &ChargingPeriod) -> u128
+    ensures value { result ≡ volume_in kind period.now }
+    ensures bound { result ≤ 10 ^ 17 }
+{
+    match kind {
+        ComponentKind::Energy => energy_in(period),
+        ComponentKind::ParkingTime => parking_in(period),
+        ComponentKind::Time => time_in(period),
+        ComponentKind::Flat => 0,
+    }
+}
+
 /// The energy of a session, in millionths of a kWh.
 pub fn energy_of(cdr: &Cdr) -> u128
     ensures value { result ≡ energy_of cdr.now.charging_periods }

@@ -1,0 +1,5 @@
+pub mod AddedRows
+pub mod DigitLemmas
+pub mod DigitValues
+pub mod SameSums
+pub mod VolumeBounds

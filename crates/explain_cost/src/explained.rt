@@ -1,0 +1,145 @@
+//! What a CDR costs, with its rows.
+
+ghost use Rattle.std.specs.Prelude.{◌≡◌, ◌≤◌, length, unsigned_abs, IfOk, IfErr, Ok, Err, false};
+ghost use Rattle.json.specs.Value.{value_view as view};
+ghost use Rattle.ocpi_types.specs.Cdr.{is_credit};
+ghost use Rattle.cdr_rating.specs.Price.{price};
+ghost use Rattle.explain_cost.specs.Changes.{changes_over};
+ghost use Rattle.explain_cost.specs.CostText.{explanation};
+ghost use Rattle.explain_cost.specs.Costs.{whole_cost};
+ghost use Rattle.explain_cost.specs.Explained.{IsExplained, explained_cdr, explained_node, explained_text, is_fault_no_memory};
+
+use super::change::{Bounds, bounded, changes_over};
+use super::cost_text::explanation;
+use super::fault::Fault;
+use super::laws::rows_add_up;
+use super::row::Row;
+use super::rows::cost_rows;
+use cdr_rating::{first_tariff, rate};
+use exact_money::Amount;
+use ocpi_json::fields::FieldFault;
+use ocpi_json::objects::FromNodeIn;
+use ocpi_json::{Node, ReadFault, Room};
+use ocpi_types::{Cdr, Refusal, Zone};
+use std::alloc::{AllocError, Global};
+
+/// What a session costs, with its rows. Sums are in units of 1/(9 * 10^12) of the currency unit.
+#[derive(Drop)]
+pub struct Explained {
+    pub rows: Vec<Row>,
+    /// What the rows add up to.
+    pub sum: u128,
+    /// Raised to the minimum of the session's tariff.
+    pub raised: u128,
+    /// Raised, and then lowered to its maximum.
+    pub bounded: u128,
+    /// Rounded to ten-thousandths.
+    pub amount: Amount,
+}
+
+fn refused(refusal: Refusal) -> Fault
+    ensures { result ≡ Fault.Refused refusal }
+{
+    Fault::Refused { refusal }
+}
+
+fn whole_cost(rows: &[Row]) -> u128
+    requires { length rows.now ≤ 3004 }
+    ensures { result ≡ whole_cost rows.now }
+{
+    let mut units = 0;
+    for row in rows {
+        units += row.cost.units();
+    }
+    units
+}
+
+fn with_rows(alloc: Global, cdr: &Cdr, zone: &Zone, amount: Amount) -> Result<Explained, AllocError>
+    requires not_credit { is_credit cdr.now ≡ false }
+    requires amount { price cdr.now zone.now ≡ Ok amount }
+    ensures { IfOk result (IsExplained cdr.now zone.now) }
+{
+    rows_add_up();
+    let rows = cost_rows(alloc, cdr, zone)?;
+    let sum = whole_cost(rows.as_slice());
+    let by = bounded(first_tariff(cdr), sum);
+    Ok(Explained {
+        rows,
+        sum,
+        raised: by.raised,
+        bounded: by.bounded,
+        amount,
+    })
+}
+
+/// What a CDR costs by its tariffs in its operator's zone, with its rows: `CreditCdr` for a Credit CDR, `TariffNotGiven` and
+/// `AmountTooLarge` as `rate` has them, `NoMemory` where a growth was refused.
+#[tactic(auto, unfolding(crate::specs::Explained::explained_cdr))]
+pub fn explain(alloc: Global, cdr: &Cdr, zone: &Zone) -> Result<Explained, Fault>
+    ensures explained { IfOk result (IsExplained cdr.now zone.now) }
+    ensures fault { IfErr result (λ fault. is_fault_no_memory fault ≡ false → explained_cdr zone.now cdr.now ≡ Err fault) }
+{
+    if cdr.is_credit() {
+        return Err(Fault::CreditCdr);
+    }
+    match rate(cdr, zone) {
+        Ok(amount) => Ok(with_rows(alloc, cdr, zone, amount)?),
+        Err(refusal) => Err(refused(refusal)),
+    }
+}
+
+fn text_of(alloc: Global, explained: &Explained) -> Result<Vec<u8>, AllocError>
+    ensures { IfOk result (λ text. text.items ≡ explanation explained.now.rows.items
+        (changes_over explained.now.sum explained.now.raised explained.now.bounded (unsigned_abs explained.now.amount)) explained.now.amount) }
+{
+    let by = Bounds {
+        raised: explained.raised,
+        bounded: explained.bounded,
+    };
+    let amount = explained.amount.ten_thousandths().unsigned_abs();
+    let changes = changes_over(alloc, explained.sum, by, amount)?;
+    explanation(
+        alloc,
+        explained.rows.as_slice(),
+        changes.as_slice(),
+        explained.amount,
+    )
+}
+
+#[tactic(auto, unfolding(crate::specs::Explained::explained_cdr))]
+fn explain_cdr(alloc: Global, cdr: &Cdr, zone: &Zone) -> Result<Vec<u8>, Fault>
+    ensures text { IfOk result (λ text. explained_cdr zone.now cdr.now ≡ Ok text.items) }
+    ensures fault { IfErr result (λ fault. is_fault_no_memory fault ≡ false → explained_cdr zone.now cdr.now ≡ Err fault) }
+{
+    match explain(alloc, cdr, zone) {
+        Ok(explained) => Ok(text_of(alloc, &explained)?),
+        Err(fault) => Err(fault),
+    }
+}
+
+#[tactic(auto, unfolding(crate::specs::Explained::explained_node))]
+fn explain_node(alloc: Global, node: &Node, zone: &Zone) -> Result<Vec<u8>, Fault>
+    ensures text { IfOk result (λ text. explained_node zone.now (view node.now) ≡ Ok text.items) }
+    ensures fault { IfErr result (λ fault. is_fault_no_memory fault ≡ false → explained_node zone.now (view node.now) ≡ Err fault) }
+{
+    match Cdr::from_node_in(alloc, node) {
+        Ok(cdr) => explain_cdr(alloc, &cdr, zone),
+        Err(FieldFault::Field(name)) => Err(refused(Refusal::Field { name })),
+        Err(FieldFault::NoMemory) => Err(Fault::NoMemory),
+    }
+}
+
+/// The text that explains what the CDR costs that a text of JSON is: `Syntax` where it is no JSON, `Field` for the first member that is
+/// missing, of a wrong kind or out of bounds, and else as `explain` has it.
+#[tactic(auto, unfolding(crate::specs::Explained::explained_text))]
+pub fn explain_text(alloc: Global, text: &[u8], zone: &Zone) -> Result<Vec<u8>, Fault>
+    ensures text { IfOk result (λ told. explained_text text.now zone.now ≡ Ok told.items) }
+    ensures fault { IfErr result (λ fault. is_fault_no_memory fault ≡ false → explained_text text.now zone.now ≡ Err fault) }
+{
+    let mut room = Room::new(alloc);
+    match room.read(text) {
+        Ok(node) => explain_node(alloc, &node, zone),
+        Err(ReadFault::Syntax) => Err(refused(Refusal::Syntax)),
+        Err(ReadFault::NoMemory) => Err(Fault::NoMemory),
+    }
+}
