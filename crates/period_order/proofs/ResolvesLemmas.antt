@@ -13,6 +13,7 @@ use Rattle.period_order.specs.declared.order_entry.OrderEntry.{OrderEntry}
 use Rattle.period_order.specs.declared.order_entry.OrderEntry.TheVariants as entry
 use Rattle.period_order.specs.Resolved.{account_event, book_event, entry_at, named_event, period_behind, resolved_from}
 use Rattle.period_order.specs.Resolves.{FailsAt, Names, Resolves, ResolvingIsUnique, ResolvingIsWhole}
+use Rattle.period_order.specs.Inner.Named.{IsNamed}
 use Rattle.period_order.proofs.EntriesLemmas.{period_push}
 
 -- ---- lists
@@ -283,11 +284,20 @@ last_got xs begin x same =
     let n : length xs - 1 ≡ length begin = omega (arith, ap length same, length-append begin (x ∷ [])) in
     ap₂ (λ (l : List _) (n : ℕ). slice_get l n) same n ∙ seam begin x []
 
--- what the last entry names, in the current period or, where it closes one, in that before, is the last event
+-- the period that was current before the last entry: where it closes one, the one before
+abbrev pub BehindLast : OrderEntry → ℕ → ℕ → Type 0
+BehindLast kept current period = ((kept ≡ entry.Close) × (period ≡ current - 1)) ⊎ ((kept ≡ entry.Close → ⊥) × (period ≡ current))
+
+pub behind_last : (kept : OrderEntry) (current period : ℕ) → (kept ≡ entry.Close → period ≡ current - 1) → ((kept ≡ entry.Close → ⊥) → period ≡ current) → BehindLast kept current period
+behind_last (entry.InBook book) current period closed other = let no : (let e : OrderEntry = entry.InBook book in e ≡ entry.Close) → ⊥ = (λ h. cc) in inr (no, other no)
+behind_last (entry.InAccount account) current period closed other = let no : (let e : OrderEntry = entry.InAccount account in e ≡ entry.Close) → ⊥ = (λ h. cc) in inr (no, other no)
+behind_last (entry.InBoth book account) current period closed other = let no : (let e : OrderEntry = entry.InBoth book account in e ≡ entry.Close) → ⊥ = (λ h. cc) in inr (no, other no)
+behind_last entry.Close current period closed other = inl (refl, closed refl)
+
+-- what the last entry names, in the period before it, is the last event
 pub last_is : (books : List (List BookEntry)) (accounts : List (List AccountEntry)) (order : List OrderEntry) (events : List Event) (kept : OrderEntry) (current period : ℕ) (e : Event)
     → Resolves books accounts order events → slice_get order (length order - 1) ≡ Some kept → current ≡ period_of events
-    → ((kept ≡ entry.Close) × (period ≡ current - 1)) ⊎ ((kept ≡ entry.Close → ⊥) × (period ≡ current))
-    → Names books accounts period kept e ↔ (slice_get events (length events - 1) ≡ Some e)
+    → BehindLast kept current period → Names books accounts period kept e ↔ (slice_get events (length events - 1) ≡ Some e)
 last_is books accounts order events kept current period e resolves at now which = (
   λ names. last ∙ sym (named_once books accounts (period_of is.before) kept e is.last (subst (λ n. Names books accounts n kept e) (before which) names) is.names),
   λ there. let same : is.last ≡ e = only (sym last ∙ there) in subst (λ n. Names books accounts n kept e) (sym (before which)) (subst (Names books accounts (period_of is.before) kept) same is.names),
@@ -305,8 +315,19 @@ last_is books accounts order events kept current period e resolves at now which 
     behind : current ≡ period_behind (period_of is.before) kept
     behind = now ∙ current_behind books accounts kept events is
 
-    before : ((kept ≡ entry.Close) × (period ≡ current - 1)) ⊎ ((kept ≡ entry.Close → ⊥) × (period ≡ current)) → period ≡ period_of is.before
+    before : BehindLast kept current period → period ≡ period_of is.before
     before (inl p) =
         let closed : period_behind (period_of is.before) kept ≡ period_of is.before + 1 = ap (period_behind (period_of is.before)) p.0 in
         omega (arith, p.1, behind, closed)
     before (inr p) = p.1 ∙ behind ∙ behind_other (period_of is.before) kept p.0
+
+-- and so what is found there
+pub last_found : (books : List (List BookEntry)) (accounts : List (List AccountEntry)) (order : List OrderEntry) (events : List Event) (kept : OrderEntry) (current period : ℕ) (found : Option Event)
+    → Resolves books accounts order events → slice_get order (length order - 1) ≡ Some kept → current ≡ period_of events
+    → BehindLast kept current period → IsNamed books accounts period kept found → found ≡ slice_get events (length events - 1)
+last_found books accounts order events kept current period None resolves at now which none =
+    let is = last_named books accounts order events kept resolves at in
+    let there : slice_get events (length events - 1) ≡ Some is.last = last_got events is.before is.last is.events_are in
+    absurd (none is.last ((last_is books accounts order events kept current period is.last resolves at now which).1 there))
+last_found books accounts order events kept current period (Some e) resolves at now which names =
+    sym ((last_is books accounts order events kept current period e resolves at now which).0 names)

@@ -4,8 +4,7 @@ ghost use Rattle.std.specs.Prelude.{◌≡◌, ◌↔◌, ◌-◌, true, [], len
 
 use super::laws::{orders_are_counted, orders_resolve, resolving_is_unique, resolving_is_whole};
 use super::order::Order;
-use super::order_entry::OrderEntry;
-use super::resolved::{ResolveFault, names, resolve};
+use super::resolved::{ResolveFault, named, names, resolve};
 use cdr_checks::Command;
 use ocpi_types::Config;
 use operator_book::Book;
@@ -82,6 +81,20 @@ impl BookHouse {
         }
     }
 
+    /// The last event, where there is one.
+    pub fn last_event(&self, alloc: Global) -> Result<Option<Event>, AllocError>
+        ensures { IfOk result (λ last. last ≡ slice_get self.now.events (length self.now.events - 1)) }
+    {
+        orders_are_counted();
+        orders_resolve();
+        let Some(entry) = self.order.entries().last() else {
+            return Ok(None);
+        };
+        let period = self.order.period_before(*entry);
+        let (books, accounts) = (self.books.as_slice(), self.accounts.as_slice());
+        named(alloc, books, accounts, period, *entry)
+    }
+
     /// The event is the last one.
     pub fn is_last(&self, event: &Event) -> bool
         ensures { (result ≡ true) ↔ (slice_get self.now.events (length self.now.events - 1) ≡ Some event.now) }
@@ -91,10 +104,7 @@ impl BookHouse {
         let Some(entry) = self.order.entries().last() else {
             return false;
         };
-        let period = match entry {
-            OrderEntry::Close => self.order.current() - 1,
-            _ => self.order.current(),
-        };
+        let period = self.order.period_before(*entry);
         let (books, accounts) = (self.books.as_slice(), self.accounts.as_slice());
         names(books, accounts, period, *entry, event)
     }

@@ -28,8 +28,9 @@ impl Model for Order {
 }
 
 impl Order {
-    ghost use Rattle.std.specs.Prelude.{◌≡◌, [], ◌∷◌, ◌++◌, true, false, OnOk, OnErr};
+    ghost use Rattle.std.specs.Prelude.{◌≡◌, ◌-◌, [], ◌∷◌, ◌++◌, true, false, OnOk, OnErr};
     ghost use Rattle.ocpi_types.specs.declared.refusal.Store.TheVariants as store;
+    ghost use Rattle.period_order.specs.declared.order_entry.OrderEntry.TheVariants as entry;
     ghost use Rattle.period_order.specs.Order.{current_of, cut, is_close_entry, order_cut, point_of};
     ghost use Rattle.plain_house.specs.Full.{are_periods_full, first_full, is_order_full};
 
@@ -70,6 +71,18 @@ impl Order {
         ensures { result ≡ current_of self.now }
     {
         self.period
+    }
+
+    /// The period that was current before the last entry, which is this one.
+    pub(crate) fn period_before(&self, last: OrderEntry) -> u64
+        ensures closed { last ≡ entry.Close → result ≡ current_of self.now - 1 }
+        ensures other { (last ≡ entry.Close → ⊥) → result ≡ current_of self.now }
+    {
+        match last {
+            OrderEntry::Close => self.period.saturating_sub(1),
+            OrderEntry::InBook { .. } | OrderEntry::InAccount { .. } | OrderEntry::InBoth { .. } =>
+                self.period,
+        }
     }
 
     /// There are as many events as the configuration allows.

@@ -140,8 +140,8 @@ fn event_in_both(
     }
 }
 
-// The event that an entry of the order names in a period.
-fn named(
+/// The event that an entry of the order names in a period.
+pub(crate) fn named(
     alloc: Global,
     books: &[Book],
     accounts: &[Account],
