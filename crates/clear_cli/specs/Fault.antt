@@ -1,5 +1,7 @@
 -- The faults of the program, and the lines that tell them on standard error.
 use Rattle.std.specs.Prelude.{◌≡◌, ℕ, ◌<◌, ◌⊎◌, Bool, true, List, [], ◌∷◌, ◌++◌, length, take, codes, decimal}
+use Rattle.house_program.specs.declared.start_fault.StartFault.{StartFault}
+use Rattle.house_program.specs.declared.start_fault.StartFault.TheVariants as start
 use Rattle.ocpi_json.specs.Name.{key_text}
 use Rattle.ocpi_types.specs.declared.config.reading.ConfigFault.{ConfigFault}
 use Rattle.ocpi_types.specs.declared.config.reading.ConfigFault.TheVariants.{Syntax, Member, NoMemory as ConfigNoMemory}
@@ -51,6 +53,12 @@ exit_status (ScheduleLine line) = 1
 exit_status FinishMissingPass = 1
 exit_status (FinishTorn entry) = 1
 exit_status NoMemory = 1
+
+-- the fault of words or a file that keep the program from its work
+abbrev pub start_fault : StartFault → Fault
+start_fault start.Usage = Usage
+start_fault (start.CannotRead path) = CannotRead path
+start_fault start.NoMemory = NoMemory
 
 -- the fault of bytes that are no configuration
 abbrev pub config_fault : ConfigFault → Fault

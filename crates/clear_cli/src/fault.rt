@@ -1,11 +1,12 @@
 //! What ends the program early, and the line that tells it.
 
 ghost use Rattle.std.specs.Prelude.{◌≡◌, ◌++◌, codes};
-ghost use Rattle.clear_cli.specs.Fault.{IsTold, config_fault, exit_status, fault_line, fault_text, file_line, finish_fault, script_fault, write_fault};
+ghost use Rattle.clear_cli.specs.Fault.{IsTold, config_fault, exit_status, fault_line, fault_text, file_line, finish_fault, script_fault, start_fault, write_fault};
 ghost use Rattle.clear_cli.specs.Inner.Parts.{text_of};
 ghost use Rattle.clear_cli.specs.declared.fault.Fault.TheVariants.{NoMemory};
 
 use crate::schedule_text::WriteFault;
+use house_program::StartFault;
 use itoa::Buffer;
 use ocpi_json::name::Name;
 use ocpi_types::ConfigFault;
@@ -70,6 +71,18 @@ impl<T: Drop> From<AllocFailed<T>> for Fault<'_> {
 
     fn from(_error: AllocFailed<T>) -> Self {
         Fault::NoMemory
+    }
+}
+
+impl<'a> From<StartFault<'a>> for Fault<'a> {
+    ghost from_gives = { λ cause fault. fault ≡ start_fault cause };
+
+    fn from(cause: StartFault<'a>) -> Self {
+        match cause {
+            StartFault::Usage => Fault::Usage,
+            StartFault::CannotRead { path } => Fault::CannotRead { path },
+            StartFault::NoMemory => Fault::NoMemory,
+        }
     }
 }
 

@@ -1,8 +1,6 @@
 //! The program `clear`: a clearing house that answers lines.
 #![tactic(auto)]
 
-ghost use Rattle.std.specs.Prelude.{◌≡◌, ◌≢◌, IfErr};
-
 mod differences;
 mod fault;
 mod files;
@@ -20,36 +18,23 @@ mod step_line;
 mod words;
 
 use fault::{Fault, tell};
-use files::{open_file, read_file};
+use files::open_file;
+use house_program::{given_words, read_config};
 use out_folder::OutFolder;
 use request_lines::Device;
 use run::run;
 use schedule::schedule;
 use script::script;
 use std::alloc::Global;
-use std::env;
 use std::fs::File;
-use std::io::ErrorKind;
 use std::process::ExitCode;
 use std::sync::Wait;
 use std::thread::Threads;
 use words::{Job, read_words};
 
-// The words of the command line, the program's name first.
-fn given_words(rt: &HostRuntime, alloc: Global) -> Result<Vec<String>, Fault<'static>>
-    ensures { IfErr result (λ fault. fault ≢ Fault.NoMemory → fault ≡ Fault.Usage) }
-{
-    let args = match env::args(rt) {
-        Ok(args) => args,
-        Err(error) if error.kind() == ErrorKind::OutOfMemory => return Err(Fault::NoMemory),
-        Err(_) => return Err(Fault::Usage),
-    };
-    Ok(args.collect::<Vec<String>>(alloc)?)
-}
-
 // Answers standard input, and gives the exit status.
 fn answer_input<'a>(rt: &HostRuntime, config: &'a str) -> Result<u8, Fault<'a>> {
-    let file = read_file(rt, rt.alloc(), config)?;
+    let file = read_config(rt, config)?;
     let mut reader = Device::new(rt.stdin());
     let mut writer = Device::new(rt.stdout());
     let mut faults = Device::new(rt.stderr());
@@ -64,7 +49,7 @@ fn answer_input<'a>(rt: &HostRuntime, config: &'a str) -> Result<u8, Fault<'a>> 
 
 // Replays the file of a schedule, and gives the exit status.
 fn replay_file<'a>(rt: &HostRuntime, config: &'a str, path: &'a str) -> Result<u8, Fault<'a>> {
-    let file = read_file(rt, rt.alloc(), config)?;
+    let file = read_config(rt, config)?;
     let reader = match open_file(rt, path)? {
         Some(opened) => Some(Device::new(opened)),
         None => None,
@@ -106,7 +91,7 @@ fn answer_files<'a>(
     folder: &str,
     paths: &[&str],
 ) -> Result<u8, Fault<'a>> {
-    let file = read_file(rt, rt.alloc(), config)?;
+    let file = read_config(rt, config)?;
     let files = given_files(rt, rt.alloc(), paths)?;
     let mut folder = OutFolder::new(rt, folder);
     let mut writer = Device::new(rt.stdout());
@@ -145,9 +130,9 @@ fn told(rt: &HostRuntime, fault: &Fault<'_>) -> ExitCode {
 }
 
 fn main(rt: HostRuntime) -> ExitCode {
-    let words = match given_words(&rt, rt.alloc()) {
+    let words = match given_words(&rt) {
         Ok(words) => words,
-        Err(fault) => return told(&rt, &fault),
+        Err(fault) => return told(&rt, &Fault::from(fault)),
     };
     match perform(&rt, &rt, words.as_slice()) {
         Ok(status) => ExitCode::from(status),

@@ -13,6 +13,7 @@ use period_order::BookHouse;
 use plain_house::Sequential;
 use request_lines::{Sink, Source, run_script};
 use std::alloc::Global;
+use std::mem;
 
 pub fn read_config(alloc: Global, file: &[u8]) -> Result<Config, Fault<'static>>
     ensures ok { IfOk result (λ config. reading file.now ≡ Ok config) }
@@ -70,7 +71,10 @@ fn answer_under<R: Source, W: Sink>(
     ensures status { IfErr result (λ fault. exit_status fault ≡ 1) }
 {
     let mut house = BookHouse::new(alloc, config.copy(alloc)?)?;
-    answer_by(alloc, config, &mut house, reader, writer)
+    let answered = answer_by(alloc, config, &mut house, reader, writer);
+    // The process ends now, and the system takes its memory back at once.
+    mem::forget(house);
+    answered
 }
 
 fn answer_lines<R: Source, W: Sink>(

@@ -223,6 +223,9 @@ fn put_reply(
     }
 }
 
+// Most answers are shorter.
+const USUAL_BYTES: usize = 256;
+
 /// The line that answers a reply, with its newline. Parties are written as they are configured.
 #[tactic(auto, unfolding(crate::specs::AnswerText::answer_text))]
 pub fn answer_line(
@@ -232,7 +235,7 @@ pub fn answer_line(
 ) -> Result<Vec<u8>, AllocError>
     ensures { IfOk result (λ text. text.items ≡ answer_text config.now reply.now) }
 {
-    let mut out = Writer::new(Vec::new(alloc));
+    let mut out = Writer::new(Vec::with_capacity(alloc, USUAL_BYTES)?);
     out.begin_object()?;
     put_reply(alloc, &mut out, config, reply)?;
     out.end_object()?;

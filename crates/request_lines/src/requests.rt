@@ -55,6 +55,7 @@ impl FromText for CommandName {
     }
 }
 
+#[inline(never)]
 #[tactic(auto, unfolding(crate::specs::RequestText::tariff_ask_at))]
 fn read_tariff(alloc: Global, node: &Node) -> Result<Ask, FieldFault>
     ensures { Finds result (tariff_ask_at (view node.now)) }
@@ -63,6 +64,7 @@ fn read_tariff(alloc: Global, node: &Node) -> Result<Ask, FieldFault>
     Ok(Ask::PutTariff(tariff))
 }
 
+#[inline(never)]
 #[tactic(auto, unfolding(crate::specs::RequestText::token_ask_at))]
 fn read_token(node: &Node) -> Result<Ask, Name>
     ensures { result ≡ token_ask_at (view node.now) }
@@ -77,6 +79,7 @@ fn kind_or_rfid(kind: Option<TokenKind>) -> TokenKind
     kind.unwrap_or(TokenKind::Rfid)
 }
 
+#[inline(never)]
 #[tactic(auto, unfolding(crate::specs::RequestText::authorize_at))]
 fn read_authorize(node: &Node) -> Result<Ask, Name>
     ensures { result ≡ authorize_at (view node.now) }
@@ -95,6 +98,7 @@ fn read_authorize(node: &Node) -> Result<Ask, Name>
     }))
 }
 
+#[inline(never)]
 #[tactic(auto, unfolding(crate::specs::RequestText::release_at))]
 fn read_release(node: &Node) -> Result<Ask, Name>
     ensures { result ≡ release_at (view node.now) }
@@ -109,6 +113,7 @@ fn read_release(node: &Node) -> Result<Ask, Name>
     }))
 }
 
+#[inline(never)]
 #[tactic(auto, unfolding(crate::specs::RequestText::post_at))]
 fn read_post(alloc: Global, node: &Node) -> Result<Ask, FieldFault>
     ensures { Finds result (post_at (view node.now)) }
@@ -126,6 +131,7 @@ fn period(node: &Node) -> Result<u64, Name>
     fields::whole(node, Name::Period, 0, MOST_PERIOD)
 }
 
+#[inline(never)]
 #[tactic(auto, unfolding(crate::specs::RequestText::close_at))]
 fn read_close(node: &Node) -> Result<Ask, Name>
     ensures { result ≡ close_at (view node.now) }
@@ -134,6 +140,7 @@ fn read_close(node: &Node) -> Result<Ask, Name>
     Ok(Ask::Close(Close { period }))
 }
 
+#[inline(never)]
 #[tactic(auto, unfolding(crate::specs::RequestText::settle_at))]
 fn read_settle(node: &Node) -> Result<Ask, Name>
     ensures { result ≡ settle_at (view node.now) }
@@ -148,6 +155,7 @@ fn read_settle(node: &Node) -> Result<Ask, Name>
     }))
 }
 
+#[inline(never)]
 #[tactic(auto, unfolding(crate::specs::RequestText::exposure_at))]
 fn read_exposure(node: &Node) -> Result<Ask, Name>
     ensures { result ≡ exposure_at (view node.now) }
@@ -157,6 +165,7 @@ fn read_exposure(node: &Node) -> Result<Ask, Name>
     Ok(Ask::Exposure(ExposureOf { provider, currency }))
 }
 
+#[inline(never)]
 #[tactic(auto, unfolding(crate::specs::RequestText::find_at))]
 fn read_find(node: &Node) -> Result<Ask, Name>
     ensures { result ≡ find_at (view node.now) }
@@ -166,6 +175,7 @@ fn read_find(node: &Node) -> Result<Ask, Name>
     Ok(Ask::Find(Find { operator, id }))
 }
 
+#[inline(never)]
 #[tactic(auto, unfolding(crate::specs::RequestText::statement_at))]
 fn read_statement(node: &Node) -> Result<Ask, Name>
     ensures { result ≡ statement_at (view node.now) }
