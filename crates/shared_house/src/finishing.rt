@@ -1,17 +1,16 @@
 //! The end of a house.
 
-ghost use Rattle.std.specs.Prelude.{◌≡◌, ◌<◌, ◌↔◌, ℕ, Err, map, vec_len, IfOk};
+ghost use Rattle.std.specs.Prelude.{◌≡◌, ◌≢◌, ◌<◌, ◌↔◌, ℕ, Ok, Err, map, vec_len, IfOk};
 ghost use Rattle.shared_house.specs.Finished.{IsFinished, IsTornInEnd};
 ghost use Rattle.shared_house.specs.declared.certifying.CertifyFault.TheVariants as certify_fault;
 ghost use Rattle.shared_house.specs.declared.finishing.FinishFault.TheVariants as fault;
 
 use crate::certifying::CertifyFault;
 use crate::ended::Ended;
-use crate::gathered::gather;
+use crate::gathered::gather_locks;
 use crate::house::House;
 use crate::ledgers::{Configured, Names, Part};
 use crate::pass::Pass;
-use ocpi_types::TryCopy;
 use std::alloc::{AllocError, Global};
 
 /// Why a house ends without its events.
@@ -35,6 +34,19 @@ impl From<AllocError> for FinishFault {
     }
 }
 
+// How a house ends of which this is certified.
+fn finished(certified: Result<Ended, CertifyFault>) -> Result<Ended, FinishFault>
+    ensures missing { result ≢ Err fault.MissingPass }
+    ensures ok { IfOk result (λ ended. certified ≡ Ok ended) }
+    ensures torn { (entry : ℕ) → result ≡ Err (fault.Torn entry) → certified ≡ Err (certify_fault.Torn entry) }
+{
+    match certified {
+        Ok(ended) => Ok(ended),
+        Err(CertifyFault::Torn { entry }) => Err(FinishFault::Torn { entry }),
+        Err(CertifyFault::NoMemory) => Err(FinishFault::NoMemory),
+    }
+}
+
 impl<N: Names> House<N> {
     // What is certified of the house and these passes.
     fn certified(self, alloc: Global, passes: Vec<Pass<N>>) -> Result<Ended, CertifyFault>
@@ -45,8 +57,12 @@ impl<N: Names> House<N> {
         ensures ok { IfOk result (λ ended. IsFinished N.BookEntries.config (map (λ pass. pass.calls) passes.items) ended.events.items) }
         ensures torn { (entry : ℕ) → result ≡ Err (certify_fault.Torn entry) → IsTornInEnd N.BookEntries.config (map (λ pass. pass.calls) passes.items) entry }
     {
-        let config = self.config.copy(alloc)?;
-        let gathered = gather(alloc, self, passes)?;
+        let House {
+            config,
+            locks,
+            passes: _,
+        } = self;
+        let gathered = gather_locks(alloc, locks, passes)?;
         Ended::certified(alloc, &config, gathered)
     }
 
@@ -67,10 +83,6 @@ impl<N: Names> House<N> {
         if passes.len() < self.passes {
             return Err(FinishFault::MissingPass);
         }
-        match self.certified(alloc, passes) {
-            Ok(ended) => Ok(ended),
-            Err(CertifyFault::Torn { entry }) => Err(FinishFault::Torn { entry }),
-            Err(CertifyFault::NoMemory) => Err(FinishFault::NoMemory),
-        }
+        finished(self.certified(alloc, passes))
     }
 }

@@ -243,6 +243,42 @@ fn gather_open<N: Names>(
     })
 }
 
+// What these locks and passes hold.
+pub(crate) fn gather_locks<N: Names>(
+    alloc: Global,
+    locks: Locks<N>,
+    passes: Vec<Pass<N>>,
+) -> Result<Gathered, AllocError>
+    requires book_parts { (N.BookEntries.all ≡ N.BookEntries.parts) × (N.BookAmounts.all ≡ N.BookAmounts.parts) }
+    requires account_parts { (N.AccountEntries.all ≡ N.AccountEntries.parts) × (N.AccountAmounts.all ≡ N.AccountAmounts.parts) }
+    requires pass_parts { N.Events.all ≡ N.Events.parts }
+    ensures books { IfOk result (λ all. count_by names_book all.entries.items ≡ sum_by (λ book. length book.entries) all.books.items) }
+    ensures accounts { IfOk result (λ all. count_by names_account all.entries.items ≡ sum_by (λ account. length account.entries) all.accounts.items) }
+    ensures amounts { IfOk result (λ all. sum_by (λ book. total_of_book book.entries) all.books.items ≡ sum_by (λ account. total_of_account account.entries) all.accounts.items) }
+    ensures at_most { IfOk result (λ all. sum_by (λ calls. count_by made_event calls.items) all.calls.items ≤ vec_len all.entries) }
+    ensures events { vec_len passes ≡ N.Events.all → IfOk result (λ all. vec_len all.entries ≡ sum_by (λ calls. count_by made_event calls.items) all.calls.items) }
+    ensures calls { IfOk result (λ all. map (λ calls. calls.items) all.calls.items ≡ map (λ pass. pass.calls) passes.items) }
+    ensures admitted { IfOk result (λ all. All (λ calls. AreAdmitted N.BookEntries.config calls.items) all.calls.items) }
+    ensures each { IfOk result (λ all. (vec_len all.books ≡ length N.BookEntries.config.operators) × (vec_len all.accounts ≡ length N.BookEntries.config.providers)) }
+    ensures legal_books { IfOk result (λ all. All (λ book. IsLegalBook N.BookEntries.config book.entries) all.books.items) }
+    ensures legal_accounts { IfOk result (λ all. All (λ account. IsLegalAccount N.BookEntries.config account.entries) all.accounts.items) }
+{
+    let Locks {
+        books,
+        accounts,
+        order,
+        rest,
+    } = locks;
+    gather_open(
+        alloc,
+        books,
+        accounts,
+        order.into_inner(),
+        rest.into_inner(),
+        passes,
+    )
+}
+
 /// What all locks of a house and these passes hold.
 ///
 /// The order counts what the locks hold: it names a book for each entry of the books, and an account for each entry of the
@@ -276,18 +312,5 @@ pub fn gather<N: Names>(
         locks,
         passes: _,
     } = house;
-    let Locks {
-        books,
-        accounts,
-        order,
-        rest,
-    } = locks;
-    gather_open(
-        alloc,
-        books,
-        accounts,
-        order.into_inner(),
-        rest.into_inner(),
-        passes,
-    )
+    gather_locks(alloc, locks, passes)
 }

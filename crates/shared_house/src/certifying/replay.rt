@@ -1,6 +1,6 @@
 //! The calls done once more, in the order of their points, on a house of their own.
 
-ghost use Rattle.std.specs.Prelude.{◌≡◌, ◌≤◌, ◌-◌, ◌↔◌, true, length, map, slice_get, take, IfOk, IfNone, IfSome, Some};
+ghost use Rattle.std.specs.Prelude.{◌≡◌, ◌≤◌, ◌-◌, ◌↔◌, true, [], length, map, slice_get, take, IfOk, IfNone, IfSome, Some};
 ghost use Rattle.cdr_checks.specs.Admission.{IsAdmitted};
 ghost use Rattle.plain_house.specs.declared.event.Event.{Event};
 ghost use Rattle.plain_house.specs.House.{events_after};
@@ -88,6 +88,37 @@ fn take_turn(
     }
 }
 
+// The same as below, by an empty house of the configuration, on which the calls are done.
+fn first_break_by(
+    alloc: Global,
+    house: &mut BookHouse,
+    events: &[Event],
+    passes: &[Vec<Made>],
+) -> Result<Option<u64>, AllocError>
+    requires empty { house.old.events ≡ [] }
+    requires admitted { AreAllAdmitted house.old.config (map (λ calls. calls.items) passes.now) }
+    ensures history { IfOk result (λ torn. IfNone torn (IsOneHistory house.old.config events.now (map (λ calls. calls.items) passes.now))) }
+    ensures torn { IfOk result (λ torn. IfSome torn (BreaksFirst house.old.config events.now (map (λ calls. calls.items) passes.now))) }
+{
+    commands_keep_lists_legal();
+    empty_lists_are_legal();
+    replies_tell_events();
+    let turns = turns_in_order(alloc, passes)?;
+    let mut count = 0;
+    for turn in &turns {
+        if let Some(number) = take_turn(alloc, house, events, turn, count)? {
+            return Ok(Some(number));
+        }
+        if adds_event(&turn.made.reply) {
+            count += 1;
+        }
+    }
+    if count < events.len() as u64 {
+        return Ok(Some(count));
+    }
+    Ok(None)
+}
+
 /// The first number at which the events and the calls of all passes break, or none where they are one history.
 pub fn first_break(
     alloc: Global,
@@ -99,22 +130,6 @@ pub fn first_break(
     ensures history { IfOk result (λ torn. IfNone torn (IsOneHistory config.now events.now (map (λ calls. calls.items) passes.now))) }
     ensures torn { IfOk result (λ torn. IfSome torn (BreaksFirst config.now events.now (map (λ calls. calls.items) passes.now))) }
 {
-    commands_keep_lists_legal();
-    empty_lists_are_legal();
-    replies_tell_events();
-    let turns = turns_in_order(alloc, passes)?;
     let mut house = BookHouse::new(alloc, config.copy(alloc)?)?;
-    let mut count = 0;
-    for turn in &turns {
-        if let Some(number) = take_turn(alloc, &mut house, events, turn, count)? {
-            return Ok(Some(number));
-        }
-        if adds_event(&turn.made.reply) {
-            count += 1;
-        }
-    }
-    if count < events.len() as u64 {
-        return Ok(Some(count));
-    }
-    Ok(None)
+    first_break_by(alloc, &mut house, events, passes)
 }
