@@ -1,10 +1,10 @@
 //! A bit of everything, over standard input and the files of the crate's folder `data`, where the program then has to run.
 
 use crate::fault::Fault;
-use crate::files::open;
 use crate::houses::Choice;
 use crate::measures::Asked;
 use crate::{copies, houses, json_rows, measures, readings, shared};
+use house_program::open_file;
 use std::sync::Wait;
 use std::thread::Threads;
 
@@ -21,7 +21,7 @@ fn answer_by_all(
         "shared-again",
     ] {
         let choice = Choice::of(house, "config.json").ok_or(Fault::Usage)?;
-        houses::answer_lines(rt, threads, choice, open(rt, "lines.jsonl")?)?;
+        houses::answer_lines(rt, threads, choice, open_file(rt, "lines.jsonl")?)?;
     }
     Ok(())
 }
@@ -33,9 +33,9 @@ pub fn perform(
 ) -> Result<(), Fault<'static>> {
     json_rows::tell_rows(rt)?;
     copies::copy_input(rt, rt.stdin())?;
-    copies::copy_input(rt, open(rt, "cdrs.jsonl")?)?;
-    readings::compare_lines(rt, open(rt, "readings.jsonl")?)?;
+    copies::copy_input(rt, open_file(rt, "cdrs.jsonl")?)?;
+    readings::compare_lines(rt, open_file(rt, "readings.jsonl")?)?;
     answer_by_all(rt, threads)?;
-    shared::tell_changes(rt, threads, "config.json", open(rt, "lines.jsonl")?)?;
+    shared::tell_changes(rt, threads, "config.json", open_file(rt, "lines.jsonl")?)?;
     measures::measure(rt, threads, &Asked::everything())
 }

@@ -1,5 +1,6 @@
 //! What ends the program early, and the line that tells it.
 
+use house_program::StartFault;
 use ocpi_json::name::Name;
 use ocpi_types::ConfigFault;
 use request_lines::ScriptFault;
@@ -51,6 +52,16 @@ pub enum Fault<'a> {
 
     /// A row that was told is not as expected.
     NotAsExpected,
+}
+
+impl<'a> From<StartFault<'a>> for Fault<'a> {
+    fn from(cause: StartFault<'a>) -> Self {
+        match cause {
+            StartFault::Usage => Fault::Usage,
+            StartFault::CannotRead { path } => Fault::CannotRead { path },
+            StartFault::NoMemory => Fault::NoMemory,
+        }
+    }
 }
 
 impl From<AllocError> for Fault<'_> {

@@ -6,9 +6,9 @@ mod answering;
 mod choice;
 
 use crate::fault::Fault;
-use crate::files::read_config;
 use answering::answer;
 pub use choice::Choice;
+use house_program::read_config;
 use request_lines::Device;
 use std::io::Read;
 use std::sync::Wait;
@@ -20,7 +20,7 @@ fn answer_under_config<'a, T: Threads + Wait + Sync, R: Read>(
     choice: Choice<'a>,
     reader: &mut Device<R>,
 ) -> Result<(), Fault<'a>> {
-    let file = read_config(rt, rt.alloc(), choice.config)?;
+    let file = read_config(rt, choice.config)?;
     let mut writer = Device::new(rt.stdout());
     answer(rt, threads, choice, file.as_slice(), reader, &mut writer)
 }

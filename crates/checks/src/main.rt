@@ -4,6 +4,8 @@
 //!   that of books and accounts, or by one pass of the house that threads share, whose calls are certified in the end.
 //!   `plain-again CONFIG`, `books-again CONFIG` and `shared-again CONFIG` do once more what memory was refused for, and so show
 //!   whether a house that memory was refused to is as it was.
+//! - `growths CONFIG` does the command of each line of standard input by every kind of house, behind those before it, and tells how a
+//!   house goes on to which memory was refused for that command: `tests/refused_commands` refuses it each request in turn.
 //! - `changes CONFIG` answers them in the third way, and tells what is certified of the order, the books, the accounts and the
 //!   calls, as they are and with one change each.
 //! - `at-once CONFIG FILE..` makes the calls of the files' lines, each file by a pass and on a thread of its own, and tells how
@@ -23,6 +25,7 @@ mod copies;
 mod everything;
 mod fault;
 mod files;
+mod growths;
 mod houses;
 mod json_rows;
 mod measures;
@@ -31,28 +34,16 @@ mod shared;
 mod words;
 
 use fault::{Fault, tell};
-use std::alloc::Global;
-use std::env;
-use std::io::ErrorKind;
+use house_program::{StartFault, given_words};
 use std::process::ExitCode;
 use std::sync::Wait;
 use std::thread::Threads;
 use words::{Job, job_of};
 
-// The words of the command line, the program's name first.
-fn given_words(rt: &HostRuntime, alloc: Global) -> Result<Vec<String>, Fault<'static>> {
-    let args = match env::args(rt) {
-        Ok(args) => args,
-        Err(error) if error.kind() == ErrorKind::OutOfMemory => return Err(Fault::NoMemory),
-        Err(_) => return Err(Fault::Usage),
-    };
-    Ok(args.collect::<Vec<String>>(alloc)?)
-}
-
 // The words alone say whether anything is done once more, so they are always asked for again.
-fn words_again(rt: &HostRuntime, alloc: Global) -> Result<Vec<String>, Fault<'static>> {
-    match given_words(rt, alloc) {
-        Err(Fault::NoMemory) => given_words(rt, alloc),
+fn words_again(rt: &HostRuntime) -> Result<Vec<String>, StartFault<'static>> {
+    match given_words(rt) {
+        Err(StartFault::NoMemory) => given_words(rt),
         words => words,
     }
 }
@@ -65,6 +56,7 @@ fn perform<'a>(
     match job_of(words)? {
         Job::Everything => everything::perform(rt, threads),
         Job::Answer(choice) => houses::answer_lines(rt, threads, choice, rt.stdin()),
+        Job::Growths { config } => growths::try_commands(rt, threads, config, rt.stdin()),
         Job::Changes { config } => shared::tell_changes(rt, threads, config, rt.stdin()),
         Job::AtOnce { config, files } => shared::call_at_once(rt, threads, config, files),
         Job::Held {
@@ -91,9 +83,9 @@ fn told(rt: &HostRuntime, fault: &Fault<'_>) -> ExitCode {
 }
 
 fn main(rt: HostRuntime) -> ExitCode {
-    let words = match words_again(&rt, rt.alloc()) {
+    let words = match words_again(&rt) {
         Ok(words) => words,
-        Err(fault) => return told(&rt, &fault),
+        Err(fault) => return told(&rt, &Fault::from(fault)),
     };
     match perform(&rt, &rt, words.as_slice()) {
         Ok(()) => ExitCode::SUCCESS,

@@ -5,6 +5,7 @@ mod at_once;
 mod caller;
 mod changes;
 mod ending;
+mod growths;
 mod held;
 mod missing_pass;
 mod one_pass;
@@ -12,8 +13,10 @@ mod opening;
 mod workers;
 
 use crate::fault::Fault;
-use crate::files::{open, read_config};
+use crate::files::config_in;
+use crate::growths::Trial;
 use held::place_of;
+use house_program::open_file;
 use ocpi_types::{Config, TryCopy};
 use opening::{Work, with_house};
 use request_lines::{Device, Sink, Source};
@@ -50,8 +53,7 @@ pub fn tell_changes<'a, R: Threads + Wait + Sync, S: Read + Drop>(
     path: &'a str,
     reader: S,
 ) -> Result<(), Fault<'a>> {
-    let file = read_config(rt, rt.alloc(), path)?;
-    let config = Config::read(rt.alloc(), file.as_slice())?;
+    let config = config_in(rt, path)?;
     let other = config.copy(rt.alloc())?;
     let mut reader = Device::new(reader);
     let mut writer = Device::new(io::sink());
@@ -73,8 +75,7 @@ pub fn call_at_once<'a, R: Threads + Wait + Sync>(
     path: &'a str,
     files: &[String],
 ) -> Result<(), Fault<'a>> {
-    let file = read_config(rt, rt.alloc(), path)?;
-    let config = Config::read(rt.alloc(), file.as_slice())?;
+    let config = config_in(rt, path)?;
     let mut reader = Device::new(rt.stdin());
     let mut writer = Device::new(io::sink());
     with_house(
@@ -87,10 +88,30 @@ pub fn call_at_once<'a, R: Threads + Wait + Sync>(
     )
 }
 
+/// Has a pass of a new house do the last line of the trial, and perhaps once more where memory is refused, and ends the house.
+pub fn try_growths<R: Threads + Wait + Sync>(
+    rt: &HostRuntime,
+    threads: &R,
+    config: &Config,
+    trial: &Trial<'_>,
+    is_again: bool,
+) -> Result<(), Fault<'static>> {
+    let mut reader = Device::new(rt.stdin());
+    let mut writer = Device::new(io::sink());
+    with_house(
+        rt,
+        threads,
+        config.copy(rt.alloc())?,
+        Work::Growths { trial, is_again },
+        &mut reader,
+        &mut writer,
+    )
+}
+
 // The bytes of the file of this path.
 fn text_of<'a>(rt: &HostRuntime, alloc: Global, path: &'a str) -> Result<Vec<u8>, Fault<'a>> {
     let mut bytes = Vec::new(alloc);
-    match open(rt, path)?.read_to_end(&mut bytes) {
+    match open_file(rt, path)?.read_to_end(&mut bytes) {
         Ok(_) => Ok(bytes),
         Err(_) => Err(Fault::CannotRead { path }),
     }
@@ -108,8 +129,7 @@ pub fn hold<'a, R: Threads + Wait + Sync>(
     let Some(place) = place_of(place) else {
         return Err(Fault::Usage);
     };
-    let file = read_config(rt, rt.alloc(), path)?;
-    let config = Config::read(rt.alloc(), file.as_slice())?;
+    let config = config_in(rt, path)?;
     let mut reader = Device::new(rt.stdin());
     let mut writer = Device::new(io::sink());
     with_house(
@@ -135,19 +155,15 @@ fn texts_of<'a>(
     Ok(texts)
 }
 
-/// Has workers answer the lines of the files so many times, each time by a new house, which is to have so many events.
-pub fn answer_often<'a, R: Threads + Wait + Sync>(
+// Has workers answer the texts so many times.
+fn answer_texts(
     rt: &HostRuntime,
-    threads: &R,
-    path: &'a str,
+    threads: &(impl Threads + Wait + Sync),
+    config: &Config,
     times: usize,
     events: usize,
-    files: &'a [String],
-) -> Result<(), Fault<'a>> {
-    let file = read_config(rt, rt.alloc(), path)?;
-    let config = Config::read(rt.alloc(), file.as_slice())?;
-    let texts = texts_of(rt, rt.alloc(), files)?;
-    let texts = texts.as_slice();
+    texts: &[Vec<u8>],
+) -> Result<(), Fault<'static>> {
     let mut reader = Device::new(rt.stdin());
     let mut writer = Device::new(io::sink());
     for _time in 0..times {
@@ -161,4 +177,18 @@ pub fn answer_often<'a, R: Threads + Wait + Sync>(
         )?;
     }
     Ok(())
+}
+
+/// Has workers answer the lines of the files so many times, each time by a new house, which is to have so many events.
+pub fn answer_often<'a, R: Threads + Wait + Sync>(
+    rt: &HostRuntime,
+    threads: &R,
+    path: &'a str,
+    times: usize,
+    events: usize,
+    files: &'a [String],
+) -> Result<(), Fault<'a>> {
+    let config = config_in(rt, path)?;
+    let texts = texts_of(rt, rt.alloc(), files)?;
+    answer_texts(rt, threads, &config, times, events, texts.as_slice())
 }

@@ -13,6 +13,11 @@ pub enum Job<'a> {
     /// Answers lines by a house.
     Answer(Choice<'a>),
 
+    /// Does commands to which memory may be refused, under the configuration of this path.
+    Growths {
+        config: &'a str,
+    },
+
     /// Tells what is certified of changed values, under the configuration of this path.
     Changes {
         config: &'a str,
@@ -76,6 +81,9 @@ pub fn job_of(words: &[String]) -> Result<Job<'_>, Fault<'static>> {
         ("readings", []) => Some(Job::Readings),
         ("json", []) => Some(Job::Json),
         ("measure", others) => Asked::of(others).map(Job::Measure),
+        ("growths", [config]) => Some(Job::Growths {
+            config: config.as_str(),
+        }),
         ("changes", [config]) => Some(Job::Changes {
             config: config.as_str(),
         }),

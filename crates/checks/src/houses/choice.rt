@@ -28,13 +28,14 @@ pub struct Choice<'a> {
 impl<'a> Choice<'a> {
     /// The house that the word names, if it names one. A path that begins with a hyphen is none.
     pub fn of(word: &str, config: &'a str) -> Option<Choice<'a>> {
-        let (kind, is_again) = match word {
-            "plain" => (Kind::Plain, false),
-            "books" => (Kind::Books, false),
-            "shared" => (Kind::Shared, false),
-            "plain-again" => (Kind::Plain, true),
-            "books-again" => (Kind::Books, true),
-            "shared-again" => (Kind::Shared, true),
+        let (name, is_again) = match word.strip_suffix("-again") {
+            Some(name) => (name, true),
+            None => (word, false),
+        };
+        let kind = match name {
+            "plain" => Kind::Plain,
+            "books" => Kind::Books,
+            "shared" => Kind::Shared,
             _ => return None,
         };
         if config.starts_with("-") {

@@ -67,51 +67,95 @@ fn admitted_of<N: Names>(
     }
 }
 
-// The commands of the reader's lines; a line without one is passed over.
-fn commands_of<N: Names, R: BufRead>(
+// Adds the command of the line; a line without one is passed over.
+fn add_command<N: Names>(
+    alloc: Global,
+    room: &mut Room,
+    house: &House<N>,
+    line: &[u8],
+    commands: &mut Vec<Admitted<N>>,
+) -> Result<(), AllocError> {
+    match admitted_of(alloc, room, house, line) {
+        Some(admitted) => Ok(commands.push(admitted)?),
+        None => Ok(()),
+    }
+}
+
+// Adds the command of the reader's next line, if there is one more.
+fn add_next<N: Names, R: BufRead>(
+    alloc: Global,
+    room: &mut Room,
+    house: &House<N>,
+    reader: &mut R,
+    line: &mut Vec<u8>,
+    commands: &mut Vec<Admitted<N>>,
+) -> io::Result<bool> {
+    line.clear();
+    if reader.read_until(b'\n', line)? == 0 {
+        return Ok(false);
+    }
+    add_command(alloc, room, house, line.as_slice(), commands)?;
+    Ok(true)
+}
+
+// Adds the commands of the reader's lines, each line in turn in the same place.
+fn add_commands<N: Names, R: BufRead>(
     alloc: Global,
     house: &House<N>,
     reader: &mut R,
-) -> io::Result<Vec<Admitted<N>>> {
+    line: &mut Vec<u8>,
+    commands: &mut Vec<Admitted<N>>,
+) -> io::Result<()> {
     let mut room = Room::new(alloc);
-    let mut line = Vec::new(alloc);
-    let mut commands = Vec::new(alloc);
     for _number in 0..u64::MAX {
-        line.clear();
-        if reader.read_until(b'\n', &mut line)? == 0 {
+        if !add_next(alloc, &mut room, house, reader, line, commands)? {
             break;
         }
-        if let Some(admitted) = admitted_of(alloc, &mut room, house, line.as_slice()) {
-            commands.push(admitted)?;
-        }
     }
-    Ok(commands)
+    Ok(())
 }
 
-// The pass, with the commands of the file at the path.
-fn worker_of<N: Names>(
+// The commands of the lines of the file at the path.
+fn commands_of<N: Names>(
+    rt: &HostRuntime,
+    house: &House<N>,
+    path: &str,
+) -> io::Result<Vec<Admitted<N>>> {
+    let mut reader = BufReader::new(rt.alloc(), fs::open(rt, path)?)?;
+    let mut line = Vec::new(rt.alloc());
+    let mut commands = Vec::new(rt.alloc());
+    match add_commands(rt.alloc(), house, &mut reader, &mut line, &mut commands) {
+        Ok(()) => Ok(commands),
+        Err(fault) => Err(fault),
+    }
+}
+
+// Adds the pass, with the commands of the file at the path.
+fn add_worker<N: Names>(
     rt: &HostRuntime,
     house: &House<N>,
     pass: Pass<N>,
     path: &str,
-) -> io::Result<Worker<N>> {
-    let mut reader = BufReader::new(rt.alloc(), fs::open(rt, path)?)?;
-    let commands = commands_of(rt.alloc(), house, &mut reader)?;
-    Ok(Worker { pass, commands })
+    workers: &mut Vec<Worker<N>>,
+) -> io::Result<()> {
+    match commands_of(rt, house, path) {
+        Ok(commands) => Ok(workers.push(Worker { pass, commands })?),
+        Err(fault) => Err(fault),
+    }
 }
 
-// The passes, each with the commands of the file of its number.
-fn workers_of<N: Names>(
+// Adds the passes, each with the commands of the file of its number.
+fn add_workers<N: Names>(
     rt: &HostRuntime,
     house: &House<N>,
     passes: Vec<Pass<N>>,
     files: &[String],
-) -> io::Result<Vec<Worker<N>>> {
-    let mut workers = Vec::new(rt.alloc());
+    workers: &mut Vec<Worker<N>>,
+) -> io::Result<()> {
     for (pass, path) in passes.into_iter().zip(files) {
-        workers.push(worker_of(rt, house, pass, path.as_str())?)?;
+        add_worker(rt, house, pass, path.as_str(), workers)?;
     }
-    Ok(workers)
+    Ok(())
 }
 
 fn passes_of<N: Names>(alloc: Global, workers: Vec<Worker<N>>) -> Result<Vec<Pass<N>>, AllocError> {
@@ -138,13 +182,13 @@ fn command_count<N: Names>(workers: &[Worker<N>]) -> usize {
     count
 }
 
-// Makes the calls of all workers, each on a thread of its own, and gives their passes back.
+// Makes the calls of all workers, each on a thread of its own.
 fn call_all<N: Names + Send + Sync, R: Threads + Wait + Sync>(
     rt: &HostRuntime,
     threads: &R,
     house: &House<N>,
-    mut workers: Vec<Worker<N>>,
-) -> io::Result<Vec<Pass<N>>>
+    workers: &mut [Worker<N>],
+) -> io::Result<()>
 where
     N::BookEntries: Send + Sync,
     N::BookAmounts: Send + Sync,
@@ -153,18 +197,17 @@ where
     N::Events: Send + Sync,
 {
     let count = workers.len();
-    let calls = command_count(workers.as_slice());
+    let calls = command_count(workers);
     let before = Instant::now(rt)?;
     if count > 0 {
         thread::for_each_mut(
             threads,
-            workers.as_mut_slice(),
+            workers,
             count,
             &|_, worker| { worker.call_all(threads, house) },
         );
     }
-    tell_rate(rt, "made", calls, before.elapsed(rt)?)?;
-    Ok(passes_of(rt.alloc(), workers)?)
+    tell_rate(rt, "made", calls, before.elapsed(rt)?)
 }
 
 // How many calls the passes have made.
@@ -176,18 +219,18 @@ fn call_count<N: Names>(passes: &[Pass<N>]) -> usize {
     count
 }
 
-// Tells how many calls were certified, and how many events there are.
+// Tells how many calls were certified since then, and how many events there are.
 fn tell_certified(
     rt: &HostRuntime,
     passes: usize,
     calls: usize,
-    before: Instant,
+    since: io::Result<Instant>,
     ended: Result<usize, FinishFault>,
 ) -> io::Result<()> {
     let Ok(events) = ended else {
         return println!(rt; "at once: not certified");
     };
-    tell_rate(rt, "certified", calls, before.elapsed(rt)?)?;
+    tell_rate(rt, "certified", calls, since?.elapsed(rt)?)?;
     println!(rt; "at once: {passes} passes, {calls} calls, {events} events")
 }
 
@@ -198,9 +241,25 @@ fn certify_all<N: Names>(rt: &HostRuntime, house: House<N>, passes: Vec<Pass<N>>
 {
     let count = passes.len();
     let calls = call_count(passes.as_slice());
-    let before = Instant::now(rt)?;
+    let since = Instant::now(rt);
     let ended = end(rt.alloc(), house, passes);
-    tell_certified(rt, count, calls, before, ended)
+    tell_certified(rt, count, calls, since, ended)
+}
+
+// Has the calls certified, where they were made.
+fn certify_called<N: Names>(
+    rt: &HostRuntime,
+    house: House<N>,
+    called: io::Result<Vec<Pass<N>>>,
+) -> io::Result<()>
+    requires book_parts { (N.BookEntries.all ≡ N.BookEntries.parts) × (N.BookAmounts.all ≡ N.BookAmounts.parts) }
+    requires account_parts { (N.AccountEntries.all ≡ N.AccountEntries.parts) × (N.AccountAmounts.all ≡ N.AccountAmounts.parts) }
+    requires pass_parts { N.Events.all ≡ N.Events.parts }
+{
+    match called {
+        Ok(passes) => certify_all(rt, house, passes),
+        Err(fault) => Err(fault),
+    }
 }
 
 // Makes the calls of the files' lines, each file's by a pass.
@@ -218,8 +277,10 @@ where
     N::AccountAmounts: Send + Sync,
     N::Events: Send + Sync,
 {
-    let workers = workers_of(rt, house, passes, files)?;
-    call_all(rt, threads, house, workers)
+    let mut workers = Vec::new(rt.alloc());
+    add_workers(rt, house, passes, files, &mut workers)?;
+    call_all(rt, threads, house, workers.as_mut_slice())?;
+    Ok(passes_of(rt.alloc(), workers)?)
 }
 
 fn work<N: Names + Send + Sync, R: Threads + Wait + Sync>(
@@ -239,10 +300,8 @@ where
     requires account_parts { (N.AccountEntries.all ≡ N.AccountEntries.parts) × (N.AccountAmounts.all ≡ N.AccountAmounts.parts) }
     requires pass_parts { N.Events.all ≡ N.Events.parts }
 {
-    match called(rt, threads, &house, passes, files) {
-        Ok(passes) => certify_all(rt, house, passes),
-        Err(fault) => Err(fault),
-    }
+    let called = called(rt, threads, &house, passes, files);
+    certify_called(rt, house, called)
 }
 
 /// Makes the calls of the files' lines, each file's by a pass and on a thread of its own, has them certified, and tells how many

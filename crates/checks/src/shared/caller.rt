@@ -34,6 +34,13 @@ impl<N: Names, R: Wait> Caller<'_, '_, '_, '_, N, R> {
         }
         reply
     }
+
+    fn text(&self, alloc: Global, reply: &Result<Replied, Refused>) -> Result<Vec<u8>, AllocError> {
+        match answer_line(alloc, self.house.config(), reply) {
+            Err(AllocError) if self.is_again => answer_line(alloc, self.house.config(), reply),
+            text => text,
+        }
+    }
 }
 
 impl<N: Names, R: Wait> Answerer for Caller<'_, '_, '_, '_, N, R> {
@@ -50,10 +57,6 @@ impl<N: Names, R: Wait> Answerer for Caller<'_, '_, '_, '_, N, R> {
         if is_out_of_memory(&reply) {
             return Err(AllocError);
         }
-        match answer_line(alloc, self.house.config(), &reply) {
-            Ok(text) => Ok(text),
-            Err(AllocError) if self.is_again => answer_line(alloc, self.house.config(), &reply),
-            Err(AllocError) => Err(AllocError),
-        }
+        self.text(alloc, &reply)
     }
 }

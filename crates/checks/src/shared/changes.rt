@@ -7,7 +7,7 @@ ghost use Rattle.shared_house.specs.Points.{AreAdmitted};
 use super::one_pass::answer_by_last;
 use crate::fault::Fault;
 use exact_money::Amount;
-use ocpi_types::{Config, TryCopy};
+use ocpi_types::Config;
 use period_order::OrderEntry;
 use plain_house::Answer;
 use request_lines::{Sink, Source};
@@ -185,38 +185,54 @@ fn tell_all(rt: &HostRuntime, config: &Config, gathered: Gathered) -> Result<(),
     tell_amounts(rt, config, gathered)
 }
 
-// Tells what is certified of what the house leaves behind.
+// Tells what is certified of what was gathered.
+fn tell_gathered(
+    rt: &HostRuntime,
+    config: &Config,
+    gathered: Result<Gathered, AllocError>,
+) -> Result<(), Fault<'static>>
+    requires { IfOk gathered (λ gathered. All (λ calls. AreAdmitted config.now calls.items) gathered.calls.items) }
+{
+    match gathered {
+        Ok(gathered) => tell_all(rt, config, gathered),
+        Err(AllocError) => Err(Fault::NoMemory),
+    }
+}
+
+// Tells what is certified of what the house leaves behind, where its lines were answered.
 fn tell_left<N: Names>(
     rt: &HostRuntime,
     config: &Config,
     house: House<N>,
-    passes: Vec<Pass<N>>,
+    answered: Result<Vec<Pass<N>>, Fault<'static>>,
 ) -> Result<(), Fault<'static>>
     requires config { config.now ≡ N.BookEntries.config }
     requires book_parts { (N.BookEntries.all ≡ N.BookEntries.parts) × (N.BookAmounts.all ≡ N.BookAmounts.parts) }
     requires account_parts { (N.AccountEntries.all ≡ N.AccountEntries.parts) × (N.AccountAmounts.all ≡ N.AccountAmounts.parts) }
     requires pass_parts { N.Events.all ≡ N.Events.parts }
 {
-    let gathered = gather(rt.alloc(), house, passes)?;
-    tell_all(rt, config, gathered)
+    match answered {
+        Ok(passes) => tell_gathered(rt, config, gather(rt.alloc(), house, passes)),
+        Err(fault) => Err(fault),
+    }
 }
 
-/// Answers the lines of the reader by the last of the passes, and tells what is certified of what the house then leaves behind.
-pub fn tell<'a, N: Names, R: Wait, S: Source, W: Sink>(
+/// Answers the lines of the reader by the last of the passes, and tells what is certified of what the house then leaves behind, by the
+/// house's configuration.
+pub fn tell<N: Names, R: Wait, S: Source, W: Sink>(
     rt: &HostRuntime,
     locks: &R,
+    config: &Config,
     house: House<N>,
     passes: Vec<Pass<N>>,
     reader: &mut S,
     writer: &mut W,
-) -> Result<(), Fault<'a>>
+) -> Result<(), Fault<'static>>
+    requires config { config.now ≡ N.BookEntries.config }
     requires book_parts { (N.BookEntries.all ≡ N.BookEntries.parts) × (N.BookAmounts.all ≡ N.BookAmounts.parts) }
     requires account_parts { (N.AccountEntries.all ≡ N.AccountEntries.parts) × (N.AccountAmounts.all ≡ N.AccountAmounts.parts) }
     requires pass_parts { N.Events.all ≡ N.Events.parts }
 {
-    let config = house.config().copy(rt.alloc())?;
-    match answer_by_last(rt.alloc(), locks, &house, passes, false, reader, writer) {
-        Ok(passes) => tell_left(rt, &config, house, passes),
-        Err(fault) => Err(fault),
-    }
+    let answered = answer_by_last(rt.alloc(), locks, &house, passes, false, reader, writer);
+    tell_left(rt, config, house, answered)
 }

@@ -52,7 +52,7 @@ pub fn answer_by_last<N: Names, R: Wait, S: Source, W: Sink>(
 }
 
 // Ends the house. A house that is ended cannot be ended again, so where all else is done once more, want of memory is no fault there.
-fn end_lines<'a, N: Names>(
+fn end_once<'a, N: Names>(
     alloc: Global,
     house: House<N>,
     passes: Vec<Pass<N>>,
@@ -66,6 +66,23 @@ fn end_lines<'a, N: Names>(
         Err(FinishFault::NoMemory) if is_again => Ok(()),
         Err(fault) => Err(Fault::from(fault)),
         Ok(_) => Ok(()),
+    }
+}
+
+// Ends the house, where its lines were answered.
+fn end_lines<'a, N: Names>(
+    alloc: Global,
+    house: House<N>,
+    answered: Result<Vec<Pass<N>>, Fault<'a>>,
+    is_again: bool,
+) -> Result<(), Fault<'a>>
+    requires book_parts { (N.BookEntries.all ≡ N.BookEntries.parts) × (N.BookAmounts.all ≡ N.BookAmounts.parts) }
+    requires account_parts { (N.AccountEntries.all ≡ N.AccountEntries.parts) × (N.AccountAmounts.all ≡ N.AccountAmounts.parts) }
+    requires pass_parts { N.Events.all ≡ N.Events.parts }
+{
+    match answered {
+        Ok(passes) => end_once(alloc, house, passes, is_again),
+        Err(fault) => Err(fault),
     }
 }
 
@@ -83,8 +100,6 @@ pub fn answer_lines<'a, N: Names, R: Wait, S: Source, W: Sink>(
     requires account_parts { (N.AccountEntries.all ≡ N.AccountEntries.parts) × (N.AccountAmounts.all ≡ N.AccountAmounts.parts) }
     requires pass_parts { N.Events.all ≡ N.Events.parts }
 {
-    match answer_by_last(rt.alloc(), locks, &house, passes, is_again, reader, writer) {
-        Ok(passes) => end_lines(rt.alloc(), house, passes, is_again),
-        Err(fault) => Err(fault),
-    }
+    let answered = answer_by_last(rt.alloc(), locks, &house, passes, is_again, reader, writer);
+    end_lines(rt.alloc(), house, answered, is_again)
 }

@@ -12,17 +12,22 @@ use std::io;
 use std::sync::Wait;
 use std::thread::Threads;
 
+// The pass of a worker that was done, or its fault.
+fn pass_of<'a, N: Names>(worker: (Pass<N>, WorkerEnd)) -> Result<Pass<N>, Fault<'a>> {
+    match worker {
+        (pass, WorkerEnd::Done(_)) => Ok(pass),
+        (_, WorkerEnd::Failed(fault)) => Err(Fault::from(fault)),
+    }
+}
+
 // The passes of workers that were done, or the first fault.
 fn passes_of<'a, N: Names>(
     alloc: Global,
     workers: Vec<(Pass<N>, WorkerEnd)>,
 ) -> Result<Vec<Pass<N>>, Fault<'a>> {
     let mut passes = Vec::new(alloc);
-    for (pass, end) in workers {
-        if let WorkerEnd::Failed(fault) = end {
-            return Err(Fault::from(fault));
-        }
-        passes.push(pass)?;
+    for worker in workers {
+        passes.push(pass_of(worker)?)?;
     }
     Ok(passes)
 }

@@ -1,0 +1,124 @@
+//! The house in atomic steps. What it holds cannot be seen from outside, so it is told alone whether its steps found memory.
+
+ghost use Rattle.std.specs.Prelude.{All, ◌≡◌, IfOk};
+ghost use Rattle.cdr_checks.specs.Admission.{IsAdmitted};
+
+use super::telling::{announce, tell_memory};
+use super::trial::Trial;
+use crate::fault::Fault;
+use cdr_checks::Command;
+use house_core::{Action, Step, World};
+use ocpi_json::Room;
+use ocpi_types::Config;
+use request_lines::command_of;
+use std::alloc::{AllocError, Global};
+use std::io;
+
+fn add_command(
+    alloc: Global,
+    config: &Config,
+    line: &str,
+    commands: &mut Vec<Command>,
+) -> Result<(), AllocError>
+    requires { All (IsAdmitted config.now) commands.old.items }
+    ensures { All (IsAdmitted config.now) commands.new.items }
+{
+    let mut room = Room::new(alloc);
+    match command_of(alloc, &mut room, config, line.as_bytes()) {
+        Ok(command) => Ok(commands.push(command)?),
+        Err(_) => Ok(()),
+    }
+}
+
+fn add_commands(
+    alloc: Global,
+    config: &Config,
+    lines: &[&str],
+    commands: &mut Vec<Command>,
+) -> Result<(), AllocError>
+    requires { All (IsAdmitted config.now) commands.old.items }
+    ensures { All (IsAdmitted config.now) commands.new.items }
+{
+    for line in lines {
+        add_command(alloc, config, *line, commands)?;
+    }
+    Ok(())
+}
+
+// The house in which the commands of all lines of the trial are to be called.
+fn world_of(alloc: Global, config: &Config, trial: &Trial<'_>) -> Result<World, AllocError> {
+    let mut commands = Vec::new(alloc);
+    add_commands(alloc, config, trial.before, &mut commands)?;
+    add_command(alloc, config, trial.line, &mut commands)?;
+    World::new(alloc, config, commands)
+}
+
+// Has the call take its steps. Those that it cannot take change nothing.
+fn call(world: &mut World, operators: usize, call: usize) -> Result<(), AllocError> {
+    for action in [
+        Action::Begin,
+        Action::TakeBook,
+        Action::TakeAccount,
+        Action::Order,
+        Action::PutAccount,
+        Action::PutBook,
+    ] {
+        world.step(Step { call, action })?;
+    }
+    for operator in 0..operators {
+        world.step(Step {
+            call,
+            action: Action::Collect { operator },
+        })?;
+    }
+    world.step(Step {
+        call,
+        action: Action::End,
+    })
+}
+
+// Ends the line. Where a step found no memory, the call goes on at that one.
+fn tell(
+    rt: &HostRuntime,
+    world: &mut World,
+    operators: usize,
+    number: usize,
+    had_memory: bool,
+) -> io::Result<()> {
+    if had_memory {
+        return println!(rt);
+    }
+    match call(world, operators, number) {
+        Ok(()) => println!(rt; ", then done"),
+        Err(AllocError) => println!(rt; ", then no memory"),
+    }
+}
+
+fn try_last(
+    rt: &HostRuntime,
+    world: &mut World,
+    operators: usize,
+    trial: &Trial<'_>,
+) -> io::Result<()> {
+    let number = trial.before.len();
+    for earlier in 0..number {
+        call(world, operators, earlier)?;
+    }
+    announce(rt, trial, "steps")?;
+    let has_memory = call(world, operators, number).is_ok();
+    tell_memory(rt, has_memory)?;
+    tell(rt, world, operators, number, has_memory)
+}
+
+/// Does the lines in steps, one call after another, and tells how the last one went.
+pub fn try_steps(
+    rt: &HostRuntime,
+    config: &Config,
+    trial: &Trial<'_>,
+) -> Result<(), Fault<'static>> {
+    let mut world = world_of(rt.alloc(), config, trial)?;
+    match try_last(rt, &mut world, config.operators.as_slice().len(), trial) {
+        Ok(()) => Ok(()),
+        Err(_) => Err(Fault::CannotWrite),
+    }
+}
