@@ -1,0 +1,8 @@
+//! What is refused by a request and the configuration alone.
+
+pub mod currencies;
+pub mod dates;
+pub mod parties;
+pub mod rights;
+pub mod tariffs;
+pub mod volumes;
