@@ -28,6 +28,7 @@ fn ensure_tariff(config: &Config, platform: &CiText<36>, tariff: &Tariff) -> Res
     Ok(())
 }
 
+#[inline(never)]
 fn put_tariff(
     config: &Config,
     platform: &CiText<36>,
@@ -41,6 +42,7 @@ fn put_tariff(
     }
 }
 
+#[inline(never)]
 fn put_token(config: &Config, platform: &CiText<36>, token: &Token) -> Result<Command, Refusal>
     ensures { result ≡ put_token_admission config.now platform.now token.now }
 {
@@ -52,6 +54,7 @@ fn put_token(config: &Config, platform: &CiText<36>, token: &Token) -> Result<Co
     Ok(Command::PutToken(*token))
 }
 
+#[inline(never)]
 fn authorize(
     config: &Config,
     platform: &CiText<36>,
@@ -78,6 +81,7 @@ fn authorize(
     Ok(Command::Authorize(*authorize))
 }
 
+#[inline(never)]
 fn release(config: &Config, platform: &CiText<36>, release: &Release) -> Result<Command, Refusal>
     ensures { result ≡ release_admission config.now platform.now release.now }
 {
@@ -90,6 +94,7 @@ fn release(config: &Config, platform: &CiText<36>, release: &Release) -> Result<
     Ok(Command::Release(*release))
 }
 
+#[inline(never)]
 fn exposure(
     config: &Config,
     platform: &CiText<36>,
@@ -112,6 +117,7 @@ fn exposure(
     Ok(Command::Exposure(*exposure))
 }
 
+#[inline(never)]
 fn post(config: &Config, platform: &CiText<36>, cdr: Cdr) -> Result<Command, (Ask, Refusal)>
     ensures { result ≡ handed_back (Ask.Post cdr) (post_admission config.now platform.now cdr) }
 {
@@ -121,6 +127,7 @@ fn post(config: &Config, platform: &CiText<36>, cdr: Cdr) -> Result<Command, (As
     }
 }
 
+#[inline(never)]
 fn find(config: &Config, platform: &CiText<36>, find: &Find) -> Result<Command, Refusal>
     ensures { result ≡ find_admission config.now platform.now find.now }
 {
@@ -132,6 +139,7 @@ fn find(config: &Config, platform: &CiText<36>, find: &Find) -> Result<Command, 
     Ok(Command::Find(*find))
 }
 
+#[inline(never)]
 fn close(config: &Config, platform: &CiText<36>, close: &Close) -> Result<Command, Refusal>
     ensures { result ≡ close_admission config.now platform.now close.now }
 {
@@ -140,6 +148,7 @@ fn close(config: &Config, platform: &CiText<36>, close: &Close) -> Result<Comman
     Ok(Command::Close(*close))
 }
 
+#[inline(never)]
 fn settle(
     config: &Config,
     platform: &CiText<36>,
@@ -159,6 +168,7 @@ fn settle(
     Ok(Command::Settle(*settlement))
 }
 
+#[inline(never)]
 fn statement(
     config: &Config,
     platform: &CiText<36>,

@@ -1,7 +1,8 @@
 //! Items of a list that say the same.
 
-use ocpi_json::Node;
 use ocpi_json::name::Name;
+use ocpi_json::{Node, Nodes};
+use std::iter::Take;
 
 fn is_same(left: Option<&str>, right: Option<&str>) -> bool {
     match (left, right) {
@@ -27,19 +28,20 @@ fn are_alike(left: &Node, right: &Node, keys: &[Name]) -> bool {
     true
 }
 
-fn is_like_one_of(node: &Node, others: &[Node], keys: &[Name]) -> bool {
+fn is_like_one_of(node: &Node, others: Take<Nodes>, keys: &[Name]) -> bool {
     for other in others {
-        if are_alike(node, other, keys) {
+        if are_alike(node, &other, keys) {
             return true;
         }
     }
     false
 }
 
-/// The first item that is like one before it in the texts at these keys, letters folded, or as a text where there is no key.
-pub fn second_alike(nodes: &[Node], keys: &[Name]) -> Option<usize> {
-    for (index, node) in nodes.iter().enumerate() {
-        if is_like_one_of(node, &nodes[..index], keys) {
+/// The first item of an array that is like one before it in the texts at these keys, letters folded, or as a text where there
+/// is no key.
+pub fn second_alike(list: &Node, keys: &[Name]) -> Option<usize> {
+    for (index, node) in list.items()?.enumerate() {
+        if is_like_one_of(&node, list.items()?.take(index), keys) {
             return Some(index);
         }
     }

@@ -1,10 +1,10 @@
 //! Which member of a configuration a fault means.
 
 use crate::alike::second_alike;
-use crate::objects::{Found, Listing, Place, items};
+use crate::objects::{Found, Listing, Place};
 use crate::wrong::{Wrong, wrong_party, wrong_value};
 use ocpi_json::name::Name;
-use ocpi_json::{Node, fields};
+use ocpi_json::{Node, Nodes, fields};
 use ocpi_types::Currency;
 use std::fmt;
 
@@ -40,8 +40,8 @@ fn finding_of(wrong: Option<Wrong>) -> Option<Finding> {
     Some(Finding { item: None, wrong })
 }
 
-fn twice(nodes: &[Node], keys: &[Name]) -> Option<Finding> {
-    let item = second_alike(nodes, keys)?;
+fn twice(list: &Node, keys: &[Name]) -> Option<Finding> {
+    let item = second_alike(list, keys)?;
     Some(Finding {
         item: Some(item),
         wrong: Wrong::Twice,
@@ -55,32 +55,48 @@ const UNFIT: Finding = Finding {
 
 // Where no two of its items are alike, it is the list itself.
 fn wrong_list(whole: &Node, list: Listing) -> Finding {
-    twice(items(whole, list.name()), list.keys()).unwrap_or(UNFIT)
+    match whole.get(list.name().key()) {
+        Some(nodes) => twice(&nodes, list.keys()).unwrap_or(UNFIT),
+        None => UNFIT,
+    }
 }
 
-fn wrong_currencies(nodes: &[Node]) -> Finding {
-    for (index, node) in nodes.iter().enumerate() {
-        if fields::parsed_in::<Currency>(node, Name::Currencies).is_err() {
-            return Finding {
+fn unfit_currency(list: &Node) -> Option<Finding> {
+    for (index, node) in list.items()?.enumerate() {
+        if fields::parsed_in::<Currency>(&node, Name::Currencies).is_err() {
+            return Some(Finding {
                 item: Some(index),
                 wrong: Wrong::Unfit,
-            };
+            });
         }
     }
-    twice(nodes, &[]).unwrap_or(UNFIT)
+    None
+}
+
+fn wrong_currencies(whole: &Node) -> Finding {
+    let Some(list) = whole.get(Name::Currencies.key()) else {
+        return UNFIT;
+    };
+    match unfit_currency(&list) {
+        Some(finding) => finding,
+        None => twice(&list, &[]).unwrap_or(UNFIT),
+    }
 }
 
 fn wrong_limits(node: &Node) -> Option<Finding> {
-    match node.get(Name::Limits.key()) {
-        None | Some(Node::Null) => None,
-        Some(Node::Array(nodes)) => twice(nodes.as_slice(), &[Name::Currency]),
-        Some(_) => Some(UNFIT),
+    let list = node.get(Name::Limits.key())?;
+    if list.is_null() {
+        return None;
+    }
+    match list.items() {
+        Some(_) => twice(&list, &[Name::Currency]),
+        None => Some(UNFIT),
     }
 }
 
-fn wrong_item_of_parties(whole: &Node, nodes: &[Node]) -> Option<Finding> {
-    for (index, node) in nodes.iter().enumerate() {
-        if let Some(wrong) = wrong_party(whole, node) {
+fn wrong_item_of_parties(whole: &Node, nodes: Nodes) -> Option<Finding> {
+    for (index, node) in nodes.enumerate() {
+        if let Some(wrong) = wrong_party(whole, &node) {
             return Some(Finding {
                 item: Some(index),
                 wrong,
@@ -91,23 +107,26 @@ fn wrong_item_of_parties(whole: &Node, nodes: &[Node]) -> Option<Finding> {
 }
 
 fn wrong_parties(whole: &Node, node: &Node) -> Option<Finding> {
-    match node.get(Name::Parties.key()) {
-        None | Some(Node::Null) => None,
-        Some(Node::Array(nodes)) => wrong_item_of_parties(whole, nodes.as_slice()),
-        Some(_) => Some(UNFIT),
+    let list = node.get(Name::Parties.key())?;
+    if list.is_null() {
+        return None;
+    }
+    match list.items() {
+        Some(nodes) => wrong_item_of_parties(whole, nodes),
+        None => Some(UNFIT),
     }
 }
 
-fn wrong_member(whole: &Node, found: &Found, name: Name) -> Option<Finding> {
-    match (found.place, name) {
-        (Place::Whole, Name::Currencies) => Some(wrong_currencies(items(whole, name))),
+fn wrong_member(whole: &Node, place: Place, node: &Node, name: Name) -> Option<Finding> {
+    match (place, name) {
+        (Place::Whole, Name::Currencies) => Some(wrong_currencies(whole)),
         (Place::Whole, Name::Operators) => Some(wrong_list(whole, Listing::Operators)),
         (Place::Whole, Name::Providers) => Some(wrong_list(whole, Listing::Providers)),
         (Place::Whole, Name::Platforms) => Some(wrong_list(whole, Listing::Platforms)),
         (Place::Whole, Name::PairLimits) => Some(wrong_list(whole, Listing::PairLimits)),
-        (Place::Item { .. }, Name::Limits) => wrong_limits(found.node),
-        (Place::Item { .. }, Name::Parties) => wrong_parties(whole, found.node),
-        _ => finding_of(wrong_value(whole, found.node, name)),
+        (Place::Item { .. }, Name::Limits) => wrong_limits(node),
+        (Place::Item { .. }, Name::Parties) => wrong_parties(whole, node),
+        _ => finding_of(wrong_value(whole, node, name)),
     }
 }
 
@@ -121,25 +140,25 @@ fn or_missing(finding: Finding, node: &Node, name: Name) -> Finding {
     }
 }
 
-fn failing_in(whole: &Node, found: &Found, name: Name) -> Option<Failing> {
-    if !found.place.members().contains(&name) {
+fn failing_in<'a>(whole: &Node<'a>, place: Place, node: &Node<'a>, name: Name) -> Option<Failing> {
+    if !place.members().contains(&name) {
         return None;
     }
-    let finding = wrong_member(whole, found, name)?;
+    let finding = wrong_member(whole, place, node, name)?;
     Some(Failing {
-        place: found.place,
+        place,
         name,
-        finding: or_missing(finding, found.node, name),
+        finding: or_missing(finding, node, name),
     })
 }
 
 /// The first member of that name, in the order of reading, that is not as it has to be. Of the names of the configuration's
 /// own members other objects have `limits` alone, and the providers' are read before it.
-pub fn failing_member(whole: &Node, objects: &[Found], name: Name) -> Option<Failing> {
+pub fn failing_member<'a>(whole: &Node<'a>, objects: &[Found<'a>], name: Name) -> Option<Failing> {
     for found in objects {
-        if let Some(failing) = failing_in(whole, found, name) {
+        if let Some(failing) = failing_in(whole, found.place, &found.node, name) {
             return Some(failing);
         }
     }
-    failing_in(whole, &Found::whole(whole), name)
+    failing_in(whole, Place::Whole, whole, name)
 }

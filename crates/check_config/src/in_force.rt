@@ -45,7 +45,7 @@ fn write_operator(lines: &mut String, operator: &Operator, zone: &str) -> Result
 fn write_operators(lines: &mut String, whole: &Node, config: &Config) -> Result<(), AllocError> {
     let nodes = items(whole, Name::Operators);
     for (operator, node) in config.operators.as_slice().iter().zip(nodes) {
-        write_operator(lines, operator, zone_text(node))?;
+        write_operator(lines, operator, zone_text(&node))?;
     }
     Ok(())
 }

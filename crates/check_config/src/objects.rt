@@ -1,12 +1,11 @@
 //! The objects of a configuration: where they stand, and which members they have.
 
 ghost use Rattle.std.specs.Prelude.{◌≡◌, ◌↔◌, IsTrue, Ok};
-ghost use Rattle.json.specs.Value.{value_view as view};
 ghost use Rattle.ocpi_json.specs.Fields.{required, as_whole};
 ghost use Rattle.ocpi_json.specs.declared.name.Name.TheVariants.{Version};
 
 use ocpi_json::name::Name;
-use ocpi_json::{Node, fields};
+use ocpi_json::{Node, Nodes, fields};
 use std::alloc::{AllocError, Global};
 use std::fmt;
 
@@ -112,25 +111,15 @@ impl fmt::Display for Place {
 }
 
 /// An object of a configuration, and where it stands.
-#[derive(Clone, Copy)]
-pub struct Found<'n, 'a> {
+#[derive(Drop)]
+pub struct Found<'a> {
     pub place: Place,
-    pub node: &'n Node<'a>,
-}
-
-impl<'n, 'a> Found<'n, 'a> {
-    /// The configuration itself.
-    pub fn whole(node: &'n Node<'a>) -> Found<'n, 'a> {
-        Found {
-            place: Place::Whole,
-            node,
-        }
-    }
+    pub node: Node<'a>,
 }
 
 /// The configuration is of version 1, which has no pair limits and no credit window.
 pub fn is_of_version_1(whole: &Node) -> bool
-    ensures { IsTrue result ↔ (required (as_whole 1 2) Version (view whole.now) ≡ Ok 1) }
+    ensures { IsTrue result ↔ (required (as_whole 1 2) Version whole.now ≡ Ok 1) }
 {
     match fields::whole(whole, Name::Version, 1, 2) {
         Ok(version) => version == 1,
@@ -138,58 +127,48 @@ pub fn is_of_version_1(whole: &Node) -> bool
     }
 }
 
-fn no_items<'n, 'a>(_node: &'n Node<'a>) -> &'n [Node<'a>] {
-    &[]
-}
-
 /// The items of a member, and none where it is no array.
-pub fn items<'n, 'a>(node: &'n Node<'a>, name: Name) -> &'n [Node<'a>] {
+pub fn items<'a>(node: &Node<'a>, name: Name) -> Nodes<'a> {
     match node.get(name.key()) {
-        Some(Node::Array(items)) => items.as_slice(),
-        _ => no_items(node),
+        Some(member) => member.items().unwrap_or(Nodes::none()),
+        None => Nodes::none(),
     }
 }
 
-fn add_items<'n, 'a>(
-    found: &mut Vec<Found<'n, 'a>>,
-    whole: &'n Node<'a>,
+fn add_items<'a>(
+    found: &mut Vec<Found<'a>>,
+    whole: &Node<'a>,
     list: Listing,
 ) -> Result<(), AllocError> {
-    for (index, node) in items(whole, list.name()).iter().enumerate() {
+    for (index, node) in items(whole, list.name()).enumerate() {
         let place = Place::Item { list, index };
         found.push(Found { place, node })?;
     }
     Ok(())
 }
 
-fn add_limits_of<'n, 'a>(
-    found: &mut Vec<Found<'n, 'a>>,
+fn add_limits_of<'a>(
+    found: &mut Vec<Found<'a>>,
     provider: usize,
-    node: &'n Node<'a>,
+    node: &Node<'a>,
 ) -> Result<(), AllocError> {
-    for (index, node) in items(node, Name::Limits).iter().enumerate() {
+    for (index, node) in items(node, Name::Limits).enumerate() {
         let place = Place::LimitOf { provider, index };
         found.push(Found { place, node })?;
     }
     Ok(())
 }
 
-fn add_limits_of_each<'n, 'a>(
-    found: &mut Vec<Found<'n, 'a>>,
-    whole: &'n Node<'a>,
-) -> Result<(), AllocError> {
-    for (provider, node) in items(whole, Name::Providers).iter().enumerate() {
-        add_limits_of(found, provider, node)?;
+fn add_limits_of_each<'a>(found: &mut Vec<Found<'a>>, whole: &Node<'a>) -> Result<(), AllocError> {
+    for (provider, node) in items(whole, Name::Providers).enumerate() {
+        add_limits_of(found, provider, &node)?;
     }
     Ok(())
 }
 
 /// The objects that are read within the configuration. Of two that have a member of the same name, the one that is read
 /// first stands before the other.
-pub fn objects_in<'n, 'a>(
-    alloc: Global,
-    whole: &'n Node<'a>,
-) -> Result<Vec<Found<'n, 'a>>, AllocError> {
+pub fn objects_in<'a>(alloc: Global, whole: &Node<'a>) -> Result<Vec<Found<'a>>, AllocError> {
     let mut found = Vec::new(alloc);
     add_items(&mut found, whole, Listing::Operators)?;
     add_items(&mut found, whole, Listing::Providers)?;

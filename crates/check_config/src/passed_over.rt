@@ -40,15 +40,15 @@ fn is_of_version_2(name: Name) -> bool
     matches!(name, Name::PairLimits | Name::CreditWindow)
 }
 
-fn is_repeated(key: &str, later: &[(&str, Node)]) -> bool
-    ensures { result ≡ list_any (λ member. pointwise ◌==◌ member.0.now key.now) later.now }
+fn is_repeated(key: &str, later: &[&str]) -> bool
+    ensures { result ≡ list_any (λ other. pointwise ◌==◌ other.now key.now) later.now }
 {
-    later.iter().any(|(other, _)| *other == key)
+    later.iter().any(|other| *other == key)
 }
 
 // Why the member of that key is passed over, where others come later in its object.
-fn cause_of(is_version_1: bool, place: Place, key: &str, later: &[(&str, Node)]) -> Option<Cause>
-    ensures { result ≡ cause (known_by key.now place) is_version_1 (list_any (λ member. pointwise ◌==◌ member.0.now key.now) later.now) }
+fn cause_of(is_version_1: bool, place: Place, key: &str, later: &[&str]) -> Option<Cause>
+    ensures { result ≡ cause (known_by key.now place) is_version_1 (list_any (λ other. pointwise ◌==◌ other.now key.now) later.now) }
 {
     let Some(name) = known(place, key) else {
         return Some(Cause::Unknown);
@@ -85,10 +85,10 @@ fn write_members(
     lines: &mut String,
     is_version_1: bool,
     place: Place,
-    members: &[(&str, Node)],
+    keys: &[&str],
 ) -> Result<(), AllocError> {
-    for (index, (key, _)) in members.iter().enumerate() {
-        let later = &members[index + 1..];
+    for (index, key) in keys.iter().enumerate() {
+        let later = &keys[index + 1..];
         if let Some(cause) = cause_of(is_version_1, place, key, later) {
             write_line(alloc, lines, place, key, cause)?;
         }
@@ -100,21 +100,23 @@ fn write_object(
     alloc: Global,
     lines: &mut String,
     is_version_1: bool,
-    found: &Found,
+    place: Place,
+    node: &Node,
 ) -> Result<(), AllocError> {
-    if let Node::Object(members) = found.node {
-        write_members(alloc, lines, is_version_1, found.place, members.as_slice())?;
-    }
-    Ok(())
+    let Some(members) = node.members() else {
+        return Ok(());
+    };
+    let keys: Vec<&str> = members.map(|(key, _)| key).collect(alloc)?;
+    write_members(alloc, lines, is_version_1, place, keys.as_slice())
 }
 
 /// A line for each member that is passed over, of the configuration and of the objects in it that are read.
 pub fn passed_over(alloc: Global, whole: &Node, objects: &[Found]) -> Result<String, AllocError> {
     let mut lines = String::new(alloc);
     let is_version_1 = is_of_version_1(whole);
-    write_object(alloc, &mut lines, is_version_1, &Found::whole(whole))?;
+    write_object(alloc, &mut lines, is_version_1, Place::Whole, whole)?;
     for found in objects {
-        write_object(alloc, &mut lines, is_version_1, found)?;
+        write_object(alloc, &mut lines, is_version_1, found.place, &found.node)?;
     }
     Ok(lines)
 }

@@ -61,14 +61,14 @@ fn of_fault(alloc: Global, whole: &Node, name: Name) -> Result<Report, AllocErro
 pub fn report_of(alloc: Global, bytes: &[u8]) -> Result<Report, Fault<'static>> {
     let read = Config::read(alloc, bytes);
     let mut room = Room::new(alloc);
-    let whole = match room.read(bytes) {
-        Ok(whole) => whole,
+    let line = match room.read(bytes) {
+        Ok(line) => line,
         Err(ReadFault::Syntax) => return Err(no_json(alloc, bytes)),
         Err(ReadFault::NoMemory) => return Err(Fault::NoMemory),
     };
     match read {
-        Ok(config) => Ok(of_read(alloc, &whole, &config)?),
-        Err(ConfigFault::Member { name }) => Ok(of_fault(alloc, &whole, name)?),
+        Ok(config) => Ok(of_read(alloc, &line.value(), &config)?),
+        Err(ConfigFault::Member { name }) => Ok(of_fault(alloc, &line.value(), name)?),
         Err(ConfigFault::Syntax) => Err(no_json(alloc, bytes)),
         Err(ConfigFault::NoMemory) => Err(Fault::NoMemory),
     }

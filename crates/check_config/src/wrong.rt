@@ -32,9 +32,7 @@ impl fmt::Display for Wrong {
 }
 
 fn has_currency(whole: &Node, sought: &Currency) -> bool {
-    items(whole, Name::Currencies)
-        .iter()
-        .any(|item| item.as_str() == Some(sought.as_str()))
+    items(whole, Name::Currencies).any(|item| item.as_str() == Some(sought.as_str()))
 }
 
 fn is_of_party(item: &Node, sought: &Party) -> bool {
@@ -46,7 +44,7 @@ fn is_of_party(item: &Node, sought: &Party) -> bool {
 
 fn has_party(whole: &Node, list: Listing, sought: &Party) -> bool {
     for item in items(whole, list.name()) {
-        if is_of_party(item, sought) {
+        if is_of_party(&item, sought) {
             return true;
         }
     }

@@ -106,7 +106,15 @@ fn millionths_per_unit(places: usize) -> u64
     requires { places ≤ 6 }
     ensures { result * 10 ^ places ≡ 10 ^ 6 }
 {
-    10_u64.pow((6 - places) as u32)
+    match places {
+        0 => 1_000_000,
+        1 => 100_000,
+        2 => 10_000,
+        3 => 1_000,
+        4 => 100,
+        5 => 10,
+        _ => 1,
+    }
 }
 
 // The size in millionths: six decimals are kept, and the seventh rounds.

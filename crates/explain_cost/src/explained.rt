@@ -1,7 +1,6 @@
 //! What a CDR costs, with its rows.
 
 ghost use Rattle.std.specs.Prelude.{◌≡◌, ◌≤◌, length, unsigned_abs, IfOk, IfErr, Ok, Err, false};
-ghost use Rattle.json.specs.Value.{value_view as view};
 ghost use Rattle.ocpi_types.specs.Cdr.{is_credit};
 ghost use Rattle.cdr_rating.specs.Price.{price};
 ghost use Rattle.explain_cost.specs.Changes.{changes_over};
@@ -119,8 +118,8 @@ fn explain_cdr(alloc: Global, cdr: &Cdr, zone: &Zone) -> Result<Vec<u8>, Fault>
 
 #[tactic(auto, unfolding(crate::specs::Explained::explained_node))]
 fn explain_node(alloc: Global, node: &Node, zone: &Zone) -> Result<Vec<u8>, Fault>
-    ensures text { IfOk result (λ text. explained_node zone.now (view node.now) ≡ Ok text.items) }
-    ensures fault { IfErr result (λ fault. is_fault_no_memory fault ≡ false → explained_node zone.now (view node.now) ≡ Err fault) }
+    ensures text { IfOk result (λ text. explained_node zone.now node.now ≡ Ok text.items) }
+    ensures fault { IfErr result (λ fault. is_fault_no_memory fault ≡ false → explained_node zone.now node.now ≡ Err fault) }
 {
     match Cdr::from_node_in(alloc, node) {
         Ok(cdr) => explain_cdr(alloc, &cdr, zone),
@@ -138,7 +137,7 @@ pub fn explain_text(alloc: Global, text: &[u8], zone: &Zone) -> Result<Vec<u8>, 
 {
     let mut room = Room::new(alloc);
     match room.read(text) {
-        Ok(node) => explain_node(alloc, &node, zone),
+        Ok(line) => explain_node(alloc, &line.value(), zone),
         Err(ReadFault::Syntax) => Err(refused(Refusal::Syntax)),
         Err(ReadFault::NoMemory) => Err(Fault::NoMemory),
     }

@@ -7,10 +7,10 @@ use Rattle.plain_house.specs.declared.answer.Answer.{Answer}
 use Rattle.plain_house.specs.declared.event.Event.{Event}
 use Rattle.plain_house.specs.House.{verdict}
 use Rattle.plain_house.specs.Known.{known}
-use Rattle.plain_house.specs.Laws.{RepliesTellEvents, tells_event}
+use Rattle.plain_house.specs.Laws.{RepliesTellEvents, adds_event, tells_event}
 use Rattle.plain_house.specs.Replies.{Reply, stamped, with_event}
 use Rattle.request_lines.specs.Script.{after, command_in, list_with, reply_in, reply_to}
-use Rattle.explain_lines.specs.Added.{adds_event, kept_behind}
+use Rattle.explain_lines.specs.Added.{kept_behind}
 
 -- the last of a list with one more is that one
 last_pushed : (xs : List Event) (x : Event) → slice_get (xs ++ x ∷ []) (length (xs ++ x ∷ []) - 1) ≡ Some x

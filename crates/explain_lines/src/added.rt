@@ -1,43 +1,12 @@
 //! The events that lines add.
 
 ghost use Rattle.std.specs.Prelude.{◌≡◌, ◌-◌, length, slice_get, OnOk};
-ghost use Rattle.plain_house.specs.Laws.{is_of_event};
 ghost use Rattle.plain_house.specs.Replies.{with_event};
-ghost use Rattle.explain_lines.specs.Added.{adds_event, kept_behind};
+ghost use Rattle.explain_lines.specs.Added.{kept_behind};
 
 use period_order::BookHouse;
-use plain_house::{Answer, Event, Refused, Replied};
+use plain_house::{Event, Refused, Replied, adds_event};
 use std::alloc::{AllocError, Global};
-
-fn is_of_event(answer: &Answer) -> bool
-    ensures { result ≡ is_of_event answer.now }
-{
-    match answer {
-        Answer::Stored
-        | Answer::Allowed { .. }
-        | Answer::Released { .. }
-        | Answer::Accepted { .. }
-        | Answer::Closed { .. }
-        | Answer::Settled { .. } => true,
-        Answer::Unchanged
-        | Answer::Blocked
-        | Answer::NoCredit
-        | Answer::Repeated { .. }
-        | Answer::Exposure { .. }
-        | Answer::Found { .. }
-        | Answer::Statement { .. } => false,
-    }
-}
-
-/// The reply tells of an event that is added.
-fn adds_event(reply: &Result<Replied, Refused>) -> bool
-    ensures { result ≡ adds_event reply.now }
-{
-    match reply {
-        Ok(replied) => is_of_event(&replied.answer),
-        Err(_) => false,
-    }
-}
 
 // Copies the last event of the house, where there is one, behind these.
 fn keep_last(alloc: Global, house: &BookHouse, events: &mut Vec<Event>) -> Result<(), AllocError>

@@ -121,7 +121,7 @@ fn of_value(
     at: Option<Name>,
 ) -> Result<Told, AllocError> {
     match (room.read(line), at) {
-        (Ok(node), Some(at)) => failing::told(alloc, &node, at),
+        (Ok(read), Some(at)) => failing::told(alloc, read.value(), at),
         (Err(ReadFault::NoMemory), _) => Err(AllocError),
         _ => no_json::told(alloc, line),
     }

@@ -1,6 +1,6 @@
 //! Net positions, as obligations are added.
 
-ghost use Rattle.std.specs.Prelude.{◌≡◌, [], ◌++◌, map, not, filter, find, ◌&&◌, IfOk, OnOk, option_copied};
+ghost use Rattle.std.specs.Prelude.{◌≡◌, ◌≤◌, [], ◌++◌, length, map, not, filter, find, ◌&&◌, IfOk, OnOk, option_copied};
 ghost use Rattle.std.specs.List.{All};
 ghost use Rattle.ocpi_types.specs.Config.{is_operator};
 ghost use Rattle.ocpi_types.specs.Currency.{same_currency};
@@ -83,9 +83,12 @@ fn add_providers(parties: &mut Vec<Party>, config: &Config) -> Result<(), AllocE
 
 /// The operators, and then the providers that are no operators.
 pub(crate) fn parties_of(alloc: Global, config: &Config) -> Result<Vec<Party>, AllocError>
-    ensures { IfOk result (λ found. found.items ≡ parties config.now) }
+    ensures parties { IfOk result (λ found. found.items ≡ parties config.now) }
+    ensures few { IfOk result (λ found. length found.items ≤ 128) }
 {
-    let mut parties = Vec::new(alloc);
+    let operators = config.operators.as_slice();
+    let providers = config.providers.as_slice();
+    let mut parties = Vec::with_capacity(alloc, operators.len() + providers.len())?;
     add_operators(&mut parties, config)?;
     add_providers(&mut parties, config)?;
     Ok(parties)

@@ -1,11 +1,12 @@
 pub mod DigitSpelling
 pub mod Eaches
 pub mod FractionSpelling
+pub mod Levels
 pub mod MomentParts
 pub mod MomentSpelling
 pub mod MomentsAlike
 pub mod NameLemmas
-pub mod NodeLists
 pub mod Printable
 pub mod Readings
+pub mod Tapes
 pub mod Wholes

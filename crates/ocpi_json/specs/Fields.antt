@@ -4,7 +4,7 @@ use Rattle.std.specs.Prelude.{ℕ, ℤ, pos, int_le, List, [], ◌∷◌, ◌&&�
 use Rattle.std.specs.Char.{is_ascii_digit}
 use Rattle.std.specs.List.{list_all}
 use Rattle.std.specs.Str.Parse.{digits_value}
-use Rattle.json.specs.Json.{Json as Data, Items, no_items, item}
+use Rattle.json.specs.Json.{Json as Data, Items, no_items, item, Members, no_members, member}
 use Rattle.json.specs.Find.{get, is_null, as_str, as_number as number_text, as_array, as_object}
 use Rattle.exact_money.specs.Millionths.{millionths_of}
 use Rattle.ocpi_json.specs.Folded.{is_printable}
@@ -89,6 +89,14 @@ if_between least most ds = if nat_le least (length ds) && nat_le (length ds) mos
 -- the items of an array
 abbrev pub as_items : Data → Option (List Data)
 as_items d = option_map items_list (as_array d)
+
+abbrev pub members_list : Members → List (List ℕ × Data)
+members_list no_members = []
+members_list (member k d ms) = (k, d) ∷ members_list ms
+
+-- the members of an object, with their names
+abbrev pub as_members : Data → Option (List (List ℕ × Data))
+as_members d = option_map members_list (as_object d)
 
 -- an array of least to most items
 abbrev pub as_list : ℕ → ℕ → Data → Option (List Data)

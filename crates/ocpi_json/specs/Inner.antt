@@ -1,4 +1,6 @@
 -- Words that only private contracts and proofs use.
+pub mod Begun
 pub mod Cells
+pub mod Levels
 pub mod MomentReading
 pub mod Ranges

@@ -1,8 +1,9 @@
 // A text whose ASCII letters count the same in either case.
-ghost use Rattle.std.specs.Prelude.{◌≡◌, ◌≤◌, ◌↔◌, length, IsSome, IfSome, nat_le, ◌&&◌, true};
+ghost use Rattle.std.specs.Prelude.{◌≡◌, ◌≤◌, length};
 ghost use Rattle.std.specs.Cmp.Lexicographic.{slice_cmp};
 ghost use Rattle.std.specs.Ordering.{nat_cmp};
 ghost use Rattle.ocpi_json.specs.Folded.{folded, is_printable};
+ghost use Rattle.ocpi_json.specs.Inner.Cells.{written_len};
 
 use std::alloc::AllocError;
 use std::cmp::Ordering;
@@ -11,28 +12,24 @@ use std::marker::Model;
 use std::str;
 
 /// A CiString of OCPI 2.2.1, chapter 'Types': at most `MOST` bytes of printable ASCII, bytes 32 to 126. It is kept as
-/// written, and compared with its letters folded.
+/// written, with zeros behind it, and compared with its letters folded.
 pub struct CiText<const MOST: usize> {
-    len: usize,
     cells: [u8; MOST],
 }
 
 impl<const MOST: usize> Model for CiText<MOST> {
-    ghost use Rattle.std.specs.Prelude.{ℕ, List, take, ◌++◌, ◌-◌, length};
-    ghost use Rattle.ocpi_json.specs.Inner.Cells.{Holds, zeros, length_held, refilled};
+    ghost use Rattle.std.specs.Prelude.{ℕ, List};
+    ghost use Rattle.ocpi_json.specs.Inner.Cells.{Holds, padded, refilled, written};
 
     ghost Value = { List ℕ };
 
-    ghost view = { λ t. take t.len t.cells };
+    ghost view = { λ t. written t.cells };
 
-    ghost invariant = { λ t. Holds MOST t.len t.cells };
+    ghost invariant = { λ t. Holds MOST t.cells };
 
-    ghost inverse = { λ s. record { len = length s; cells = s ++ zeros (MOST - length s) } };
+    ghost inverse = { λ s. record { cells = padded MOST s } };
 
-    ghost inverse_ok = { λ t h i. record {
-      len = length_held MOST t.len t.cells h i;
-      cells = refilled MOST t.len t.cells h i;
-    } };
+    ghost inverse_ok = { λ t h i. record { cells = refilled MOST t.cells h i } };
 }
 
 impl<const MOST: usize> Clone for CiText<MOST> {
@@ -62,7 +59,24 @@ fn are_printable(text: &[u8]) -> bool
     text.iter().all(|byte| 32 <= *byte && *byte <= 126)
 }
 
+// How many bytes stand before the first zero.
+fn written_len(cells: &[u8]) -> usize
+    ensures value { result ≡ written_len cells.now }
+    ensures within { result ≤ length cells.now }
+{
+    for (index, byte) in cells.iter().enumerate() {
+        if *byte == 0 {
+            return index;
+        }
+    }
+    cells.len()
+}
+
 impl<const MOST: usize> CiText<MOST> {
+    ghost use Rattle.std.specs.Prelude.{◌≡◌, ◌≤◌, ◌↔◌, length, IsSome, IfSome, nat_le, ◌&&◌, true};
+    ghost use Rattle.ocpi_json.specs.Folded.{folded, is_printable, same_folded};
+    ghost use Rattle.ocpi_json.specs.Inner.Cells.{padded};
+
     /// The text as a `CiText`; `None` where it is not printable ASCII, or too long.
     pub fn new(text: &str) -> Option<CiText<MOST>>
         ensures fits { IsSome result ↔ ((is_printable text.now && nat_le (length text.now) MOST) ≡ true) }
@@ -73,10 +87,7 @@ impl<const MOST: usize> CiText<MOST> {
         }
         let mut cells = [0; MOST];
         cells[..text.len()].copy_from_slice(text.as_bytes());
-        Some(CiText {
-            len: text.len(),
-            cells,
-        })
+        Some(CiText { cells })
     }
 
     /// The text as written.
@@ -85,7 +96,26 @@ impl<const MOST: usize> CiText<MOST> {
         ensures printable { is_printable self.now ≡ true }
         ensures fits { length self.now ≤ MOST }
     {
-        unsafe { str::from_utf8_unchecked(&self.cells[..self.len]) }
+        let len = written_len(&self.cells);
+        unsafe { str::from_utf8_unchecked(&self.cells[..len]) }
+    }
+
+    // Ends at the first byte that differs.
+    fn is_folded_like(&self, other: &CiText<MOST>) -> bool
+        ensures { result ≡ same_folded self.now other.now }
+    {
+        self.cells.eq_ignore_ascii_case(&other.cells)
+    }
+
+    // With letters folded, and zeros behind it: so many bytes are hashed at once.
+    #[inline(always)]
+    #[tactic(auto, using(crate::proofs::Printable::cells_folded))]
+    fn folded_cells(&self) -> [u8; MOST]
+        ensures { result ≡ padded MOST (folded self.now) }
+    {
+        let mut cells = self.cells;
+        cells.make_ascii_lowercase();
+        cells
     }
 }
 
@@ -102,7 +132,7 @@ impl<const MOST: usize> PartialEq for CiText<MOST> {
     ghost laws = { Prim.search (comparing, rules) };
 
     fn eq(&self, other: &CiText<MOST>) -> bool {
-        self.as_str().eq_ignore_ascii_case(other.as_str())
+        self.cells == other.cells || self.is_folded_like(other)
     }
 }
 
@@ -155,15 +185,14 @@ impl<const MOST: usize> Hash for CiText<MOST> {
     ghost use Rattle.std.proofs.Common.{rules};
     ghost use Rattle.std.specs.Cmp.Rules.{hashing};
     ghost use Rattle.ocpi_json.specs.Folded.{folded};
+    ghost use Rattle.ocpi_json.specs.Inner.Cells.{padded};
 
-    ghost hash_input = { λ t. folded t ∷ [] };
+    ghost hash_input = { λ t. padded MOST (folded t) ∷ [] };
 
     ghost respects_eq = { Prim.search (hashing, rules) };
 
-    #[tactic(auto, using(crate::proofs::Printable::folded_front))]
+    #[inline(always)]
     fn hash<H: Hasher>(&self, state: &mut H) {
-        let mut folded = self.cells;
-        folded.make_ascii_lowercase();
-        state.write(&folded[..self.len]);
+        state.write(&self.folded_cells());
     }
 }

@@ -4,15 +4,14 @@ ghost use Rattle.std.specs.Prelude.{◌≡◌, [], map, option_map};
 ghost use Rattle.std.specs.Char.{is_ascii_digit};
 ghost use Rattle.std.specs.List.{list_all};
 ghost use Rattle.json.specs.Find.{as_bool};
-ghost use Rattle.json.specs.Value.{value_view as view};
 ghost use Rattle.ocpi_json.specs.Faults.{Finds};
 ghost use Rattle.ocpi_json.specs.Fields.{member_at, present_at, required, optional, as_text, as_token, as_ci_text, if_ci, as_items, as_list, as_number, as_object_node, as_parsed, as_whole, whole_value, if_within, as_unsigned, if_not_negative, list_or_empty};
 ghost use Rattle.ocpi_json.specs.MomentText.{instant_of, date_of, clock_of};
 ghost use Rattle.ocpi_json.specs.Members.{or_name, shown};
 
-use crate::Node;
 use crate::ci_text::CiText;
 use crate::name::Name;
+use crate::node::{Node, Nodes};
 use crate::objects::FromText;
 use crate::text::Text;
 use exact_money::Millionths;
@@ -61,14 +60,14 @@ impl From<Name> for FieldFault {
     }
 }
 
-fn member<'n, 'a>(node: &'n Node<'a>, name: Name) -> Result<&'n Node<'a>, Name>
-    ensures { shown (λ v. view v.now) result ≡ or_name name (member_at name (view node.now)) }
+fn member<'a>(node: &Node<'a>, name: Name) -> Result<Node<'a>, Name>
+    ensures { result ≡ or_name name (member_at name node.now) }
 {
     node.get(name.key()).ok_or(name)
 }
 
-fn present<'n, 'a>(node: &'n Node<'a>, name: Name) -> Option<&'n Node<'a>>
-    ensures { option_map (λ v. view v.now) result ≡ present_at name (view node.now) }
+fn present<'a>(node: &Node<'a>, name: Name) -> Option<Node<'a>>
+    ensures { result ≡ present_at name node.now }
 {
     match node.get(name.key()) {
         Some(member) if !member.is_null() => Some(member),
@@ -77,13 +76,13 @@ fn present<'n, 'a>(node: &'n Node<'a>, name: Name) -> Option<&'n Node<'a>>
 }
 
 fn as_text<'a>(node: &Node<'a>) -> Option<&'a str>
-    ensures { option_map (λ t. t.now) result ≡ as_text (view node.now) }
+    ensures { option_map (λ t. t.now) result ≡ as_text node.now }
 {
     node.as_str()
 }
 
 fn as_token<'a>(node: &Node<'a>) -> Option<&'a str>
-    ensures { option_map (λ t. t.now) result ≡ as_token (view node.now) }
+    ensures { option_map (λ t. t.now) result ≡ as_token node.now }
 {
     node.as_number()
 }
@@ -98,22 +97,22 @@ fn if_ci<const MOST: usize>(text: &str) -> Option<CiText<MOST>>
 }
 
 fn as_ci_text<const MOST: usize>(member: &Node) -> Option<CiText<MOST>>
-    ensures { result ≡ as_ci_text MOST (view member.now) }
+    ensures { result ≡ as_ci_text MOST member.now }
 {
     if_ci(as_text(member)?)
 }
 
 fn ci_text_in<const MOST: usize>(member: &Node, name: Name) -> Result<CiText<MOST>, Name>
-    ensures { result ≡ or_name name (as_ci_text MOST (view member.now)) }
+    ensures { result ≡ or_name name (as_ci_text MOST member.now) }
 {
     as_ci_text(member).ok_or(name)
 }
 
 /// A text of 1 to `MOST` printable ASCII characters.
 pub fn ci_text<const MOST: usize>(node: &Node, name: Name) -> Result<CiText<MOST>, Name>
-    ensures { result ≡ required (as_ci_text MOST) name (view node.now) }
+    ensures { result ≡ required (as_ci_text MOST) name node.now }
 {
-    ci_text_in(member(node, name)?, name)
+    ci_text_in(&member(node, name)?, name)
 }
 
 /// The same, where the member may be missing or null.
@@ -121,16 +120,16 @@ pub fn ci_text_or_none<const MOST: usize>(
     node: &Node,
     name: Name,
 ) -> Result<Option<CiText<MOST>>, Name>
-    ensures { result ≡ optional (as_ci_text MOST) name (view node.now) }
+    ensures { result ≡ optional (as_ci_text MOST) name node.now }
 {
     match present(node, name) {
-        Some(member) => Ok(Some(ci_text_in(member, name)?)),
+        Some(member) => Ok(Some(ci_text_in(&member, name)?)),
         None => Ok(None),
     }
 }
 
 fn text_in(alloc: Global, member: &Node, name: Name) -> Result<Text, FieldFault>
-    ensures { Finds result (or_name name (as_text (view member.now))) }
+    ensures { Finds result (or_name name (as_text member.now)) }
 {
     let Some(text) = as_text(member) else {
         return Err(FieldFault::Field(name));
@@ -140,71 +139,71 @@ fn text_in(alloc: Global, member: &Node, name: Name) -> Result<Text, FieldFault>
 
 /// A text.
 pub fn text(alloc: Global, node: &Node, name: Name) -> Result<Text, FieldFault>
-    ensures { Finds result (required as_text name (view node.now)) }
+    ensures { Finds result (required as_text name node.now) }
 {
-    text_in(alloc, member(node, name)?, name)
+    text_in(alloc, &member(node, name)?, name)
 }
 
 /// The same, where the member may be missing or null.
 pub fn text_or_none(alloc: Global, node: &Node, name: Name) -> Result<Option<Text>, FieldFault>
-    ensures { Finds result (optional as_text name (view node.now)) }
+    ensures { Finds result (optional as_text name node.now) }
 {
     match present(node, name) {
-        Some(member) => Ok(Some(text_in(alloc, member, name)?)),
+        Some(member) => Ok(Some(text_in(alloc, &member, name)?)),
         None => Ok(None),
     }
 }
 
 fn flag_in(member: &Node, name: Name) -> Result<bool, Name>
-    ensures { result ≡ or_name name (as_bool (view member.now)) }
+    ensures { result ≡ or_name name (as_bool member.now) }
 {
     member.as_bool().ok_or(name)
 }
 
 /// `true` or `false`.
 pub fn flag(node: &Node, name: Name) -> Result<bool, Name>
-    ensures { result ≡ required as_bool name (view node.now) }
+    ensures { result ≡ required as_bool name node.now }
 {
-    flag_in(member(node, name)?, name)
+    flag_in(&member(node, name)?, name)
 }
 
 /// The same, where the member may be missing or null.
 pub fn flag_or_none(node: &Node, name: Name) -> Result<Option<bool>, Name>
-    ensures { result ≡ optional as_bool name (view node.now) }
+    ensures { result ≡ optional as_bool name node.now }
 {
     match present(node, name) {
-        Some(member) => Ok(Some(flag_in(member, name)?)),
+        Some(member) => Ok(Some(flag_in(&member, name)?)),
         None => Ok(None),
     }
 }
 
 /// A text, lent by the line or its room; the node is the text itself.
 pub fn word_in<'a>(member: &Node<'a>, name: Name) -> Result<&'a str, Name>
-    ensures { shown (λ t. t.now) result ≡ or_name name (as_text (view member.now)) }
+    ensures { shown (λ t. t.now) result ≡ or_name name (as_text member.now) }
 {
     as_text(member).ok_or(name)
 }
 
 /// A text, lent by the line or its room.
 pub fn word<'a>(node: &Node<'a>, name: Name) -> Result<&'a str, Name>
-    ensures { shown (λ t. t.now) result ≡ required as_text name (view node.now) }
+    ensures { shown (λ t. t.now) result ≡ required as_text name node.now }
 {
-    word_in(member(node, name)?, name)
+    word_in(&member(node, name)?, name)
 }
 
 /// The same, where the member may be missing or null.
 pub fn word_or_none<'a>(node: &Node<'a>, name: Name) -> Result<Option<&'a str>, Name>
-    ensures { shown (option_map (λ t. t.now)) result ≡ optional as_text name (view node.now) }
+    ensures { shown (option_map (λ t. t.now)) result ≡ optional as_text name node.now }
 {
     match present(node, name) {
-        Some(member) => Ok(Some(word_in(member, name)?)),
+        Some(member) => Ok(Some(word_in(&member, name)?)),
         None => Ok(None),
     }
 }
 
 /// A text that stands for a value, as an enumeration of OCPI; the node is the text itself.
 pub fn parsed_in<T: FromText + Drop>(member: &Node, name: Name) -> Result<T, Name>
-    ensures { result ≡ or_name name (as_parsed T.of_text (view member.now)) }
+    ensures { result ≡ or_name name (as_parsed T.of_text member.now) }
 {
     let Some(text) = as_text(member) else {
         return Err(name);
@@ -214,46 +213,46 @@ pub fn parsed_in<T: FromText + Drop>(member: &Node, name: Name) -> Result<T, Nam
 
 /// A text that stands for a value, as an enumeration of OCPI.
 pub fn parsed<T: FromText + Drop>(node: &Node, name: Name) -> Result<T, Name>
-    ensures { result ≡ required (as_parsed T.of_text) name (view node.now) }
+    ensures { result ≡ required (as_parsed T.of_text) name node.now }
 {
-    parsed_in(member(node, name)?, name)
+    parsed_in(&member(node, name)?, name)
 }
 
 /// The same, where the member may be missing or null.
 pub fn parsed_or_none<T: FromText + Drop>(node: &Node, name: Name) -> Result<Option<T>, Name>
-    ensures { result ≡ optional (as_parsed T.of_text) name (view node.now) }
+    ensures { result ≡ optional (as_parsed T.of_text) name node.now }
 {
     match present(node, name) {
-        Some(member) => Ok(Some(parsed_in(member, name)?)),
+        Some(member) => Ok(Some(parsed_in(&member, name)?)),
         None => Ok(None),
     }
 }
 
 fn as_number(node: &Node) -> Option<Millionths>
-    ensures { result ≡ as_number (view node.now) }
+    ensures { result ≡ as_number node.now }
 {
     Millionths::read(as_token(node)?.as_bytes())
 }
 
 fn number_in(member: &Node, name: Name) -> Result<Millionths, Name>
-    ensures { result ≡ or_name name (as_number (view member.now)) }
+    ensures { result ≡ or_name name (as_number member.now) }
 {
     as_number(member).ok_or(name)
 }
 
 /// A number.
 pub fn number(node: &Node, name: Name) -> Result<Millionths, Name>
-    ensures { result ≡ required as_number name (view node.now) }
+    ensures { result ≡ required as_number name node.now }
 {
-    number_in(member(node, name)?, name)
+    number_in(&member(node, name)?, name)
 }
 
 /// The same, where the member may be missing or null.
 pub fn number_or_none(node: &Node, name: Name) -> Result<Option<Millionths>, Name>
-    ensures { result ≡ optional as_number name (view node.now) }
+    ensures { result ≡ optional as_number name node.now }
 {
     match present(node, name) {
-        Some(member) => Ok(Some(number_in(member, name)?)),
+        Some(member) => Ok(Some(number_in(&member, name)?)),
         None => Ok(None),
     }
 }
@@ -269,30 +268,30 @@ fn if_not_negative(number: Millionths) -> Option<Millionths>
 }
 
 fn as_unsigned(node: &Node) -> Option<Millionths>
-    ensures { result ≡ as_unsigned (view node.now) }
+    ensures { result ≡ as_unsigned node.now }
 {
     if_not_negative(as_number(node)?)
 }
 
 fn unsigned_in(member: &Node, name: Name) -> Result<Millionths, Name>
-    ensures { result ≡ or_name name (as_unsigned (view member.now)) }
+    ensures { result ≡ or_name name (as_unsigned member.now) }
 {
     as_unsigned(member).ok_or(name)
 }
 
 /// A number of at least 0.
 pub fn unsigned(node: &Node, name: Name) -> Result<Millionths, Name>
-    ensures { result ≡ required as_unsigned name (view node.now) }
+    ensures { result ≡ required as_unsigned name node.now }
 {
-    unsigned_in(member(node, name)?, name)
+    unsigned_in(&member(node, name)?, name)
 }
 
 /// The same, where the member may be missing or null.
 pub fn unsigned_or_none(node: &Node, name: Name) -> Result<Option<Millionths>, Name>
-    ensures { result ≡ optional as_unsigned name (view node.now) }
+    ensures { result ≡ optional as_unsigned name node.now }
 {
     match present(node, name) {
-        Some(member) => Ok(Some(unsigned_in(member, name)?)),
+        Some(member) => Ok(Some(unsigned_in(&member, name)?)),
         None => Ok(None),
     }
 }
@@ -323,94 +322,84 @@ fn if_within(value: u64, least: u64, most: u64) -> Option<u64>
 }
 
 fn as_whole(node: &Node, least: u64, most: u64) -> Option<u64>
-    ensures { result ≡ as_whole least most (view node.now) }
+    ensures { result ≡ as_whole least most node.now }
 {
     if_within(whole_value(as_token(node)?)?, least, most)
 }
 
 fn whole_in(member: &Node, name: Name, least: u64, most: u64) -> Result<u64, Name>
-    ensures { result ≡ or_name name (as_whole least most (view member.now)) }
+    ensures { result ≡ or_name name (as_whole least most member.now) }
 {
     as_whole(member, least, most).ok_or(name)
 }
 
 /// A number of 1 to 18 digits, with no sign, point or exponent, from `least` to `most`.
 pub fn whole(node: &Node, name: Name, least: u64, most: u64) -> Result<u64, Name>
-    ensures { result ≡ required (as_whole least most) name (view node.now) }
+    ensures { result ≡ required (as_whole least most) name node.now }
 {
-    whole_in(member(node, name)?, name, least, most)
+    whole_in(&member(node, name)?, name, least, most)
 }
 
 /// The same, where the member may be missing or null.
 pub fn whole_or_none(node: &Node, name: Name, least: u64, most: u64) -> Result<Option<u64>, Name>
-    ensures { result ≡ optional (as_whole least most) name (view node.now) }
+    ensures { result ≡ optional (as_whole least most) name node.now }
 {
     match present(node, name) {
-        Some(member) => Ok(Some(whole_in(member, name, least, most)?)),
+        Some(member) => Ok(Some(whole_in(&member, name, least, most)?)),
         None => Ok(None),
     }
 }
 
 /// A moment in UTC, with or without `Z` or `+00:00`.
 pub fn instant(node: &Node, name: Name) -> Result<Timestamp, Name>
-    ensures { result ≡ required (as_parsed instant_of) name (view node.now) }
+    ensures { result ≡ required (as_parsed instant_of) name node.now }
 {
     parsed(node, name)
 }
 
 /// The same, where the member may be missing or null.
 pub fn instant_or_none(node: &Node, name: Name) -> Result<Option<Timestamp>, Name>
-    ensures { result ≡ optional (as_parsed instant_of) name (view node.now) }
+    ensures { result ≡ optional (as_parsed instant_of) name node.now }
 {
     parsed_or_none(node, name)
 }
 
 /// A date, `YYYY-MM-DD`.
 pub fn date(node: &Node, name: Name) -> Result<Date, Name>
-    ensures { result ≡ required (as_parsed date_of) name (view node.now) }
+    ensures { result ≡ required (as_parsed date_of) name node.now }
 {
     parsed(node, name)
 }
 
 /// The same, where the member may be missing or null.
 pub fn date_or_none(node: &Node, name: Name) -> Result<Option<Date>, Name>
-    ensures { result ≡ optional (as_parsed date_of) name (view node.now) }
+    ensures { result ≡ optional (as_parsed date_of) name node.now }
 {
     parsed_or_none(node, name)
 }
 
 /// A time of day, `HH:MM`.
 pub fn clock(node: &Node, name: Name) -> Result<Time, Name>
-    ensures { result ≡ required (as_parsed clock_of) name (view node.now) }
+    ensures { result ≡ required (as_parsed clock_of) name node.now }
 {
     parsed(node, name)
 }
 
 /// The same, where the member may be missing or null.
 pub fn clock_or_none(node: &Node, name: Name) -> Result<Option<Time>, Name>
-    ensures { result ≡ optional (as_parsed clock_of) name (view node.now) }
+    ensures { result ≡ optional (as_parsed clock_of) name node.now }
 {
     parsed_or_none(node, name)
 }
 
-fn as_items<'n, 'a>(member: &'n Node<'a>) -> Option<&'n [Node<'a>]>
-    ensures { option_map (λ v. map view v.now) result ≡ as_items (view member.now) }
+fn as_items<'a>(member: &Node<'a>) -> Option<Nodes<'a>>
+    ensures { result ≡ as_items member.now }
 {
-    if let Node::Array(items) = member {
-        Some(items.as_slice())
-    } else {
-        None
-    }
+    member.items()
 }
 
-#[tactic(auto, using(crate::proofs::NodeLists::list_facts))]
-fn list_in<'n, 'a>(
-    member: &'n Node<'a>,
-    name: Name,
-    least: usize,
-    most: usize,
-) -> Result<&'n [Node<'a>], Name>
-    ensures { shown (λ v. map view v.now) result ≡ or_name name (as_list least most (view member.now)) }
+fn list_in<'a>(member: &Node<'a>, name: Name, least: usize, most: usize) -> Result<Nodes<'a>, Name>
+    ensures { result ≡ or_name name (as_list least most member.now) }
 {
     match as_items(member) {
         Some(items) if least <= items.len() && items.len() <= most => Ok(items),
@@ -419,56 +408,41 @@ fn list_in<'n, 'a>(
 }
 
 /// An array of `least` to `most` items.
-pub fn list<'n, 'a>(
-    node: &'n Node<'a>,
-    name: Name,
-    least: usize,
-    most: usize,
-) -> Result<&'n [Node<'a>], Name>
-    ensures { shown (λ v. map view v.now) result ≡ required (as_list least most) name (view node.now) }
+pub fn list<'a>(node: &Node<'a>, name: Name, least: usize, most: usize) -> Result<Nodes<'a>, Name>
+    ensures { result ≡ required (as_list least most) name node.now }
 {
-    list_in(member(node, name)?, name, least, most)
+    list_in(&member(node, name)?, name, least, most)
 }
 
 /// The same, where the member may be missing or null.
-pub fn list_or_none<'n, 'a>(
-    node: &'n Node<'a>,
+pub fn list_or_none<'a>(
+    node: &Node<'a>,
     name: Name,
     least: usize,
     most: usize,
-) -> Result<Option<&'n [Node<'a>]>, Name>
-    ensures { shown (option_map (λ v. map view v.now)) result ≡ optional (as_list least most) name (view node.now) }
+) -> Result<Option<Nodes<'a>>, Name>
+    ensures { result ≡ optional (as_list least most) name node.now }
 {
     match present(node, name) {
-        Some(member) => Ok(Some(list_in(member, name, least, most)?)),
+        Some(member) => Ok(Some(list_in(&member, name, least, most)?)),
         None => Ok(None),
     }
 }
 
-fn no_items<'n, 'a>(_node: &'n Node<'a>) -> &'n [Node<'a>]
-    ensures { result.now ≡ [] }
-{
-    &[]
-}
-
 /// The items of an array of up to `most`, and none where the member is missing or null.
-pub fn list_or_empty<'n, 'a>(
-    node: &'n Node<'a>,
-    name: Name,
-    most: usize,
-) -> Result<&'n [Node<'a>], Name>
-    ensures { shown (λ v. map view v.now) result ≡ list_or_empty most name (view node.now) }
+pub fn list_or_empty<'a>(node: &Node<'a>, name: Name, most: usize) -> Result<Nodes<'a>, Name>
+    ensures { result ≡ list_or_empty most name node.now }
 {
     match present(node, name) {
-        Some(member) => list_in(member, name, 0, most),
-        None => Ok(no_items(node)),
+        Some(member) => list_in(&member, name, 0, most),
+        None => Ok(Nodes::none()),
     }
 }
 
-fn object_in<'n, 'a>(member: &'n Node<'a>, name: Name) -> Result<&'n Node<'a>, Name>
-    ensures { shown (λ v. view v.now) result ≡ or_name name (as_object_node (view member.now)) }
+fn object_in<'a>(member: Node<'a>, name: Name) -> Result<Node<'a>, Name>
+    ensures { result ≡ or_name name (as_object_node member.entry) }
 {
-    if let Node::Object(_) = member {
+    if member.is_object() {
         Ok(member)
     } else {
         Err(name)
@@ -476,15 +450,15 @@ fn object_in<'n, 'a>(member: &'n Node<'a>, name: Name) -> Result<&'n Node<'a>, N
 }
 
 /// An object.
-pub fn object<'n, 'a>(node: &'n Node<'a>, name: Name) -> Result<&'n Node<'a>, Name>
-    ensures { shown (λ v. view v.now) result ≡ required as_object_node name (view node.now) }
+pub fn object<'a>(node: &Node<'a>, name: Name) -> Result<Node<'a>, Name>
+    ensures { result ≡ required as_object_node name node.now }
 {
     object_in(member(node, name)?, name)
 }
 
 /// The same, where the member may be missing or null.
-pub fn object_or_none<'n, 'a>(node: &'n Node<'a>, name: Name) -> Result<Option<&'n Node<'a>>, Name>
-    ensures { shown (option_map (λ v. view v.now)) result ≡ optional as_object_node name (view node.now) }
+pub fn object_or_none<'a>(node: &Node<'a>, name: Name) -> Result<Option<Node<'a>>, Name>
+    ensures { result ≡ optional as_object_node name node.now }
 {
     match present(node, name) {
         Some(member) => Ok(Some(object_in(member, name)?)),

@@ -1,14 +1,13 @@
 //! Types whose values stand in texts and nodes.
 
-ghost use Rattle.std.specs.Prelude.{◌≡◌, map, option_map};
-ghost use Rattle.json.specs.Value.{value_view as view};
+ghost use Rattle.std.specs.Prelude.{◌≡◌};
 ghost use Rattle.ocpi_json.specs.Faults.{Finds};
 ghost use Rattle.ocpi_json.specs.Members.{each, if_any, or_name};
 ghost use Rattle.ocpi_json.specs.Fields.{as_parsed};
 
-use crate::Node;
 use crate::fields::{self, FieldFault};
 use crate::name::Name;
+use crate::node::{Node, Nodes};
 use crate::sequence::Sequence;
 use std::alloc::Global;
 
@@ -27,21 +26,19 @@ pub trait FromText {
 pub trait FromNode: Sized {
     ghost use Rattle.std.specs.Prelude.{◌≡◌, Result};
     ghost use Rattle.json.specs.Json.{Json as Data};
-    ghost use Rattle.json.specs.Value.{value_view as view};
     ghost use Rattle.ocpi_json.specs.declared.name.Name.{Name};
 
     // the value that stands in the data, or the name of the member at fault
     ghost at: { Data → Result Self Name };
 
     fn from_node(node: &Node) -> Result<Self, Name>
-        ensures { result ≡ at (view node.now) };
+        ensures { result ≡ at node.now };
 }
 
 /// A type whose values stand in nodes, and take memory.
 pub trait FromNodeIn: Sized {
     ghost use Rattle.std.specs.Prelude.{Result};
     ghost use Rattle.json.specs.Json.{Json as Data};
-    ghost use Rattle.json.specs.Value.{value_view as view};
     ghost use Rattle.ocpi_json.specs.Faults.{Finds};
     ghost use Rattle.ocpi_json.specs.declared.name.Name.{Name};
 
@@ -49,19 +46,19 @@ pub trait FromNodeIn: Sized {
     ghost at: { Data → Result Self Name };
 
     fn from_node_in(alloc: Global, node: &Node) -> Result<Self, FieldFault>
-        ensures { Finds result (at (view node.now)) };
+        ensures { Finds result (at node.now) };
 }
 
 /// The values that stand in the nodes, in order.
 pub fn read_each<T: FromNode + Drop>(
     alloc: Global,
-    nodes: &[Node],
+    mut nodes: Nodes,
 ) -> Result<Sequence<T>, FieldFault>
-    ensures { Finds result (each T.at (map view nodes.now)) }
+    ensures { Finds result (each T.at nodes.entry) }
 {
     let mut values = Sequence::with_capacity(alloc, nodes.len())?;
-    for node in nodes {
-        values.push(T::from_node(node)?)?;
+    while let Some(node) = nodes.next() {
+        values.push(T::from_node(&node)?)?;
     }
     Ok(values)
 }
@@ -69,23 +66,23 @@ pub fn read_each<T: FromNode + Drop>(
 /// The same of a type whose values take memory.
 pub fn read_each_in<T: FromNodeIn + Drop>(
     alloc: Global,
-    nodes: &[Node],
+    mut nodes: Nodes,
 ) -> Result<Sequence<T>, FieldFault>
-    ensures { Finds result (each T.at (map view nodes.now)) }
+    ensures { Finds result (each T.at nodes.entry) }
 {
     let mut values = Sequence::with_capacity(alloc, nodes.len())?;
-    for node in nodes {
-        values.push(T::from_node_in(alloc, node)?)?;
+    while let Some(node) = nodes.next() {
+        values.push(T::from_node_in(alloc, &node)?)?;
     }
     Ok(values)
 }
 
 /// The value that stands in a node, if there is one.
-pub fn read_if_any<T: FromNode + Drop>(found: Option<&Node>) -> Result<Option<T>, Name>
-    ensures { result ≡ if_any T.at (option_map (λ v. view v.now) found.entry) }
+pub fn read_if_any<T: FromNode + Drop>(found: Option<Node>) -> Result<Option<T>, Name>
+    ensures { result ≡ if_any T.at found.entry }
 {
     match found {
-        Some(node) => Ok(Some(T::from_node(node)?)),
+        Some(node) => Ok(Some(T::from_node(&node)?)),
         None => Ok(None),
     }
 }
@@ -93,12 +90,12 @@ pub fn read_if_any<T: FromNode + Drop>(found: Option<&Node>) -> Result<Option<T>
 /// The same of a type whose values take memory.
 pub fn read_if_any_in<T: FromNodeIn + Drop>(
     alloc: Global,
-    found: Option<&Node>,
+    found: Option<Node>,
 ) -> Result<Option<T>, FieldFault>
-    ensures { Finds result (if_any T.at (option_map (λ v. view v.now) found.entry)) }
+    ensures { Finds result (if_any T.at found.entry) }
 {
     match found {
-        Some(node) => Ok(Some(T::from_node_in(alloc, node)?)),
+        Some(node) => Ok(Some(T::from_node_in(alloc, &node)?)),
         None => Ok(None),
     }
 }
@@ -106,14 +103,14 @@ pub fn read_if_any_in<T: FromNodeIn + Drop>(
 /// The values that the texts in a list stand for; the fault names the list.
 pub fn parsed_each<T: FromText + Drop>(
     alloc: Global,
-    nodes: &[Node],
+    mut nodes: Nodes,
     name: Name,
 ) -> Result<Sequence<T>, FieldFault>
-    ensures { Finds result (each (λ d. or_name name (as_parsed T.of_text d)) (map view nodes.now)) }
+    ensures { Finds result (each (λ d. or_name name (as_parsed T.of_text d)) nodes.entry) }
 {
     let mut values = Sequence::with_capacity(alloc, nodes.len())?;
-    for node in nodes {
-        values.push(fields::parsed_in(node, name)?)?;
+    while let Some(node) = nodes.next() {
+        values.push(fields::parsed_in(&node, name)?)?;
     }
     Ok(values)
 }

@@ -1,17 +1,15 @@
 // What a line is: its value as JSON, with each number as it is written.
-ghost use Rattle.std.specs.Prelude.{◌≡◌, None, Some, IfOk, IsErrOf, option_map};
-ghost use Rattle.json.specs.Value.{value_view as view};
+ghost use Rattle.std.specs.Prelude.{◌≡◌, ◌≤◌, None, Some, IfOk, IsErrOf, map, option_map};
+ghost use Rattle.json.specs.Tape.{node_token};
+ghost use Rattle.ocpi_json.specs.Inner.Levels.{level, stays_within};
 ghost use Rattle.ocpi_json.specs.Reading.{value_of, if_utf8, data_of};
 
 use crate::fault::ReadFault;
+use crate::node::Line;
 use bumpalo::Bump;
-use json::{Error, Reader, Scratch, Value};
+use json::{Error, Node, Scratch, Tape};
 use std::alloc::Global;
 use std::marker::Model;
-
-/// A value of a line. Its texts are lent by the line, or by the room where they hold escapes, and a
-/// number is its text.
-pub type Node<'a> = Value<'a, &'a Bump>;
 
 /// The memory that the value of a line takes. One is kept and lent to each line.
 #[derive(Drop)]
@@ -38,18 +36,39 @@ fn text_in(bytes: &[u8]) -> Option<&str>
     simdutf8::basic::from_utf8(bytes).ok()
 }
 
-fn value_in<'a>(bump: &'a Bump, text: &'a str, scratch: &'a mut Scratch) -> Result<Node<'a>, Error>
-    ensures ok { IfOk result (λ node. value_of text.now ≡ Some (view node)) }
-    ensures invalid { IsErrOf result Error.Invalid → value_of text.now ≡ None }
-    ensures never_too_long { IsErrOf result Error.TooLong → ⊥ }
-    ensures never_duplicate { IsErrOf result Error.DuplicateKey → ⊥ }
+fn level(deep: usize, node: &Node) -> usize
+    requires { deep ≤ 127 }
+    ensures { result ≡ level deep (node_token node.now) }
 {
-    let mut reader = Reader::new(text, scratch)?;
-    let value = Value::read(bump, &mut reader, MAX_DEPTH)?;
-    if reader.next().is_some() {
+    match node {
+        Node::Object(_) | Node::Array(_) => deep + 1,
+        Node::EndObject | Node::EndArray => deep.saturating_sub(1),
+        _ => deep,
+    }
+}
+
+fn stays_within(nodes: &[Node]) -> bool
+    ensures { result ≡ stays_within 0 (map node_token nodes.now) }
+{
+    let mut deep = 0;
+    for node in nodes {
+        deep = level(deep, node);
+        if MAX_DEPTH < deep {
+            return false;
+        }
+    }
+    true
+}
+
+fn line_in<'a>(bump: &'a Bump, text: &'a str, scratch: &'a mut Scratch) -> Result<Line<'a>, Error>
+    ensures ok { IfOk result (λ line. value_of text.now ≡ Some line) }
+    ensures invalid { IsErrOf result Error.Invalid → value_of text.now ≡ None }
+{
+    let tape = Tape::parse(text, scratch, Vec::new(bump))?;
+    if !stays_within(tape.nodes()) {
         return Err(Error::Invalid);
     }
-    Ok(value)
+    Ok(Line::new(tape))
 }
 
 impl Room {
@@ -60,15 +79,15 @@ impl Room {
         }
     }
 
-    /// The value that a line is. An object keeps members of equal keys, and a look-up finds the last of them.
+    /// What a line is. An object keeps members of equal keys, and a look-up finds the last of them.
     ///
     /// # Errors
     ///
     /// `Syntax` where the line is no JSON by RFC 8259, is no UTF-8, or nests more than 127 levels
-    /// deep; `NoMemory` where memory ran out.
+    /// deep; `NoMemory` where memory ran out, or the line is too long for a tape.
     #[tactic(auto, unfolding(crate::specs::Reading::data_of))]
-    pub fn read<'a>(&'a mut self, bytes: &'a [u8]) -> Result<Node<'a>, ReadFault>
-        ensures value { IfOk result (λ node. data_of bytes.now ≡ Some (view node)) }
+    pub fn read<'a>(&'a mut self, bytes: &'a [u8]) -> Result<Line<'a>, ReadFault>
+        ensures value { IfOk result (λ line. data_of bytes.now ≡ Some line) }
         ensures none { IsErrOf result ReadFault.Syntax → data_of bytes.now ≡ None }
     {
         let Some(text) = text_in(bytes) else {
@@ -77,10 +96,10 @@ impl Room {
         if self.bump.reset().is_err() {
             return Err(ReadFault::NoMemory);
         }
-        match value_in(&self.bump, text, &mut self.scratch) {
-            Ok(node) => Ok(node),
-            Err(Error::OutOfMemory) => Err(ReadFault::NoMemory),
-            Err(_) => Err(ReadFault::Syntax),
+        match line_in(&self.bump, text, &mut self.scratch) {
+            Ok(line) => Ok(line),
+            Err(Error::Invalid) => Err(ReadFault::Syntax),
+            Err(_) => Err(ReadFault::NoMemory),
         }
     }
 }

@@ -1,7 +1,6 @@
 -- How long the lists are that stand in nodes.
 use Rattle.std.proofs.Common.{◌≡◌, ℕ, ◌+◌, ◌≤◌, List, [], ◌∷◌, length, Option, Some, None, Result, Ok, Err, refl, sym, ap, ◌∙◌, arith}
-use Rattle.std.specs.Prelude.{map, option_map, option_and_then, unwrap_or}
-use Rattle.std.proofs.lemmas.List.{length-map}
+use Rattle.std.specs.Prelude.{option_map, option_and_then, unwrap_or}
 use Rattle.std.proofs.lemmas.Bool.Decides.{nat_tests}
 use Rattle.json.specs.Json.{Json as Data, Items}
 use Rattle.json.specs.Find.{as_array}
@@ -35,13 +34,13 @@ in_member least most n None items h = cc
 in_member least most n (Some d) items h = in_array least most (as_array d) items (some_from_ok n (as_list least most d) items h)
 
 -- a list that is read has at most as many items as it may
-pub list_within : {N : Type 0} (view : N → Data) (least most : ℕ) (n : Name) (node : Data) (nodes : List N) → required (as_list least most) n node ≡ Ok (map view nodes) → length nodes ≤ most
-list_within view least most n node nodes h = let within = in_member least most n (member_at n node) (map view nodes) h in omega (arith, within, length-map nodes view)
+list_within : (least most : ℕ) (n : Name) (node : Data) (items : List Data) → required (as_list least most) n node ≡ Ok items → length items ≤ most
+list_within least most n node items h = in_member least most n (member_at n node) items h
 
 -- and so has what is read of it
-pub values_within : {X N : Type 0} (read : Data → Result X Name) (view : N → Data) (least most : ℕ) (n : Name) (node : Data) (nodes : List N) (values : List X) → Ok (map view nodes) ≡ required (as_list least most) n node → each read (map view nodes) ≡ Ok values → length values ≤ most
-values_within read view least most n node nodes values h e =
-    omega (arith, list_within view least most n node nodes (sym h), each_keeps_length read (map view nodes) values e, length-map nodes view)
+pub values_within : {X : Type 0} (read : Data → Result X Name) (least most : ℕ) (n : Name) (node : Data) (items : List Data) (values : List X) → Ok items ≡ required (as_list least most) n node → each read items ≡ Ok values → length values ≤ most
+values_within read least most n node items values h e =
+    omega (arith, list_within least most n node items (sym h), each_keeps_length read items values e)
 
 -- the same of a list that may be missing
 in_optional : (most : ℕ) (n : Name) (found : Option Data) (items : List Data) → (if_any (λ d. or_name n (as_list 0 most d)) found >>= (λ ds. Ok (unwrap_or ds []))) ≡ Ok items → length items ≤ most
@@ -52,6 +51,6 @@ in_optional most n (Some d) items h = by (as_list 0 most d) refl h
     by None e g = absurd (cc)
     by (Some ds) e g = in_array 0 most (as_array d) items (e ∙ ap (λ (l : List Data). Some l) (let same : ds ≡ items = cc in same))
 
-pub optional_values_within : {X N : Type 0} (read : Data → Result X Name) (view : N → Data) (most : ℕ) (n : Name) (node : Data) (nodes : List N) (values : List X) → Ok (map view nodes) ≡ list_or_empty most n node → each read (map view nodes) ≡ Ok values → length values ≤ most
-optional_values_within read view most n node nodes values h e =
-    omega (arith, in_optional most n (present_at n node) (map view nodes) (sym h), each_keeps_length read (map view nodes) values e, length-map nodes view)
+pub optional_values_within : {X : Type 0} (read : Data → Result X Name) (most : ℕ) (n : Name) (node : Data) (items : List Data) (values : List X) → Ok items ≡ list_or_empty most n node → each read items ≡ Ok values → length values ≤ most
+optional_values_within read most n node items values h e =
+    omega (arith, in_optional most n (present_at n node) items (sym h), each_keeps_length read items values e)

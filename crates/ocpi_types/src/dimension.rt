@@ -1,5 +1,4 @@
 ghost use Rattle.std.specs.Prelude.{◌≡◌};
-ghost use Rattle.json.specs.Value.{value_view as view};
 ghost use Rattle.ocpi_json.specs.Faults.{Finds};
 ghost use Rattle.ocpi_types.specs.Dimension.{dimension_kind_at};
 
@@ -50,7 +49,7 @@ impl Dimension {
 
 #[tactic(auto, unfolding(crate::specs::Dimension::dimension_kind_at))]
 fn read_kind(alloc: Global, node: &Node) -> Result<DimensionKind, FieldFault>
-    ensures { Finds result (dimension_kind_at (view node.now)) }
+    ensures { Finds result (dimension_kind_at node.now) }
 {
     match fields::word(node, Name::Type)? {
         "ENERGY" => Ok(DimensionKind::Energy),

@@ -1,7 +1,6 @@
 //! Members of these types, by name and kind.
 
 ghost use Rattle.std.specs.Prelude.{◌≡◌, pos, ◌≤ℤ◌, unsigned_abs};
-ghost use Rattle.json.specs.Value.{value_view as view};
 ghost use Rattle.ocpi_json.specs.Fields.{required, optional, as_parsed, as_whole};
 ghost use Rattle.ocpi_json.specs.Members.{or_name};
 ghost use Rattle.ocpi_types.specs.Currency.{currency_of};
@@ -22,35 +21,35 @@ pub type Quantity = AtMost<1_000_000_000_000_000>;
 
 /// A party, written as `NL/CPA`; the node is the text itself.
 pub fn party_in(member: &Node, name: Name) -> Result<Party, Name>
-    ensures { result ≡ or_name name (as_parsed party_of (view member.now)) }
+    ensures { result ≡ or_name name (as_parsed party_of member.now) }
 {
     fields::parsed_in(member, name)
 }
 
 /// A party, written as `NL/CPA`.
 pub fn party(node: &Node, name: Name) -> Result<Party, Name>
-    ensures { result ≡ required (as_parsed party_of) name (view node.now) }
+    ensures { result ≡ required (as_parsed party_of) name node.now }
 {
     fields::parsed(node, name)
 }
 
 /// A currency by its code of three letters A to Z.
 pub fn currency(node: &Node, name: Name) -> Result<Currency, Name>
-    ensures { result ≡ required (as_parsed currency_of) name (view node.now) }
+    ensures { result ≡ required (as_parsed currency_of) name node.now }
 {
     fields::parsed(node, name)
 }
 
 /// The type of a token, where the member may be missing or null.
 pub fn token_kind_or_none(node: &Node, name: Name) -> Result<Option<TokenKind>, Name>
-    ensures { result ≡ optional (as_parsed token_kind_of) name (view node.now) }
+    ensures { result ≡ optional (as_parsed token_kind_of) name node.now }
 {
     fields::parsed_or_none(node, name)
 }
 
 /// A whole number from `least` to `MOST`.
 pub fn at_most<const MOST: u64>(node: &Node, name: Name, least: u64) -> Result<AtMost<MOST>, Name>
-    ensures { result ≡ required (as_whole least MOST) name (view node.now) }
+    ensures { result ≡ required (as_whole least MOST) name node.now }
 {
     let value = fields::whole(node, name, least, MOST)?;
     AtMost::new(value).ok_or(name)
@@ -62,7 +61,7 @@ pub fn at_most_or_none<const MOST: u64>(
     name: Name,
     least: u64,
 ) -> Result<Option<AtMost<MOST>>, Name>
-    ensures { result ≡ optional (as_whole least MOST) name (view node.now) }
+    ensures { result ≡ optional (as_whole least MOST) name node.now }
 {
     match fields::whole_or_none(node, name, least, MOST)? {
         Some(value) => Ok(AtMost::new(value)),
@@ -80,7 +79,7 @@ fn quantity_from(number: Millionths) -> Quantity
 /// A number of at least 0.
 #[tactic(auto, using(crate::proofs::Quantities::quantity_at))]
 pub fn quantity(node: &Node, name: Name) -> Result<Quantity, Name>
-    ensures { result ≡ required as_quantity name (view node.now) }
+    ensures { result ≡ required as_quantity name node.now }
 {
     Ok(quantity_from(fields::unsigned(node, name)?))
 }
@@ -88,7 +87,7 @@ pub fn quantity(node: &Node, name: Name) -> Result<Quantity, Name>
 /// The same, where the member may be missing or null.
 #[tactic(auto, using(crate::proofs::Quantities::quantity_if_any))]
 pub fn quantity_or_none(node: &Node, name: Name) -> Result<Option<Quantity>, Name>
-    ensures { result ≡ optional as_quantity name (view node.now) }
+    ensures { result ≡ optional as_quantity name node.now }
 {
     match fields::unsigned_or_none(node, name)? {
         Some(number) => Ok(Some(quantity_from(number))),

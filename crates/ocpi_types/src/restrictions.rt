@@ -1,5 +1,4 @@
 ghost use Rattle.std.specs.Prelude.{◌≡◌, IfOk};
-ghost use Rattle.json.specs.Value.{value_view as view};
 ghost use Rattle.ocpi_json.specs.Faults.{Finds};
 ghost use Rattle.ocpi_types.specs.Inner.RestrictionParts.{times_at, bounds_at, restrictions_in_parts};
 ghost use Rattle.ocpi_types.specs.Restrictions.{days_at, electric_bounds_at};
@@ -50,7 +49,7 @@ pub struct Restrictions {
 
 #[tactic(auto, unfolding(crate::specs::Restrictions::days_at))]
 fn read_days(alloc: Global, node: &Node) -> Result<Sequence<DayOfWeek>, FieldFault>
-    ensures { Finds result (days_at (view node.now)) }
+    ensures { Finds result (days_at node.now) }
 {
     let items = fields::list_or_empty(node, Name::DayOfWeek, 1_048_576)?;
     parsed_each(alloc, items, Name::DayOfWeek)
@@ -58,7 +57,7 @@ fn read_days(alloc: Global, node: &Node) -> Result<Sequence<DayOfWeek>, FieldFau
 
 #[tactic(auto, unfolding(crate::specs::Restrictions::electric_bounds_at))]
 fn read_electric_bounds(node: &Node) -> Result<ElectricBounds, Name>
-    ensures { result ≡ electric_bounds_at (view node.now) }
+    ensures { result ≡ electric_bounds_at node.now }
 {
     let min_current = fields::number_or_none(node, Name::MinCurrent)?.is_some();
     let max_current = fields::number_or_none(node, Name::MaxCurrent)?.is_some();
@@ -92,7 +91,7 @@ struct Bounds {
 
 #[tactic(auto, unfolding(crate::specs::Inner::RestrictionParts::times_at))]
 fn read_times(node: &Node) -> Result<Times, Name>
-    ensures { result ≡ times_at (view node.now) }
+    ensures { result ≡ times_at node.now }
 {
     let start_time = fields::clock_or_none(node, Name::StartTime)?;
     let end_time = fields::clock_or_none(node, Name::EndTime)?;
@@ -108,7 +107,7 @@ fn read_times(node: &Node) -> Result<Times, Name>
 
 #[tactic(auto, unfolding(crate::specs::Inner::RestrictionParts::bounds_at))]
 fn read_bounds(node: &Node) -> Result<Bounds, Name>
-    ensures { result ≡ bounds_at (view node.now) }
+    ensures { result ≡ bounds_at node.now }
 {
     let min_kwh = members::quantity_or_none(node, Name::MinKwh)?;
     let max_kwh = members::quantity_or_none(node, Name::MaxKwh)?;
@@ -124,7 +123,7 @@ fn read_bounds(node: &Node) -> Result<Bounds, Name>
 
 #[tactic(auto, unfolding(crate::specs::Inner::RestrictionParts::restrictions_in_parts))]
 fn read_parts(alloc: Global, node: &Node) -> Result<Restrictions, FieldFault>
-    ensures { Finds result (restrictions_in_parts (view node.now)) }
+    ensures { Finds result (restrictions_in_parts node.now) }
 {
     let times = read_times(node)?;
     let bounds = read_bounds(node)?;

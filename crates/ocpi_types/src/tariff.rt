@@ -1,5 +1,4 @@
 ghost use Rattle.std.specs.Prelude.{◌≡◌};
-ghost use Rattle.json.specs.Value.{value_view as view};
 ghost use Rattle.ocpi_types.specs.Tariff.{price_at};
 
 use super::copying::TryCopy;
@@ -7,13 +6,13 @@ use super::currency::Currency;
 use super::element::Element;
 use super::members::{self, Quantity};
 use super::party::Party;
+use super::shared_list::SharedList;
 use jiff::Timestamp;
 use ocpi_json::Node;
 use ocpi_json::ci_text::CiText;
 use ocpi_json::fields::{self, FieldFault};
 use ocpi_json::name::Name;
 use ocpi_json::objects::{FromNode, FromNodeIn, read_each_in};
-use ocpi_json::sequence::Sequence;
 use std::alloc::{AllocError, Global};
 
 /// A version of a tariff of an operator (OCPI 2.2.1, Tariff object).
@@ -26,16 +25,16 @@ pub struct Tariff {
     pub min_price: Option<Quantity>,
     /// Without tax, in millionths of the currency unit.
     pub max_price: Option<Quantity>,
-    pub elements: Sequence<Element>,
+    pub elements: SharedList<Element>,
     pub last_updated: Timestamp,
 }
 
 #[tactic(auto, unfolding(crate::specs::Tariff::price_at))]
 fn read_price(node: &Node, name: Name) -> Result<Option<Quantity>, Name>
-    ensures { result ≡ price_at name (view node.now) }
+    ensures { result ≡ price_at name node.now }
 {
     match fields::object_or_none(node, name)? {
-        Some(price) => Ok(Some(members::quantity(price, Name::ExclVat)?)),
+        Some(price) => Ok(Some(members::quantity(&price, Name::ExclVat)?)),
         None => Ok(None),
     }
 }
@@ -53,7 +52,7 @@ impl FromNodeIn for Tariff {
         let min_price = read_price(node, Name::MinPrice)?;
         let max_price = read_price(node, Name::MaxPrice)?;
         let items = fields::list(node, Name::Elements, 1, 100)?;
-        let elements = read_each_in(alloc, items)?;
+        let elements = SharedList::new(alloc, read_each_in(alloc, items)?)?;
         let last_updated = fields::instant(node, Name::LastUpdated)?;
         Ok(Tariff {
             operator,

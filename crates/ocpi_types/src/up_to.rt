@@ -1,10 +1,9 @@
-ghost use Rattle.std.specs.Prelude.{◌≡◌, ◌≤◌, length, map, IfOk};
-ghost use Rattle.json.specs.Value.{value_view as view};
+ghost use Rattle.std.specs.Prelude.{◌≡◌, ◌≤◌, length, IfOk};
 ghost use Rattle.ocpi_json.specs.Faults.{Finds};
 ghost use Rattle.ocpi_json.specs.Members.{each};
 
 use super::copying::TryCopy;
-use ocpi_json::Node;
+use ocpi_json::Nodes;
 use ocpi_json::fields::FieldFault;
 use ocpi_json::objects::{FromNodeIn, read_each_in};
 use ocpi_json::sequence::Sequence;
@@ -56,10 +55,10 @@ impl<T: Drop, const MOST: usize> UpTo<T, MOST> {
 /// The values that stand in at most `MOST` nodes, in order.
 pub fn read_up_to<T: FromNodeIn + Drop, const MOST: usize>(
     alloc: Global,
-    nodes: &[Node],
+    nodes: Nodes,
 ) -> Result<UpTo<T, MOST>, FieldFault>
-    requires { length nodes.now ≤ MOST }
-    ensures { Finds result (each T.at (map view nodes.now)) }
+    requires { length nodes ≤ MOST }
+    ensures { Finds result (each T.at nodes.entry) }
 {
     let values = read_each_in(alloc, nodes)?;
     Ok(UpTo::new(values).unwrap())

@@ -256,11 +256,22 @@ impl Book {
         self.put(BookEntry::Tariff(tariff));
     }
 
+    // The CDR, whose tariffs take no memory for the elements that their stored versions have as well.
+    fn with_shared_tariffs(&self, cdr: Cdr) -> Cdr
+        ensures { result ≡ cdr }
+    {
+        let mut cdr = cdr;
+        let versions = &self.index.versions;
+        versions.share(self.entries.as_slice(), &mut cdr.tariffs);
+        cdr
+    }
+
     /// Books a CDR, without taking memory.
     pub fn put_cdr(&mut self, cdr: Cdr, cost: Cost, period: u64)
         requires { self.old.has_room ≡ true }
         ensures { self.new ≡ record { entries = self.old.entries ++ book.Cdr cdr cost period ∷ []; has_room = false } }
     {
+        let cdr = self.with_shared_tariffs(cdr);
         self.put(BookEntry::Cdr { cdr, cost, period });
     }
 
@@ -269,8 +280,9 @@ impl Book {
         requires { self.old.has_room ≡ true }
         ensures { self.new ≡ record { entries = self.old.entries ++ book.Credit credit amount period ∷ []; has_room = false } }
     {
+        let cdr = self.with_shared_tariffs(credit);
         self.put(BookEntry::Credit {
-            cdr: credit,
+            cdr,
             amount,
             period,
         });

@@ -10,6 +10,7 @@ mod keys;
 mod laws;
 mod owed;
 mod places;
+mod sharing;
 mod sum;
 mod sums;
 mod versions;

@@ -9,7 +9,7 @@ use Rattle.plain_house.specs.declared.answer.Answer.TheVariants as answer
 use Rattle.plain_house.specs.House.{verdict}
 use Rattle.plain_house.specs.Known.{Known}
 use Rattle.plain_house.specs.LegalLists.{CanBeNetted}
-use Rattle.plain_house.specs.Replies.{IsTold}
+use Rattle.plain_house.specs.Replies.{IsTold, Reply}
 
 -- no verdict is want of memory
 abbrev pub VerdictsAreTold : Type 0
@@ -30,6 +30,11 @@ is_of_event (answer.Settled amount) = true
 is_of_event (answer.Exposure holds debts limit) = false
 is_of_event (answer.Found amount period credited) = false
 is_of_event (answer.Statement rows) = false
+
+-- the reply tells of an event, as its answer does; a refusal tells of none
+abbrev pub adds_event : Reply → Bool
+adds_event (Ok replied) = is_of_event replied.answer
+adds_event (Err refused) = false
 
 abbrev pub tells_event : Result Answer Refusal → Bool
 tells_event (Ok told) = is_of_event told

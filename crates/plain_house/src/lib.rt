@@ -53,7 +53,7 @@ pub use laws::{
 pub use obligations::statement_rows;
 pub use periods::{period_after, split_first_period};
 pub use posting::{above, reply_to_booked, taken_back};
-pub use replies::{is_out_of_memory, out_of_memory, stamped};
+pub use replies::{adds_event, is_out_of_memory, out_of_memory, stamped};
 pub use reply_room::ReplyRoom;
 pub use scope::Scope;
 pub use sequential::Sequential;

@@ -1,6 +1,7 @@
 //! Replies that every house gives.
 
 ghost use Rattle.std.specs.Prelude.{◌≡◌, Some, None};
+ghost use Rattle.plain_house.specs.Laws.{adds_event, is_of_event};
 ghost use Rattle.plain_house.specs.Replies.{is_no_memory, stamped};
 
 use super::answer::{Answer, Refused, Replied};
@@ -26,6 +27,36 @@ pub fn is_out_of_memory(reply: &Result<Replied, Refused>) -> bool
             Refusal::NoMemory => true,
             _ => false,
         },
+    }
+}
+
+fn is_of_event(answer: &Answer) -> bool
+    ensures { result ≡ is_of_event answer.now }
+{
+    match answer {
+        Answer::Stored
+        | Answer::Allowed { .. }
+        | Answer::Released { .. }
+        | Answer::Accepted { .. }
+        | Answer::Closed { .. }
+        | Answer::Settled { .. } => true,
+        Answer::Unchanged
+        | Answer::Blocked
+        | Answer::NoCredit
+        | Answer::Repeated { .. }
+        | Answer::Exposure { .. }
+        | Answer::Found { .. }
+        | Answer::Statement { .. } => false,
+    }
+}
+
+/// Whether the reply tells of an event that was added.
+pub fn adds_event(reply: &Result<Replied, Refused>) -> bool
+    ensures { result ≡ adds_event reply.now }
+{
+    match reply {
+        Ok(replied) => is_of_event(&replied.answer),
+        Err(_) => false,
     }
 }
 

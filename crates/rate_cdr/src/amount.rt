@@ -1,7 +1,6 @@
 //! What a CDR costs that is given as JSON.
 
 ghost use Rattle.std.specs.Prelude.{◌≡◌, IfOk, IfErr, Ok, Err, false};
-ghost use Rattle.json.specs.Value.{value_view as view};
 ghost use Rattle.rate_cdr.specs.Amount.{is_fault_no_memory, rated_cdr, rated_node, rated_text};
 
 use cdr_rating::rate;
@@ -44,8 +43,8 @@ fn rate_cdr(cdr: &Cdr, zone: &Zone) -> Result<Amount, RatingFault>
 
 #[tactic(auto, unfolding(crate::specs::Amount::rated_node))]
 fn rate_node(alloc: Global, node: &Node, zone: &Zone) -> Result<Amount, RatingFault>
-    ensures amount { IfOk result (λ amount. rated_node zone.now (view node.now) ≡ Ok amount) }
-    ensures fault { IfErr result (λ fault. is_fault_no_memory fault ≡ false → rated_node zone.now (view node.now) ≡ Err fault) }
+    ensures amount { IfOk result (λ amount. rated_node zone.now node.now ≡ Ok amount) }
+    ensures fault { IfErr result (λ fault. is_fault_no_memory fault ≡ false → rated_node zone.now node.now ≡ Err fault) }
 {
     match Cdr::from_node_in(alloc, node) {
         Ok(cdr) => rate_cdr(&cdr, zone),
@@ -64,7 +63,7 @@ pub fn rate_text(alloc: Global, text: &[u8], zone: &Zone) -> Result<Amount, Rati
 {
     let mut room = Room::new(alloc);
     match room.read(text) {
-        Ok(node) => rate_node(alloc, &node, zone),
+        Ok(line) => rate_node(alloc, &line.value(), zone),
         Err(ReadFault::Syntax) => Err(refused(Refusal::Syntax)),
         Err(ReadFault::NoMemory) => Err(RatingFault::NoMemory),
     }

@@ -66,12 +66,12 @@ fn read_cdr(alloc: Global, room: &mut Room, text: &[u8]) -> Result<Cdr, LineFaul
     ensures cdr { IfOk result (λ cdr. cdr_of text.now ≡ Ok cdr) }
     ensures fault { IfErr result (λ fault. is_fault_no_memory fault ≡ false → cdr_of text.now ≡ Err fault) }
 {
-    let node = match room.read(text) {
-        Ok(node) => node,
+    let read = match room.read(text) {
+        Ok(read) => read,
         Err(ReadFault::Syntax) => return Err(LineFault::Syntax),
         Err(ReadFault::NoMemory) => return Err(LineFault::NoMemory),
     };
-    match Cdr::from_node_in(alloc, &node) {
+    match Cdr::from_node_in(alloc, &read.value()) {
         Ok(cdr) => Ok(cdr),
         Err(FieldFault::Field(name)) => Err(LineFault::Field { name }),
         Err(FieldFault::NoMemory) => Err(LineFault::NoMemory),

@@ -1,7 +1,6 @@
 //! What a line asks for.
 
 ghost use Rattle.std.specs.Prelude.{◌≡◌, IfOk, IfErr, Ok, Err, false};
-ghost use Rattle.json.specs.Value.{value_view as view};
 ghost use Rattle.ocpi_json.specs.Faults.{Finds};
 ghost use Rattle.ocpi_json.specs.Fields.{required, as_whole};
 ghost use Rattle.ocpi_json.specs.declared.name.Name.TheVariants as name;
@@ -58,18 +57,18 @@ impl FromText for CommandName {
 #[inline(never)]
 #[tactic(auto, unfolding(crate::specs::RequestText::tariff_ask_at))]
 fn read_tariff(alloc: Global, node: &Node) -> Result<Ask, FieldFault>
-    ensures { Finds result (tariff_ask_at (view node.now)) }
+    ensures { Finds result (tariff_ask_at node.now) }
 {
-    let tariff = Tariff::from_node_in(alloc, fields::object(node, Name::Tariff)?)?;
+    let tariff = Tariff::from_node_in(alloc, &fields::object(node, Name::Tariff)?)?;
     Ok(Ask::PutTariff(tariff))
 }
 
 #[inline(never)]
 #[tactic(auto, unfolding(crate::specs::RequestText::token_ask_at))]
 fn read_token(node: &Node) -> Result<Ask, Name>
-    ensures { result ≡ token_ask_at (view node.now) }
+    ensures { result ≡ token_ask_at node.now }
 {
-    let token = Token::from_node(fields::object(node, Name::Token)?)?;
+    let token = Token::from_node(&fields::object(node, Name::Token)?)?;
     Ok(Ask::PutToken(token))
 }
 
@@ -82,7 +81,7 @@ fn kind_or_rfid(kind: Option<TokenKind>) -> TokenKind
 #[inline(never)]
 #[tactic(auto, unfolding(crate::specs::RequestText::authorize_at))]
 fn read_authorize(node: &Node) -> Result<Ask, Name>
-    ensures { result ≡ authorize_at (view node.now) }
+    ensures { result ≡ authorize_at node.now }
 {
     let operator = members::party(node, Name::Operator)?;
     let provider = members::party(node, Name::Provider)?;
@@ -101,7 +100,7 @@ fn read_authorize(node: &Node) -> Result<Ask, Name>
 #[inline(never)]
 #[tactic(auto, unfolding(crate::specs::RequestText::release_at))]
 fn read_release(node: &Node) -> Result<Ask, Name>
-    ensures { result ≡ release_at (view node.now) }
+    ensures { result ≡ release_at node.now }
 {
     let operator = members::party(node, Name::Operator)?;
     let provider = members::party(node, Name::Provider)?;
@@ -116,9 +115,9 @@ fn read_release(node: &Node) -> Result<Ask, Name>
 #[inline(never)]
 #[tactic(auto, unfolding(crate::specs::RequestText::post_at))]
 fn read_post(alloc: Global, node: &Node) -> Result<Ask, FieldFault>
-    ensures { Finds result (post_at (view node.now)) }
+    ensures { Finds result (post_at node.now) }
 {
-    let cdr = Cdr::from_node_in(alloc, fields::object(node, Name::Cdr)?)?;
+    let cdr = Cdr::from_node_in(alloc, &fields::object(node, Name::Cdr)?)?;
     Ok(Ask::Post(cdr))
 }
 
@@ -126,7 +125,7 @@ fn read_post(alloc: Global, node: &Node) -> Result<Ask, FieldFault>
 const MOST_PERIOD: u64 = 999_999_999_999_999_999;
 
 fn period(node: &Node) -> Result<u64, Name>
-    ensures { result ≡ required (as_whole 0 999_999_999_999_999_999) name.Period (view node.now) }
+    ensures { result ≡ required (as_whole 0 999_999_999_999_999_999) name.Period node.now }
 {
     fields::whole(node, Name::Period, 0, MOST_PERIOD)
 }
@@ -134,7 +133,7 @@ fn period(node: &Node) -> Result<u64, Name>
 #[inline(never)]
 #[tactic(auto, unfolding(crate::specs::RequestText::close_at))]
 fn read_close(node: &Node) -> Result<Ask, Name>
-    ensures { result ≡ close_at (view node.now) }
+    ensures { result ≡ close_at node.now }
 {
     let period = period(node)?;
     Ok(Ask::Close(Close { period }))
@@ -143,7 +142,7 @@ fn read_close(node: &Node) -> Result<Ask, Name>
 #[inline(never)]
 #[tactic(auto, unfolding(crate::specs::RequestText::settle_at))]
 fn read_settle(node: &Node) -> Result<Ask, Name>
-    ensures { result ≡ settle_at (view node.now) }
+    ensures { result ≡ settle_at node.now }
 {
     let provider = members::party(node, Name::Provider)?;
     let currency = members::currency(node, Name::Currency)?;
@@ -158,7 +157,7 @@ fn read_settle(node: &Node) -> Result<Ask, Name>
 #[inline(never)]
 #[tactic(auto, unfolding(crate::specs::RequestText::exposure_at))]
 fn read_exposure(node: &Node) -> Result<Ask, Name>
-    ensures { result ≡ exposure_at (view node.now) }
+    ensures { result ≡ exposure_at node.now }
 {
     let provider = members::party(node, Name::Provider)?;
     let currency = members::currency(node, Name::Currency)?;
@@ -168,7 +167,7 @@ fn read_exposure(node: &Node) -> Result<Ask, Name>
 #[inline(never)]
 #[tactic(auto, unfolding(crate::specs::RequestText::find_at))]
 fn read_find(node: &Node) -> Result<Ask, Name>
-    ensures { result ≡ find_at (view node.now) }
+    ensures { result ≡ find_at node.now }
 {
     let operator = members::party(node, Name::Operator)?;
     let id = fields::ci_text(node, Name::Id)?;
@@ -178,7 +177,7 @@ fn read_find(node: &Node) -> Result<Ask, Name>
 #[inline(never)]
 #[tactic(auto, unfolding(crate::specs::RequestText::statement_at))]
 fn read_statement(node: &Node) -> Result<Ask, Name>
-    ensures { result ≡ statement_at (view node.now) }
+    ensures { result ≡ statement_at node.now }
 {
     let party = members::party(node, Name::Party)?;
     let period = period(node)?;
@@ -186,7 +185,7 @@ fn read_statement(node: &Node) -> Result<Ask, Name>
 }
 
 fn read_ask(alloc: Global, command: CommandName, node: &Node) -> Result<Ask, FieldFault>
-    ensures { Finds result (ask_at command (view node.now)) }
+    ensures { Finds result (ask_at command node.now) }
 {
     match command {
         CommandName::PutTariff => read_tariff(alloc, node),
@@ -204,7 +203,7 @@ fn read_ask(alloc: Global, command: CommandName, node: &Node) -> Result<Ask, Fie
 
 #[tactic(auto, unfolding(crate::specs::RequestText::request_at))]
 fn read_request(alloc: Global, node: &Node) -> Result<Request, FieldFault>
-    ensures { Finds result (request_at (view node.now)) }
+    ensures { Finds result (request_at node.now) }
 {
     let platform = fields::ci_text(node, Name::Platform)?;
     let command = fields::parsed(node, Name::Do)?;
@@ -219,12 +218,12 @@ pub fn request_of(alloc: Global, room: &mut Room, line: &[u8]) -> Result<Request
     ensures request { IfOk result (λ request. request_of line.now ≡ Ok request) }
     ensures refusal { IfErr result (λ refusal. is_refusal_no_memory refusal ≡ false → request_of line.now ≡ Err refusal) }
 {
-    let node = match room.read(line) {
-        Ok(node) => node,
+    let read = match room.read(line) {
+        Ok(read) => read,
         Err(ReadFault::Syntax) => return Err(Refusal::Syntax),
         Err(ReadFault::NoMemory) => return Err(Refusal::NoMemory),
     };
-    match read_request(alloc, &node) {
+    match read_request(alloc, &read.value()) {
         Ok(request) => Ok(request),
         Err(FieldFault::Field(name)) => Err(Refusal::Field { name }),
         Err(FieldFault::NoMemory) => Err(Refusal::NoMemory),

@@ -9,13 +9,13 @@ use Rattle.cdr_checks.specs.declared.request.Command.{Command}
 use Rattle.plain_house.specs.declared.answer.Answer.{Answer}
 use Rattle.plain_house.specs.declared.answer.Replied.{Replied}
 use Rattle.plain_house.specs.House.{verdict}
-use Rattle.plain_house.specs.Laws.{RepliesAreShort, rows_in, rows_of}
+use Rattle.plain_house.specs.Laws.{RepliesAreShort, adds_event, rows_in, rows_of}
 use Rattle.plain_house.specs.LegalEntries.{LegalBooksCanBeNetted}
 use Rattle.plain_house.specs.LegalLists.{CanBeNetted}
 use Rattle.plain_house.specs.Replies.{Reply, stamped}
 use Rattle.house_core.specs.Laws.{IsConfiguration}
 use Rattle.shared_house.specs.Calls.{IsTold, event_count, is_collecting, made_event}
-use Rattle.shared_house.specs.Points.{AreAdmitted, adds_event}
+use Rattle.shared_house.specs.Points.{AreAdmitted}
 use Rattle.shared_house.specs.declared.made.Made.{Made}
 use Rattle.shared_house.specs.Inner.PassKeeps.{PassKeeps}
 use Rattle.shared_house.specs.Laws.{RepliesOfCallsFit}

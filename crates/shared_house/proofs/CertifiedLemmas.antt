@@ -3,6 +3,7 @@ use Rattle.std.proofs.Common.{◌≡◌, ◌⊎◌, inl, inr, ℕ, ◌+◌, ◌<
 use Rattle.std.proofs.lemmas.List.{length-take, take-append-drop, take-take, take_at}
 use Rattle.std.proofs.lemmas.List.Sums.{sum_by-cons}
 use Rattle.ocpi_types.specs.declared.config.Config.{Config}
+use Rattle.plain_house.specs.Laws.{adds_event}
 use Rattle.plain_house.specs.declared.entry.AccountEntry.{AccountEntry}
 use Rattle.plain_house.specs.declared.entry.BookEntry.{BookEntry}
 use Rattle.plain_house.specs.declared.event.Event.{Event}
@@ -12,7 +13,7 @@ use Rattle.plain_house.specs.Replies.{is_no_memory}
 use Rattle.period_order.specs.declared.order_entry.OrderEntry.{OrderEntry}
 use Rattle.period_order.specs.Resolves.{FailsAt, Resolves, ResolvingIsUnique, ResolvingIsWhole}
 use Rattle.shared_house.specs.declared.made.Made.{Made}
-use Rattle.shared_house.specs.Points.{adds_event, front_behind, point_of_reply, seen_behind}
+use Rattle.shared_house.specs.Points.{front_behind, point_of_reply, seen_behind}
 use Rattle.shared_house.specs.Certified.{CertifiedIsUnique, CertifiedIsWhole, IsTorn, IsTornFirst}
 use Rattle.shared_house.specs.History.{Breaks, BreaksFirst, IsOneHistory, PassesSeeTheirEvents, Stands}
 use Rattle.shared_house.proofs.PointLemmas.{quiet}

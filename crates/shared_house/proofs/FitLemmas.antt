@@ -6,10 +6,11 @@ use Rattle.std.proofs.lemmas.List.Elements.{Contains-append_cases, Contains-appe
 use Rattle.std.proofs.lemmas.List.Sums.{sum_by-append, sum_by-cons, sum_by_push}
 use Rattle.std.specs.List.Sorted.{IsNonDecreasingBy}
 use Rattle.ocpi_types.specs.declared.config.Config.{Config}
+use Rattle.plain_house.specs.Laws.{adds_event}
 use Rattle.plain_house.specs.declared.event.Event.{Event}
 use Rattle.plain_house.specs.Legal.{IsLegal}
 use Rattle.shared_house.specs.declared.made.Made.{Made}
-use Rattle.shared_house.specs.Points.{HaveMade, adds_event, front_behind, owners, point_of_reply}
+use Rattle.shared_house.specs.Points.{HaveMade, front_behind, owners, point_of_reply}
 use Rattle.shared_house.specs.History.{Breaks, BreaksFirst, CallBreaks, EventBreaks, IsOneHistory, Stands}
 use Rattle.shared_house.specs.Inner.Turns.{AreFit, IsFit, Tears, PlainTurn, added_at, owns_at, point_at, rank, turns_of}
 use Rattle.shared_house.proofs.TurnLemmas.{Came, contains_cases, contains_first, contains_later, contains_none, owned_by_turns, turn_behind, turn_came, turn_found}

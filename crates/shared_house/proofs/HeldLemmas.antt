@@ -12,7 +12,7 @@ use Rattle.plain_house.specs.declared.entry.BookEntry.{BookEntry}
 use Rattle.plain_house.specs.declared.event.Event.{Event}
 use Rattle.plain_house.specs.House.{verdict}
 use Rattle.plain_house.specs.Known.{Known}
-use Rattle.plain_house.specs.Laws.{tells_event}
+use Rattle.plain_house.specs.Laws.{adds_event, tells_event}
 use Rattle.plain_house.specs.LegalEntries.{IsLegalAccount, IsLegalBook}
 use Rattle.plain_house.specs.Replies.{Reply, is_no_memory, stamped}
 use Rattle.plain_house.specs.Verdict.{Verdict}
@@ -21,7 +21,6 @@ use Rattle.period_order.specs.declared.decided.Outcome.TheVariants as outcome
 use Rattle.period_order.specs.Decided.{Decides, event_of, seen}
 use Rattle.period_order.specs.Order.{PlainOrder, current_of, point_of}
 use Rattle.shared_house.specs.Calls.{AreRead, IsAtLeast, event_count, is_collecting}
-use Rattle.shared_house.specs.Points.{adds_event}
 use Rattle.shared_house.specs.Counts.{total_of_account, total_of_book}
 use Rattle.shared_house.specs.Locked.{IsCountedAccount, IsCountedBook}
 use Rattle.shared_house.specs.declared.ledgers.tally.Tally.{Tally}

@@ -2,9 +2,9 @@
 use Rattle.std.proofs.Common.{◌≡◌, ℕ, true, false, refl, Result, Ok, Err}
 use Rattle.ocpi_types.specs.declared.refusal.Refusal.{Refusal}
 use Rattle.plain_house.specs.declared.answer.Answer.{Answer}
-use Rattle.plain_house.specs.Laws.{tells_event}
+use Rattle.plain_house.specs.Laws.{adds_event, tells_event}
 use Rattle.plain_house.specs.Replies.{Reply, is_no_memory, stamped}
-use Rattle.shared_house.specs.Points.{adds_event, point_of_reply}
+use Rattle.shared_house.specs.Points.{point_of_reply}
 
 -- want of memory tells of none
 pub quiet : (reply : Reply) → is_no_memory reply ≡ true → adds_event reply ≡ false

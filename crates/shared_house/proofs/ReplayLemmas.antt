@@ -8,11 +8,11 @@ use Rattle.ocpi_types.specs.declared.config.Config.{Config}
 use Rattle.cdr_checks.specs.Admission.{IsAdmitted}
 use Rattle.plain_house.specs.declared.event.Event.{Event}
 use Rattle.plain_house.specs.House.{events_after}
-use Rattle.plain_house.specs.Laws.{RepliesTellEvents}
+use Rattle.plain_house.specs.Laws.{RepliesTellEvents, adds_event}
 use Rattle.plain_house.specs.Legal.{CommandsKeepListsLegal, IsLegal}
 use Rattle.shared_house.specs.declared.certifying.turns.Turn.{Turn}
 use Rattle.shared_house.specs.declared.made.Made.{Made}
-use Rattle.shared_house.specs.Points.{AreAdmitted, AreAllAdmitted, adds_event}
+use Rattle.shared_house.specs.Points.{AreAdmitted, AreAllAdmitted}
 use Rattle.shared_house.specs.History.{BreaksFirst, IsOneHistory}
 use Rattle.shared_house.specs.Inner.Turns.{AreFit, IsNext, PlainTurn, Tears, added_at, owns_at, plain_turn, rank, turns_of}
 use Rattle.shared_house.proofs.FitLemmas.{AreSoFar, fit_more, left_first, one_history, tears_first}

@@ -5,10 +5,10 @@ use Rattle.cdr_checks.specs.declared.request.Command.{Command}
 use Rattle.plain_house.specs.declared.event.Event.{Event}
 use Rattle.plain_house.specs.House.{Does, events_after, reply_of, verdict}
 use Rattle.plain_house.specs.Known.{known}
-use Rattle.plain_house.specs.Laws.{RepliesTellEvents}
+use Rattle.plain_house.specs.Laws.{RepliesTellEvents, adds_event}
 use Rattle.plain_house.specs.Replies.{Reply, is_no_memory, with_event}
 use Rattle.shared_house.specs.declared.made.Made.{Made}
-use Rattle.shared_house.specs.Points.{adds_event, point_of_reply}
+use Rattle.shared_house.specs.Points.{point_of_reply}
 use Rattle.shared_house.specs.History.{Stands, events_before}
 use Rattle.shared_house.proofs.PointLemmas.{adds_stamped}
 

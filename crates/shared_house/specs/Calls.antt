@@ -4,6 +4,7 @@ use Rattle.ocpi_types.specs.declared.config.Config.{Config}
 use Rattle.ocpi_types.specs.declared.config.Operator.{Operator}
 use Rattle.cdr_checks.specs.declared.request.Command.{Command}
 use Rattle.period_order.specs.Decided.{is_close_command, is_statement_command}
+use Rattle.plain_house.specs.Laws.{adds_event}
 use Rattle.plain_house.specs.declared.entry.BookEntry.{BookEntry}
 use Rattle.plain_house.specs.House.{verdict}
 use Rattle.plain_house.specs.Known.{Known}
@@ -13,7 +14,7 @@ use Rattle.plain_house.specs.Own.{own_book}
 use Rattle.plain_house.specs.Replies.{Reply, is_no_memory, no_memory, stamped}
 use Rattle.shared_house.specs.declared.made.Made.{Made}
 use Rattle.shared_house.specs.PassView.{PassView}
-use Rattle.shared_house.specs.Points.{adds_event, told_point}
+use Rattle.shared_house.specs.Points.{told_point}
 
 -- ---- events
 

@@ -1,12 +1,13 @@
 -- One history: the events, and the calls that passes made, each at its point.
 use Rattle.std.specs.Prelude.{◌≡◌, ◌≢◌, ◌⊎◌, ◌≤◌, ◌<◌, ℕ, List, count_by, length, take, slice_get, IfSome, Some}
 use Rattle.ocpi_types.specs.declared.config.Config.{Config}
+use Rattle.plain_house.specs.Laws.{adds_event}
 use Rattle.plain_house.specs.declared.event.Event.{Event}
 use Rattle.plain_house.specs.House.{reply_of, verdict}
 use Rattle.plain_house.specs.Known.{known}
 use Rattle.plain_house.specs.Legal.{IsLegal}
 use Rattle.shared_house.specs.declared.made.Made.{Made}
-use Rattle.shared_house.specs.Points.{HaveMade, adds_event, front_behind, owners, point_of_reply}
+use Rattle.shared_house.specs.Points.{HaveMade, front_behind, owners, point_of_reply}
 
 -- the events before a call
 abbrev pub events_before : List Event → Made → List Event

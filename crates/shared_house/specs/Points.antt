@@ -2,7 +2,7 @@
 use Rattle.std.specs.Prelude.{All, ◌≡◌, ℕ, ◌+◌, ◌==◌, ◌&&◌, Bool, false, List, ◌∷◌, ◌++◌, Contains, count_by, fold, sum_by, unwrap_or, if◌then◌else◌, Option, Some, Ok, Err}
 use Rattle.ocpi_types.specs.declared.config.Config.{Config}
 use Rattle.cdr_checks.specs.Admission.{IsAdmitted}
-use Rattle.plain_house.specs.Laws.{is_of_event}
+use Rattle.plain_house.specs.Laws.{adds_event}
 use Rattle.plain_house.specs.Replies.{Reply, is_no_memory}
 use Rattle.shared_house.specs.declared.made.Made.{Made}
 
@@ -15,11 +15,6 @@ told_point (Err refused) = refused.at
 abbrev pub point_of_reply : Reply → ℕ
 point_of_reply (Ok replied) = replied.at
 point_of_reply (Err refused) = unwrap_or refused.at 0
-
--- the reply tells of an event, as its answer does; a refusal tells of none
-abbrev pub adds_event : Reply → Bool
-adds_event (Ok replied) = is_of_event replied.answer
-adds_event (Err refused) = false
 
 -- a call of one of the passes that found memory, behind these calls of its pass
 pub record HaveMade (passes : List (List Made)) (earlier : List Made) (made : Made) : Type 0 where

@@ -32,5 +32,5 @@ pub use laws::{
 };
 pub use ledgers::{Configured, Names, Part};
 pub use locked::{LockedAccount, LockedBook, LockedOrder};
-pub use made::{Made, adds_event};
+pub use made::Made;
 pub use pass::Pass;

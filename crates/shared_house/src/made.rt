@@ -1,47 +1,17 @@
 //! A call that was made, and what its reply tells.
 
 ghost use Rattle.std.specs.Prelude.{◌≡◌, ◌+◌, if◌then◌else◌};
-ghost use Rattle.plain_house.specs.Laws.{is_of_event};
-ghost use Rattle.shared_house.specs.Points.{adds_event, point_of_reply};
+ghost use Rattle.plain_house.specs.Laws.{adds_event};
+ghost use Rattle.shared_house.specs.Points.{point_of_reply};
 
 use cdr_checks::Command;
-use plain_house::{Answer, Refused, Replied};
+use plain_house::{Refused, Replied, adds_event};
 
 /// A call that was made: what it asked, and what it returned.
 #[derive(Drop)]
 pub struct Made {
     pub command: Command,
     pub reply: Result<Replied, Refused>,
-}
-
-fn is_of_event(answer: &Answer) -> bool
-    ensures { result ≡ is_of_event answer.now }
-{
-    match answer {
-        Answer::Stored
-        | Answer::Allowed { .. }
-        | Answer::Released { .. }
-        | Answer::Accepted { .. }
-        | Answer::Closed { .. }
-        | Answer::Settled { .. } => true,
-        Answer::Unchanged
-        | Answer::Blocked
-        | Answer::NoCredit
-        | Answer::Repeated { .. }
-        | Answer::Exposure { .. }
-        | Answer::Found { .. }
-        | Answer::Statement { .. } => false,
-    }
-}
-
-/// Whether the reply tells of an event that was added.
-pub fn adds_event(reply: &Result<Replied, Refused>) -> bool
-    ensures { result ≡ adds_event reply.now }
-{
-    match reply {
-        Ok(replied) => is_of_event(&replied.answer),
-        Err(_) => false,
-    }
 }
 
 impl Made {

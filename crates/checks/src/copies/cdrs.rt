@@ -8,8 +8,8 @@ use std::str::Lines;
 
 fn read_cdr(alloc: Global, line: &str) -> Option<Cdr> {
     let mut room = Room::new(alloc);
-    let node = room.read(line.as_bytes()).ok()?;
-    Cdr::from_node_in(alloc, &node).ok()
+    let read = room.read(line.as_bytes()).ok()?;
+    Cdr::from_node_in(alloc, &read.value()).ok()
 }
 
 fn copy_of(alloc: Global, line: &str) -> Option<Cdr> {

@@ -20,7 +20,7 @@ fn numbers() -> [(&'static str, &'static [u8], &'static str); 5] {
 
 fn is_number(room: &mut Room, line: &[u8], number: &str) -> bool {
     match room.read(line) {
-        Ok(node) => match node.get("a") {
+        Ok(read) => match read.value().get("a") {
             Some(member) => member.as_number() == Some(number),
             None => false,
         },
@@ -46,7 +46,7 @@ fn texts() -> [(&'static str, &'static [u8], &'static str); 3] {
 
 fn is_text(room: &mut Room, line: &[u8], text: &str) -> bool {
     match room.read(line) {
-        Ok(node) => node.as_str() == Some(text),
+        Ok(read) => read.value().as_str() == Some(text),
         Err(_) => false,
     }
 }

@@ -47,7 +47,7 @@ struct Finder {
 }
 
 // The CDR of a line, if it has one.
-fn cdr_node<'n, 'a>(line: &'n Node<'a>) -> Option<&'n Node<'a>> {
+fn cdr_node<'a>(line: &Node<'a>) -> Option<Node<'a>> {
     fields::object(line, Name::Cdr).ok()
 }
 
@@ -64,19 +64,19 @@ fn is_marked_object(alloc: Global, line: &[u8]) -> bool {
 
 fn has_cdr(room: &mut Room, line: &[u8]) -> bool {
     match room.read(line) {
-        Ok(node) => cdr_node(&node).is_some(),
+        Ok(read) => cdr_node(&read.value()).is_some(),
         Err(_) => false,
     }
 }
 
 fn periods_of(alloc: Global, line: &Node) -> Option<usize> {
-    let cdr = Cdr::from_node_in(alloc, cdr_node(line)?).ok()?;
+    let cdr = Cdr::from_node_in(alloc, &cdr_node(line)?).ok()?;
     Some(cdr.charging_periods.as_slice().len())
 }
 
 fn periods(alloc: Global, room: &mut Room, line: &[u8]) -> usize {
     match room.read(line) {
-        Ok(node) => periods_of(alloc, &node).unwrap_or(0),
+        Ok(read) => periods_of(alloc, &read.value()).unwrap_or(0),
         Err(_) => 0,
     }
 }

@@ -41,8 +41,8 @@ pub(crate) fn cdr_text(alloc: Global, periods: usize) -> Result<String, AllocErr
 pub(crate) fn cdr(alloc: Global, periods: usize) -> Option<Cdr> {
     let text = cdr_text(alloc, periods).ok()?;
     let mut room = Room::new(alloc);
-    let node = room.read(text.as_bytes()).ok()?;
-    Cdr::from_node_in(alloc, &node).ok()
+    let line = room.read(text.as_bytes()).ok()?;
+    Cdr::from_node_in(alloc, &line.value()).ok()
 }
 
 /// What the CDR costs in ten-thousandths; 0 where it has no amount.

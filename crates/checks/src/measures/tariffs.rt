@@ -28,8 +28,8 @@ fn tariff_text() -> &'static str {
 
 fn read_tariff(alloc: Global) -> Option<Tariff> {
     let mut room = Room::new(alloc);
-    let node = room.read(tariff_text().as_bytes()).ok()?;
-    Tariff::from_node_in(alloc, &node).ok()
+    let line = room.read(tariff_text().as_bytes()).ok()?;
+    Tariff::from_node_in(alloc, &line.value()).ok()
 }
 
 // The moment so many hours after 2024-07-01T00:00:00Z.

@@ -34,7 +34,7 @@ fn read_as_it_stands(
     line: &[u8],
 ) -> Result<Option<Value>, ReadFault> {
     match room.read(line) {
-        Ok(node) => Ok(Some(marked_value(alloc, &node)?)),
+        Ok(read) => Ok(Some(marked_value(alloc, &read.value())?)),
         Err(ReadFault::Syntax) => Ok(None),
         Err(ReadFault::NoMemory) => Err(ReadFault::NoMemory),
     }
@@ -50,7 +50,7 @@ fn value_of(alloc: Global, text: &[u8]) -> Result<Option<Value>, ReadFault> {
 
 fn are_keys_marked(room: &mut Room, text: &[u8]) -> Result<bool, ReadFault> {
     match room.read(text) {
-        Ok(node) => Ok(are_all_marked(&node)),
+        Ok(line) => Ok(are_all_marked(&line.value())),
         Err(ReadFault::Syntax) => Ok(false),
         Err(ReadFault::NoMemory) => Err(ReadFault::NoMemory),
     }

@@ -1,6 +1,6 @@
 //! Which keys are marked.
 
-use ocpi_json::Node;
+use ocpi_json::{Members, Node, Nodes};
 use serde_json::{Map, Value};
 
 fn is_marked(key: &str) -> bool {
@@ -10,17 +10,19 @@ fn is_marked(key: &str) -> bool {
 /// Whether every key begins with `s`, at any depth: also one that stands again behind it.
 #[cycle(all)]
 pub fn are_all_marked(node: &Node) -> bool {
-    match node {
-        Node::Array(items) => are_items_marked(items.as_slice()),
-        Node::Object(members) => are_members_marked(members.as_slice()),
-        _ => true,
+    if let Some(items) = node.items() {
+        return are_items_marked(items);
+    }
+    match node.members() {
+        Some(members) => are_members_marked(members),
+        None => true,
     }
 }
 
 #[cycle(all)]
-fn are_items_marked<'a>(items: &[Node<'a>]) -> bool {
-    for item in items {
-        if !are_all_marked(item) {
+fn are_items_marked(mut items: Nodes) -> bool {
+    while let Some(item) = items.next() {
+        if !are_all_marked(&item) {
             return false;
         }
     }
@@ -28,9 +30,9 @@ fn are_items_marked<'a>(items: &[Node<'a>]) -> bool {
 }
 
 #[cycle(all)]
-fn are_members_marked<'a>(members: &[(&'a str, Node<'a>)]) -> bool {
-    for member in members {
-        if !is_marked(member.0) || !are_all_marked(&member.1) {
+fn are_members_marked(mut members: Members) -> bool {
+    while let Some((key, member)) = members.next() {
+        if !is_marked(key) || !are_all_marked(&member) {
             return false;
         }
     }

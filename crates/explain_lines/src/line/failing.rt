@@ -1,7 +1,6 @@
 //! Where the member stands that is not as it has to be.
 
 ghost use Rattle.std.specs.Prelude.{◌≡◌, is_ok};
-ghost use Rattle.json.specs.Value.{value_view as view};
 ghost use Rattle.ocpi_types.specs.Cdr.{session_token_at};
 ghost use Rattle.explain_lines.specs.Members.{authorisation_fails, fails_before_tariffs, opening_fails};
 
@@ -10,7 +9,7 @@ use crate::telling::{Cause, Told, Value};
 use ocpi_json::fields::FieldFault;
 use ocpi_json::name::Name;
 use ocpi_json::objects::{FromNode, FromNodeIn};
-use ocpi_json::{Node, fields};
+use ocpi_json::{Node, Nodes, fields};
 use ocpi_types::{
     AuthMethod, Cdr, CdrToken, ChargingPeriod, Dimension, Element, Party, PriceComponent,
     Restrictions, Tariff, Token, members,
@@ -103,7 +102,7 @@ fn fault_in(alloc: Global, shape: Shape, node: &Node) -> Result<Option<Name>, Al
 
 // A member of the CDR fails that is read before its token.
 fn opening_fails(cdr: &Node) -> bool
-    ensures { result ≡ opening_fails (view cdr.now) }
+    ensures { result ≡ opening_fails cdr.now }
 {
     Party::from_node(cdr).is_err()
         || fields::ci_text::<39>(cdr, Name::Id).is_err()
@@ -113,17 +112,17 @@ fn opening_fails(cdr: &Node) -> bool
 
 #[tactic(auto, unfolding(ocpi_types::specs::Cdr::session_token_at))]
 fn is_token_read(cdr: &Node) -> bool
-    ensures { result ≡ is_ok (session_token_at (view cdr.now)) }
+    ensures { result ≡ is_ok (session_token_at cdr.now) }
 {
     match fields::object(cdr, Name::CdrToken) {
-        Ok(token) => CdrToken::from_node(token).is_ok(),
+        Ok(token) => CdrToken::from_node(&token).is_ok(),
         Err(_) => false,
     }
 }
 
 // A member of the CDR fails that is read behind its token and before its tariffs.
 fn authorisation_fails(cdr: &Node) -> bool
-    ensures { result ≡ authorisation_fails (view cdr.now) }
+    ensures { result ≡ authorisation_fails cdr.now }
 {
     fields::parsed::<AuthMethod>(cdr, Name::AuthMethod).is_err()
         || fields::ci_text_or_none::<36>(cdr, Name::AuthorizationReference).is_err()
@@ -132,30 +131,30 @@ fn authorisation_fails(cdr: &Node) -> bool
 
 /// What fails first of a CDR is a member of its own that is read before its tariffs.
 pub fn fails_before_tariffs(cdr: &Node) -> bool
-    ensures { result ≡ fails_before_tariffs (view cdr.now) }
+    ensures { result ≡ fails_before_tariffs cdr.now }
 {
     opening_fails(cdr) || (is_token_read(cdr) && authorisation_fails(cdr))
 }
 
 /// An object in another, or an item of a list there.
-#[derive(Clone, Copy)]
-struct Inner<'n, 'a> {
+#[derive(Drop)]
+struct Inner<'a> {
     name: Name,
     item: Option<usize>,
     shape: Shape,
-    node: &'n Node<'a>,
+    node: Node<'a>,
 }
 
 // The first item of a list that fails at a member of that name.
-fn failing_item<'n, 'a>(
+fn failing_item<'a>(
     alloc: Global,
-    items: &'n [Node<'a>],
+    items: Nodes<'a>,
     member: (Name, Shape),
     at: Name,
-) -> Result<Option<Inner<'n, 'a>>, AllocError> {
+) -> Result<Option<Inner<'a>>, AllocError> {
     let (name, shape) = member;
-    for (index, node) in items.iter().enumerate() {
-        if fault_in(alloc, shape, node)? == Some(at) {
+    for (index, node) in items.enumerate() {
+        if fault_in(alloc, shape, &node)? == Some(at) {
             let item = Some(index);
             return Ok(Some(Inner {
                 name,
@@ -169,34 +168,37 @@ fn failing_item<'n, 'a>(
 }
 
 // What stands in a member and fails at a member of that name.
-fn failing_in<'n, 'a>(
+fn failing_in<'a>(
     alloc: Global,
-    node: &'n Node<'a>,
+    node: &Node<'a>,
     member: (Name, Shape),
     at: Name,
-) -> Result<Option<Inner<'n, 'a>>, AllocError> {
+) -> Result<Option<Inner<'a>>, AllocError> {
     let (name, shape) = member;
-    match node.get(name.key()) {
-        Some(Node::Array(items)) => failing_item(alloc, items.as_slice(), member, at),
-        Some(inner) if !inner.is_null() && fault_in(alloc, shape, inner)? == Some(at) => {
-            Ok(Some(Inner {
-                name,
-                item: None,
-                shape,
-                node: inner,
-            }))
-        }
-        _ => Ok(None),
+    let Some(inner) = node.get(name.key()) else {
+        return Ok(None);
+    };
+    if let Some(items) = inner.items() {
+        return failing_item(alloc, items, member, at);
     }
+    if inner.is_null() || fault_in(alloc, shape, &inner)? != Some(at) {
+        return Ok(None);
+    }
+    Ok(Some(Inner {
+        name,
+        item: None,
+        shape,
+        node: inner,
+    }))
 }
 
 // The first of what stands in an object that fails at a member of that name.
-fn first_failing<'n, 'a>(
+fn first_failing<'a>(
     alloc: Global,
     shape: Shape,
-    node: &'n Node<'a>,
+    node: &Node<'a>,
     at: Name,
-) -> Result<Option<Inner<'n, 'a>>, AllocError> {
+) -> Result<Option<Inner<'a>>, AllocError> {
     if matches!(shape, Shape::Cdr) && fails_before_tariffs(node) {
         return Ok(None);
     }
@@ -213,9 +215,9 @@ fn first_failing<'n, 'a>(
 }
 
 // The first volume below 0 among the items of a list of charging periods, of which each is read.
-fn negative_volume(alloc: Global, periods: &[Node]) -> Result<Option<(usize, usize)>, AllocError> {
-    for (number, node) in periods.iter().enumerate() {
-        let Ok(period) = ChargingPeriod::from_node_in(alloc, node) else {
+fn negative_volume(alloc: Global, periods: Nodes) -> Result<Option<(usize, usize)>, AllocError> {
+    for (number, node) in periods.enumerate() {
+        let Ok(period) = ChargingPeriod::from_node_in(alloc, &node) else {
             return Err(AllocError);
         };
         let dimensions = period.dimensions.as_slice();
@@ -228,10 +230,10 @@ fn negative_volume(alloc: Global, periods: &[Node]) -> Result<Option<(usize, usi
 
 // The place of the volume of a CDR that is below 0, where its members are all of their kinds.
 fn place_of_volume(alloc: Global, place: Place, cdr: &Node) -> Result<Place, AllocError> {
-    let Some(Node::Array(periods)) = cdr.get(Name::ChargingPeriods.key()) else {
+    let Ok(periods) = fields::list(cdr, Name::ChargingPeriods, 0, usize::MAX) else {
         return Ok(place.then(Name::Volume, None));
     };
-    match negative_volume(alloc, periods.as_slice())? {
+    match negative_volume(alloc, periods)? {
         Some((period, volume)) => {
             let place = place.then(Name::ChargingPeriods, Some(period));
             let place = place.then(Name::Dimensions, Some(volume));
@@ -242,20 +244,20 @@ fn place_of_volume(alloc: Global, place: Place, cdr: &Node) -> Result<Place, All
 }
 
 /// What stands at a place of a line.
-#[derive(Clone, Copy)]
-struct Standing<'n, 'a> {
+#[derive(Drop)]
+struct Standing<'a> {
     place: Place,
     shape: Shape,
-    node: &'n Node<'a>,
+    node: Node<'a>,
 }
 
 // The first of what stands in it that fails at a member of that name, or itself where nothing does.
-fn deeper<'n, 'a>(
+fn deeper<'a>(
     alloc: Global,
-    standing: Standing<'n, 'a>,
+    standing: Standing<'a>,
     name: Name,
-) -> Result<Standing<'n, 'a>, AllocError> {
-    match first_failing(alloc, standing.shape, standing.node, name)? {
+) -> Result<Standing<'a>, AllocError> {
+    match first_failing(alloc, standing.shape, &standing.node, name)? {
         Some(inner) => Ok(Standing {
             place: standing.place.then(inner.name, inner.item),
             shape: inner.shape,
@@ -266,7 +268,7 @@ fn deeper<'n, 'a>(
 }
 
 /// Where in the value of a line the member of that name stands that is at fault, and whether it is missing.
-pub fn told(alloc: Global, line: &Node, name: Name) -> Result<Told, AllocError> {
+pub fn told(alloc: Global, line: Node, name: Name) -> Result<Told, AllocError> {
     let mut standing = Standing {
         place: Place::nowhere(),
         shape: Shape::Line,
@@ -275,9 +277,9 @@ pub fn told(alloc: Global, line: &Node, name: Name) -> Result<Told, AllocError> 
     for _ in 0..DEEPEST {
         standing = deeper(alloc, standing, name)?;
     }
-    let (place, node) = (standing.place, standing.node);
-    if matches!((standing.shape, name), (Shape::Cdr, Name::Volume)) {
-        let place = place_of_volume(alloc, place, node)?;
+    let Standing { place, shape, node } = standing;
+    if matches!((shape, name), (Shape::Cdr, Name::Volume)) {
+        let place = place_of_volume(alloc, place, &node)?;
         return Ok(Told::new(place, Cause::Unfit, Value::Nothing));
     }
     let cause = match node.get(name.key()) {

@@ -2,7 +2,6 @@
 
 ghost use Rattle.std.specs.Prelude.{◌≡◌, ◌||◌, is_some, pos, int_le, nat_le, length};
 ghost use Rattle.std.specs.List.{list_all};
-ghost use Rattle.json.specs.Value.{value_view as view};
 ghost use Rattle.ocpi_json.specs.Faults.{Finds};
 ghost use Rattle.ocpi_types.specs.Cdr.{cost_at, credit_at, periods_at, reference_at, session_token_at, tariffs_at};
 ghost use Rattle.ocpi_types.specs.ChargingPeriod.{has_volumes_in_range};
@@ -28,35 +27,35 @@ use std::alloc::Global;
 
 #[tactic(auto, unfolding(crate::specs::Cdr::session_token_at))]
 fn read_session_token(node: &Node) -> Result<CdrToken, Name>
-    ensures { result ≡ session_token_at (view node.now) }
+    ensures { result ≡ session_token_at node.now }
 {
-    CdrToken::from_node(fields::object(node, Name::CdrToken)?)
+    CdrToken::from_node(&fields::object(node, Name::CdrToken)?)
 }
 
 #[tactic(auto, unfolding(crate::specs::Cdr::tariffs_at))]
 fn read_tariffs(alloc: Global, node: &Node) -> Result<Sequence<Tariff>, FieldFault>
-    ensures { Finds result (tariffs_at (view node.now)) }
+    ensures { Finds result (tariffs_at node.now) }
 {
     read_each_in(alloc, fields::list_or_empty(node, Name::Tariffs, 10)?)
 }
 
 #[tactic(auto, unfolding(crate::specs::Cdr::periods_at))]
 fn read_periods(alloc: Global, node: &Node) -> Result<UpTo<ChargingPeriod, 1000>, FieldFault>
-    ensures { Finds result (periods_at (view node.now)) }
+    ensures { Finds result (periods_at node.now) }
 {
     read_up_to(alloc, fields::list(node, Name::ChargingPeriods, 1, 1000)?)
 }
 
 #[tactic(auto, unfolding(crate::specs::Cdr::cost_at))]
 fn read_cost(node: &Node) -> Result<Millionths, Name>
-    ensures { result ≡ cost_at (view node.now) }
+    ensures { result ≡ cost_at node.now }
 {
-    fields::number(fields::object(node, Name::TotalCost)?, Name::ExclVat)
+    fields::number(&fields::object(node, Name::TotalCost)?, Name::ExclVat)
 }
 
 #[tactic(auto, unfolding(crate::specs::Cdr::reference_at))]
 fn read_reference(is_credit: bool, node: &Node) -> Result<Option<CiText<39>>, Name>
-    ensures { result ≡ reference_at is_credit (view node.now) }
+    ensures { result ≡ reference_at is_credit node.now }
 {
     if is_credit {
         let id = fields::ci_text(node, Name::CreditReferenceId)?;
@@ -68,7 +67,7 @@ fn read_reference(is_credit: bool, node: &Node) -> Result<Option<CiText<39>>, Na
 
 #[tactic(auto, unfolding(crate::specs::Cdr::credit_at))]
 fn read_credit(node: &Node) -> Result<Option<CiText<39>>, Name>
-    ensures { result ≡ credit_at (view node.now) }
+    ensures { result ≡ credit_at node.now }
 {
     let is_credit = fields::flag_or_none(node, Name::Credit)?.unwrap_or(false);
     read_reference(is_credit, node)
@@ -104,7 +103,7 @@ struct Totals {
 
 #[tactic(auto, unfolding(crate::specs::Inner::CdrParts::opening_at))]
 fn read_opening(node: &Node) -> Result<Opening, Name>
-    ensures { result ≡ opening_at (view node.now) }
+    ensures { result ≡ opening_at node.now }
 {
     let operator = Party::from_node(node)?;
     let id = fields::ci_text(node, Name::Id)?;
@@ -120,7 +119,7 @@ fn read_opening(node: &Node) -> Result<Opening, Name>
 
 #[tactic(auto, unfolding(crate::specs::Inner::CdrParts::authorised_at))]
 fn read_authorised(node: &Node) -> Result<Authorised, Name>
-    ensures { result ≡ authorised_at (view node.now) }
+    ensures { result ≡ authorised_at node.now }
 {
     let cdr_token = read_session_token(node)?;
     let auth_method = fields::parsed(node, Name::AuthMethod)?;
@@ -136,7 +135,7 @@ fn read_authorised(node: &Node) -> Result<Authorised, Name>
 
 #[tactic(auto, unfolding(crate::specs::Inner::CdrParts::totals_at))]
 fn read_totals(node: &Node) -> Result<Totals, Name>
-    ensures { result ≡ totals_at (view node.now) }
+    ensures { result ≡ totals_at node.now }
 {
     let total_cost = read_cost(node)?;
     let total_energy = fields::number(node, Name::TotalEnergy)?;
@@ -164,7 +163,7 @@ struct Parts {
 
 #[tactic(auto, unfolding(crate::specs::Inner::CdrParts::parts_at))]
 fn read_parts(alloc: Global, node: &Node) -> Result<Parts, FieldFault>
-    ensures { Finds result (parts_at (view node.now)) }
+    ensures { Finds result (parts_at node.now) }
 {
     let opening = read_opening(node)?;
     let authorised = read_authorised(node)?;
@@ -245,7 +244,7 @@ impl Parts {
 
 #[tactic(auto, unfolding(crate::specs::Inner::CdrParts::cdr_in_parts))]
 fn read_in_parts(alloc: Global, node: &Node) -> Result<Cdr, FieldFault>
-    ensures { Finds result (cdr_in_parts (view node.now)) }
+    ensures { Finds result (cdr_in_parts node.now) }
 {
     let cdr = read_parts(alloc, node)?.into_cdr()?;
     Ok(cdr)

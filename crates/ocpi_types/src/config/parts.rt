@@ -1,7 +1,6 @@
 //! Reading the parts of a configuration.
 
 ghost use Rattle.std.specs.Prelude.{◌≡◌, map};
-ghost use Rattle.json.specs.Value.{value_view as view};
 ghost use Rattle.ocpi_json.specs.Faults.{Finds};
 ghost use Rattle.ocpi_json.specs.Members.{each};
 ghost use Rattle.ocpi_types.specs.ConfigParts.{currency_at, operator_at, provider_at};
@@ -13,11 +12,11 @@ use crate::currency::Currency;
 use crate::different::{Distinct, are_all_different};
 use crate::members::{self, at_most, at_most_or_none, ensure};
 use crate::party::Party;
-use ocpi_json::Node;
 use ocpi_json::fields::{self, FieldFault};
 use ocpi_json::name::Name;
 use ocpi_json::objects::FromNode;
 use ocpi_json::sequence::Sequence;
+use ocpi_json::{Node, Nodes};
 use std::alloc::Global;
 
 // No configuration has room for a list of so many items.
@@ -35,40 +34,38 @@ pub struct Listed {
 pub trait FromNodeWith<C>: Sized {
     ghost use Rattle.std.specs.Prelude.{◌≡◌, Result};
     ghost use Rattle.json.specs.Json.{Json as Data};
-    ghost use Rattle.json.specs.Value.{value_view as view};
     ghost use Rattle.ocpi_json.specs.declared.name.Name.{Name};
 
     ghost at_with: { C → Data → Result Self Name };
 
     fn from_node_with(listed: &C, node: &Node) -> Result<Self, Name>
-        ensures { result ≡ at_with listed.now (view node.now) };
+        ensures { result ≡ at_with listed.now node.now };
 }
 
 /// A type whose values stand in nodes, name what is listed, and take memory.
 pub trait FromNodeWithIn<C>: Sized {
     ghost use Rattle.std.specs.Prelude.{Result};
     ghost use Rattle.json.specs.Json.{Json as Data};
-    ghost use Rattle.json.specs.Value.{value_view as view};
     ghost use Rattle.ocpi_json.specs.Faults.{Finds};
     ghost use Rattle.ocpi_json.specs.declared.name.Name.{Name};
 
     ghost at_with: { C → Data → Result Self Name };
 
     fn from_node_with_in(alloc: Global, listed: &C, node: &Node) -> Result<Self, FieldFault>
-        ensures { Finds result (at_with listed.now (view node.now)) };
+        ensures { Finds result (at_with listed.now node.now) };
 }
 
 /// The values that stand in the nodes, in order.
 pub fn read_each_with<C, T: FromNodeWith<C> + Drop>(
     alloc: Global,
     listed: &C,
-    nodes: &[Node],
+    mut nodes: Nodes,
 ) -> Result<Sequence<T>, FieldFault>
-    ensures { Finds result (each (T.at_with listed.now) (map view nodes.now)) }
+    ensures { Finds result (each (T.at_with listed.now) nodes.entry) }
 {
     let mut values = Sequence::with_capacity(alloc, nodes.len())?;
-    for node in nodes {
-        values.push(T::from_node_with(listed, node)?)?;
+    while let Some(node) = nodes.next() {
+        values.push(T::from_node_with(listed, &node)?)?;
     }
     Ok(values)
 }
@@ -77,20 +74,20 @@ pub fn read_each_with<C, T: FromNodeWith<C> + Drop>(
 pub fn read_each_with_in<C, T: FromNodeWithIn<C> + Drop>(
     alloc: Global,
     listed: &C,
-    nodes: &[Node],
+    mut nodes: Nodes,
 ) -> Result<Sequence<T>, FieldFault>
-    ensures { Finds result (each (T.at_with listed.now) (map view nodes.now)) }
+    ensures { Finds result (each (T.at_with listed.now) nodes.entry) }
 {
     let mut values = Sequence::with_capacity(alloc, nodes.len())?;
-    for node in nodes {
-        values.push(T::from_node_with_in(alloc, listed, node)?)?;
+    while let Some(node) = nodes.next() {
+        values.push(T::from_node_with_in(alloc, listed, &node)?)?;
     }
     Ok(values)
 }
 
 #[tactic(auto, unfolding(crate::specs::ConfigParts::currency_at))]
 fn currency(currencies: &[Currency], node: &Node) -> Result<Currency, Name>
-    ensures { result ≡ currency_at currencies.now (view node.now) }
+    ensures { result ≡ currency_at currencies.now node.now }
 {
     let currency = members::currency(node, Name::Currency)?;
     ensure(has_currency(currencies, &currency), Name::Currency)?;
@@ -99,7 +96,7 @@ fn currency(currencies: &[Currency], node: &Node) -> Result<Currency, Name>
 
 #[tactic(auto, unfolding(crate::specs::ConfigParts::operator_at))]
 fn operator(listed: &Listed, node: &Node) -> Result<Party, Name>
-    ensures { result ≡ operator_at listed.now (view node.now) }
+    ensures { result ≡ operator_at listed.now node.now }
 {
     let operator = members::party(node, Name::Operator)?;
     let is_known = operator_among(listed.operators.as_slice(), &operator).is_some();
@@ -109,7 +106,7 @@ fn operator(listed: &Listed, node: &Node) -> Result<Party, Name>
 
 #[tactic(auto, unfolding(crate::specs::ConfigParts::provider_at))]
 fn provider(listed: &Listed, node: &Node) -> Result<Party, Name>
-    ensures { result ≡ provider_at listed.now (view node.now) }
+    ensures { result ≡ provider_at listed.now node.now }
 {
     let provider = members::party(node, Name::Provider)?;
     let is_known = provider_among(listed.providers.as_slice(), &provider).is_some();

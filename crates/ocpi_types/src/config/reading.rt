@@ -1,7 +1,6 @@
 //! Reading a configuration.
 
 ghost use Rattle.std.specs.Prelude.{◌≡◌};
-ghost use Rattle.json.specs.Value.{value_view as view};
 ghost use Rattle.ocpi_json.specs.Faults.{Finds};
 ghost use Rattle.ocpi_types.specs.Inner.ConfigStated.{config_from, config_in_parts, stated_at};
 ghost use Rattle.ocpi_types.specs.ConfigText.{currencies_at, listed_at, operators_at, providers_at, platforms_at, house_limits_at, pair_limits_at, stated_pair_limits_at, credit_window_at};
@@ -58,7 +57,7 @@ impl From<FieldFault> for ConfigFault {
 
 #[tactic(auto, unfolding(crate::specs::ConfigText::currencies_at))]
 fn read_currencies(alloc: Global, node: &Node) -> Result<Distinct<Currency, 16>, FieldFault>
-    ensures { Finds result (currencies_at (view node.now)) }
+    ensures { Finds result (currencies_at node.now) }
 {
     let nodes = fields::list(node, Name::Currencies, 1, 16)?;
     let currencies = parsed_each(alloc, nodes, Name::Currencies)?;
@@ -67,7 +66,7 @@ fn read_currencies(alloc: Global, node: &Node) -> Result<Distinct<Currency, 16>,
 
 #[tactic(auto, unfolding(crate::specs::ConfigText::operators_at))]
 fn read_operators(alloc: Global, node: &Node) -> Result<Distinct<Operator, 64>, FieldFault>
-    ensures { Finds result (operators_at (view node.now)) }
+    ensures { Finds result (operators_at node.now) }
 {
     let operators = read_each(alloc, fields::list(node, Name::Operators, 1, 64)?)?;
     Ok(Distinct::new(operators, Name::Operators)?)
@@ -79,7 +78,7 @@ fn read_providers(
     currencies: &Distinct<Currency, 16>,
     node: &Node,
 ) -> Result<Distinct<Provider, 64>, FieldFault>
-    ensures { Finds result (providers_at currencies.now (view node.now)) }
+    ensures { Finds result (providers_at currencies.now node.now) }
 {
     let nodes = fields::list(node, Name::Providers, 1, 64)?;
     let providers = read_each_with_in(alloc, currencies, nodes)?;
@@ -92,7 +91,7 @@ fn read_platforms(
     listed: &Listed,
     node: &Node,
 ) -> Result<Distinct<Platform, 128>, FieldFault>
-    ensures { Finds result (platforms_at listed.now (view node.now)) }
+    ensures { Finds result (platforms_at listed.now node.now) }
 {
     let nodes = fields::list(node, Name::Platforms, 1, 128)?;
     let platforms = read_each_with_in(alloc, listed, nodes)?;
@@ -101,7 +100,7 @@ fn read_platforms(
 
 #[tactic(auto, unfolding(crate::specs::ConfigText::house_limits_at))]
 fn read_limits(node: &Node) -> Result<Limits, Name>
-    ensures { result ≡ house_limits_at (view node.now) }
+    ensures { result ≡ house_limits_at node.now }
 {
     let limits = read_if_any(fields::object_or_none(node, Name::Limits)?)?;
     Ok(limits.unwrap_or(Limits::largest()))
@@ -113,7 +112,7 @@ fn read_stated_pair_limits(
     listed: &Listed,
     node: &Node,
 ) -> Result<Distinct<PairLimit, 4096>, FieldFault>
-    ensures { Finds result (stated_pair_limits_at listed.now (view node.now)) }
+    ensures { Finds result (stated_pair_limits_at listed.now node.now) }
 {
     let nodes = fields::list_or_empty(node, Name::PairLimits, 4096)?;
     let pair_limits = read_each_with(alloc, listed, nodes)?;
@@ -127,7 +126,7 @@ fn read_pair_limits(
     listed: &Listed,
     node: &Node,
 ) -> Result<Distinct<PairLimit, 4096>, FieldFault>
-    ensures { Finds result (pair_limits_at version listed.now (view node.now)) }
+    ensures { Finds result (pair_limits_at version listed.now node.now) }
 {
     if version == 2 {
         read_stated_pair_limits(alloc, listed, node)
@@ -138,7 +137,7 @@ fn read_pair_limits(
 
 #[tactic(auto, unfolding(crate::specs::ConfigText::credit_window_at))]
 fn read_credit_window(version: u64, node: &Node) -> Result<Option<AtMost<10_000>>, Name>
-    ensures { result ≡ credit_window_at version (view node.now) }
+    ensures { result ≡ credit_window_at version node.now }
 {
     if version == 2 {
         at_most_or_none(node, Name::CreditWindow, 0)
@@ -155,7 +154,7 @@ fn usual_tolerance() -> Tolerance
 
 #[tactic(auto, unfolding(crate::specs::ConfigText::listed_at))]
 fn read_listed(alloc: Global, node: &Node) -> Result<Listed, FieldFault>
-    ensures { Finds result (listed_at (view node.now)) }
+    ensures { Finds result (listed_at node.now) }
 {
     let currencies = read_currencies(alloc, node)?;
     let operators = read_operators(alloc, node)?;
@@ -183,7 +182,7 @@ fn read_stated(
     listed: &Listed,
     node: &Node,
 ) -> Result<Stated, FieldFault>
-    ensures { Finds result (stated_at version listed.now (view node.now)) }
+    ensures { Finds result (stated_at version listed.now node.now) }
 {
     let platforms = read_platforms(alloc, listed, node)?;
     let limits = read_limits(node)?;
@@ -214,7 +213,7 @@ fn config_of(tolerance: Tolerance, listed: Listed, stated: Stated) -> Config
 
 #[tactic(auto, unfolding(crate::specs::Inner::ConfigStated::config_in_parts))]
 fn read_parts(alloc: Global, node: &Node) -> Result<Config, FieldFault>
-    ensures { Finds result (config_in_parts (view node.now)) }
+    ensures { Finds result (config_in_parts node.now) }
 {
     let version = fields::whole(node, Name::Version, 1, 2)?;
     let tolerance = at_most_or_none(node, Name::Tolerance, 0)?.unwrap_or(usual_tolerance());
@@ -246,7 +245,7 @@ impl Config {
             return Err(ConfigFault::Syntax);
         }
         let mut room = Room::new(alloc);
-        let node = room.read(bytes)?;
-        Ok(Config::from_node_in(alloc, &node)?)
+        let line = room.read(bytes)?;
+        Ok(Config::from_node_in(alloc, &line.value())?)
     }
 }

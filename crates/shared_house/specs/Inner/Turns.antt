@@ -2,13 +2,14 @@
 use Rattle.std.specs.Prelude.{◌≡◌, ◌⊎◌, ◌≤◌, ◌<◌, ℕ, ◌+◌, nat_lt, Bool, List, [], ◌∷◌, Contains, count_by, length, take, if◌then◌else◌}
 use Rattle.std.specs.List.{flat_map}
 use Rattle.ocpi_types.specs.declared.config.Config.{Config}
+use Rattle.plain_house.specs.Laws.{adds_event}
 use Rattle.plain_house.specs.declared.event.Event.{Event}
 use Rattle.plain_house.specs.House.{events_after}
 use Rattle.plain_house.specs.Legal.{IsLegal}
 use Rattle.plain_house.specs.Replies.{is_no_memory}
 use Rattle.shared_house.specs.declared.made.Made.{Made}
 use Rattle.shared_house.specs.declared.certifying.turns.Turn.{Turn}
-use Rattle.shared_house.specs.Points.{adds_event, owns, point_of_reply, seen_behind}
+use Rattle.shared_house.specs.Points.{owns, point_of_reply, seen_behind}
 use Rattle.shared_house.specs.History.{Stands}
 
 -- a call that found memory, and what its pass has seen before it

@@ -9,13 +9,13 @@ ghost use Rattle.shared_house.specs.History.{BreaksFirst, IsOneHistory, Stands, 
 ghost use Rattle.shared_house.specs.Inner.Turns.{IsNext, Tears, plain_turn};
 
 use super::turns::{Turn, turns_in_order};
-use crate::made::{Made, adds_event};
+use crate::made::Made;
 use ocpi_json::same::Same;
 use ocpi_types::{Config, TryCopy};
 use period_order::BookHouse;
 use plain_house::{
-    Event, Sequential, commands_keep_lists_legal, empty_lists_are_legal, is_out_of_memory,
-    replies_tell_events,
+    Event, Sequential, adds_event, commands_keep_lists_legal, empty_lists_are_legal,
+    is_out_of_memory, replies_tell_events,
 };
 use std::alloc::{AllocError, Global};
 

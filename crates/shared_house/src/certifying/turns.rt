@@ -5,8 +5,8 @@ ghost use Rattle.std.specs.List.Sorted.{IsNonDecreasingBy, IsPermutation};
 ghost use Rattle.std.specs.Ordering.{nat_cmp};
 ghost use Rattle.shared_house.specs.Inner.Turns.{plain_turn, rank, turns_from, turns_of};
 
-use crate::made::{Made, adds_event};
-use plain_house::is_out_of_memory;
+use crate::made::Made;
+use plain_house::{adds_event, is_out_of_memory};
 use std::alloc::{AllocError, Global};
 use std::cmp::Ordering;
 

@@ -1,6 +1,5 @@
 -- There are as many values as items, so they fit.
 use Rattle.std.proofs.Common.{arith}
-use Rattle.json.specs.Value.{value_view as view}
 use Rattle.ocpi_json.specs.declared.name.Name.TheVariants as name
 use Rattle.ocpi_types.specs.ConfigParts.{platform_at}
 use Rattle.ocpi_types.proofs.Lists.{values_within}
@@ -8,4 +7,4 @@ use Rattle.ocpi_types.proofs.config.reading.read_platforms.Goals as goal
 
 pub new-requires : goal.new-requires
 new-requires c =
-    (omega arith, values_within (platform_at c.args.listed.now) view 1 128 name.Platforms (view c.args.node.now) c.in_ok-nodes.nodes.now c.in_ok-platforms.platforms c.in_ok-nodes.ensures c.in_ok-platforms.ensures)
+    (omega arith, values_within (platform_at c.args.listed.now) 1 128 name.Platforms c.args.node.now c.in_ok-nodes.nodes c.in_ok-platforms.platforms c.in_ok-nodes.ensures c.in_ok-platforms.ensures)

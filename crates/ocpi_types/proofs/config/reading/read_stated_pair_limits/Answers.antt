@@ -1,6 +1,5 @@
 -- There are as many values as items, so they fit.
 use Rattle.std.proofs.Common.{arith}
-use Rattle.json.specs.Value.{value_view as view}
 use Rattle.ocpi_json.specs.declared.name.Name.TheVariants as name
 use Rattle.ocpi_types.specs.ConfigParts.{pair_limit_at}
 use Rattle.ocpi_types.proofs.Lists.{optional_values_within}
@@ -8,4 +7,4 @@ use Rattle.ocpi_types.proofs.config.reading.read_stated_pair_limits.Goals as goa
 
 pub new-requires : goal.new-requires
 new-requires c =
-    (omega arith, optional_values_within (pair_limit_at c.args.listed.now) view 4096 name.PairLimits (view c.args.node.now) c.in_ok-nodes.nodes.now c.in_ok-pair_limits.pair_limits c.in_ok-nodes.ensures c.in_ok-pair_limits.ensures)
+    (omega arith, optional_values_within (pair_limit_at c.args.listed.now) 4096 name.PairLimits c.args.node.now c.in_ok-nodes.nodes c.in_ok-pair_limits.pair_limits c.in_ok-nodes.ensures c.in_ok-pair_limits.ensures)

@@ -1,6 +1,5 @@
-use Rattle.json.specs.Value.{value_view as view}
 use Rattle.ocpi_types.proofs.InParts.{restrictions}
 use Rattle.ocpi_types.proofs.restrictions.RestrictionsFromNodeIn.from_node_in.Goals as goal
 
 pub returns : goal.returns
-returns c = rw (restrictions (view c.args.node.now)) c.read_parts.ensures
+returns c = rw (restrictions c.args.node.now) c.read_parts.ensures

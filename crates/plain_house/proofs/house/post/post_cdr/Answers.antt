@@ -1,4 +1,4 @@
-use Rattle.std.proofs.Common.{◌≡◌, ◌∙◌, ap, sym, false, List, None, subst}
+use Rattle.std.proofs.Common.{◌≡◌, ◌∙◌, ap, sym, true, false, List, None, Err, subst, rules}
 use Rattle.std.specs.Prelude.{option_map}
 use Rattle.plain_house.specs.declared.event.Event.{Event}
 use Rattle.plain_house.specs.Booked.{booked_as, shown_booked}
@@ -7,7 +7,7 @@ use Rattle.plain_house.specs.Known.{known}
 use Rattle.plain_house.specs.Replies.{Follows}
 use Rattle.plain_house.specs.Tariffs.{lacks_registered}
 use Rattle.plain_house.specs.Verdict.{Verdict}
-use Rattle.plain_house.proofs.PostedLemmas.{cdr_left}
+use Rattle.plain_house.proofs.PostedLemmas.{cdr_left, cdr_unregistered}
 use Rattle.plain_house.proofs.house.post.post_cdr.Goals as goal
 
 pub returns : goal.returns
@@ -20,3 +20,14 @@ returns c =
     ap (λ (l : List Event). lacks_registered cdr (book_entries l)) (sym c.as_slice-2.ensures.value) ∙ (sym c.lacks_registered.ensures ∙ c.if-lacks_registered.false) in
     subst (λ (verdict : Verdict). Follows verdict events c.book_cdr.result c.book_cdr.new.events.items)
     (cdr_left c.args.config.now (known events) cdr unknown c.args.cost registered) c.book_cdr.ensures
+
+pub returns-then-lacks_registered : goal.returns-then-lacks_registered
+returns-then-lacks_registered c =
+    let events = c.args.events.now.items in
+    let cdr = c.args.cdr in
+    let unknown : booked_as cdr.operator cdr.id (book_entries events) ≡ None =
+    ap (λ (l : List Event). booked_as cdr.operator cdr.id (book_entries l)) (sym c.as_slice.ensures.value) ∙ (sym c.booked_as.ensures ∙ ap (option_map shown_booked) c.in_default.is) in
+    let unregistered : lacks_registered cdr (book_entries events) ≡ true =
+    ap (λ (l : List Event). lacks_registered cdr (book_entries l)) (sym c.as_slice-2.ensures.value) ∙ (sym c.lacks_registered.ensures ∙ c.if-lacks_registered.true) in
+    subst (λ (verdict : Verdict). Follows verdict events (Err c.refused.result) events)
+    (cdr_unregistered c.args.config.now (known events) cdr unknown c.args.cost unregistered) (search rules)

@@ -1,7 +1,7 @@
 use Rattle.std.proofs.Common.{◌≡◌, ◌↔◌, ◌-◌, ℕ, List, Some, true, false, refl, sym, ap, ◌∙◌, subst, length, slice_get}
+use Rattle.plain_house.specs.Laws.{adds_event}
 use Rattle.plain_house.specs.declared.event.Event.{Event}
 use Rattle.plain_house.specs.House.{reply_of}
-use Rattle.shared_house.specs.Points.{adds_event}
 use Rattle.shared_house.specs.History.{events_before}
 use Rattle.shared_house.proofs.StandLemmas.{answered, stands_adding, stands_silent}
 use Rattle.shared_house.proofs.certifying.replay.stands.Goals as goal

@@ -1,6 +1,5 @@
-use Rattle.json.specs.Value.{value_view as view}
 use Rattle.ocpi_types.proofs.InParts.{cdr}
 use Rattle.ocpi_types.proofs.cdr.reading.CdrFromNodeIn.from_node_in.Goals as goal
 
 pub returns : goal.returns
-returns c = rw (cdr (view c.args.node.now)) c.read_in_parts.ensures
+returns c = rw (cdr c.args.node.now) c.read_in_parts.ensures

@@ -1,0 +1,22 @@
+-- How many arrays and objects are open along the tokens of a value.
+use Rattle.std.specs.Prelude.{ℕ, ◌+◌, ◌-◌, List, [], ◌∷◌, Bool, true, ◌&&◌, nat_le}
+use Rattle.json.specs.Token.{Token}
+use Rattle.ocpi_json.specs.Reading.{max_depth}
+
+-- how many are open behind the token, where so many are before it
+abbrev pub level : ℕ → Token → ℕ
+level deep Token.begin_object = deep + 1
+level deep Token.end_object = deep - 1
+level deep Token.begin_array = deep + 1
+level deep Token.end_array = deep - 1
+level deep (Token.key s) = deep
+level deep (Token.string s) = deep
+level deep (Token.number s) = deep
+level deep (Token.boolean b) = deep
+level deep Token.null = deep
+level deep Token.bad = deep
+
+-- no more than may nest are open anywhere, where so many are before the tokens
+abbrev pub stays_within : ℕ → List Token → Bool
+stays_within deep [] = true
+stays_within deep (t ∷ ts) = nat_le (level deep t) max_depth && stays_within (level deep t) ts
