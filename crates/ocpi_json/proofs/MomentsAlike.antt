@@ -1,5 +1,5 @@
 -- Instants, dates and times of day that are the same by their numbers.
-use Rattle.std.proofs.Common.{◌≡◌, ◌≤◌, ◌<◌, ℕ, ℤ}
+use Rattle.std.proofs.Common.{◌≡◌, ◌<◌, ℕ, ℤ}
 use mathlib.Core.HLevel.{is_prop→PathP}
 use native.Mathlib.Bridge.{le_prop}
 use lib.Dec.{T_prop}

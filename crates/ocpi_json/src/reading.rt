@@ -63,6 +63,7 @@ fn stays_within(nodes: &[Node]) -> bool
 fn line_in<'a>(bump: &'a Bump, text: &'a str, scratch: &'a mut Scratch) -> Result<Line<'a>, Error>
     ensures ok { IfOk result (λ line. value_of text.now ≡ Some line) }
     ensures invalid { IsErrOf result Error.Invalid → value_of text.now ≡ None }
+    ensures never_duplicate { IsErrOf result Error.DuplicateKey → ⊥ }
 {
     let tape = Tape::parse(text, scratch, Vec::new(bump))?;
     if !stays_within(tape.nodes()) {
@@ -99,7 +100,8 @@ impl Room {
         match line_in(&self.bump, text, &mut self.scratch) {
             Ok(line) => Ok(line),
             Err(Error::Invalid) => Err(ReadFault::Syntax),
-            Err(_) => Err(ReadFault::NoMemory),
+            Err(Error::OutOfMemory | Error::TooLong) => Err(ReadFault::NoMemory),
+            Err(Error::DuplicateKey) => unreachable!(),
         }
     }
 }

@@ -1,6 +1,7 @@
 -- Words that only private contracts and proofs use.
 pub mod CdrParts
 pub mod ConfigStated
+pub mod Kept
 pub mod RestrictionParts
 pub mod SameCdr
 pub mod SameTariff

@@ -3,12 +3,12 @@ ghost use Rattle.ocpi_json.specs.Faults.{Finds};
 ghost use Rattle.ocpi_types.specs.Dimension.{dimension_kind_at};
 
 use super::copying::TryCopy;
+use super::kind_text::KindText;
 use exact_money::Millionths;
 use ocpi_json::Node;
 use ocpi_json::fields::{self, FieldFault};
 use ocpi_json::name::Name;
 use ocpi_json::objects::FromNodeIn;
-use ocpi_json::text::Text;
 use std::alloc::{AllocError, Global};
 
 /// What a volume counts (OCPI 2.2.1, CdrDimensionType enum). Every text that is none of the four is kept.
@@ -18,7 +18,7 @@ pub enum DimensionKind {
     ParkingTime,
     ReservationTime,
     Time,
-    Other(Text),
+    Other(KindText),
 }
 
 /// A volume of a charging period (OCPI 2.2.1, CdrDimension object). Its `type` is the field `kind`.
@@ -56,7 +56,7 @@ fn read_kind(alloc: Global, node: &Node) -> Result<DimensionKind, FieldFault>
         "PARKING_TIME" => Ok(DimensionKind::ParkingTime),
         "RESERVATION_TIME" => Ok(DimensionKind::ReservationTime),
         "TIME" => Ok(DimensionKind::Time),
-        other => Ok(DimensionKind::Other(Text::new(alloc, other)?)),
+        other => Ok(DimensionKind::Other(KindText::new(alloc, other)?)),
     }
 }
 

@@ -8,6 +8,7 @@ use crate::cdr::Cdr;
 use crate::cdr_token::{AuthMethod, CdrToken};
 use crate::charging_period::ChargingPeriod;
 use crate::dimension::{Dimension, DimensionKind};
+use crate::kind_text::KindText;
 use crate::tariff::Tariff;
 use exact_money::Millionths;
 use ocpi_json::ci_text::CiText;
@@ -52,6 +53,16 @@ impl Part for CdrToken {
             && self.uid == other.uid
             && self.kind.is(other.kind)
             && self.contract_id == other.contract_id
+    }
+}
+
+impl Part for KindText {
+    ghost use Rattle.std.specs.Str.{bytes_eq};
+
+    ghost same = { bytes_eq };
+
+    fn is_same(&self, other: &KindText) -> bool {
+        self.as_str() == other.as_str()
     }
 }
 

@@ -1,4 +1,4 @@
-use Rattle.std.proofs.Common.{◌≡◌, sym, ap₂, ◌∙◌}
+use Rattle.std.proofs.Common.{sym, ap₂, ◌∙◌}
 use Rattle.ocpi_json.specs.Folded.{same_folded}
 use Rattle.ocpi_json.specs.Inner.Cells.{written}
 use Rattle.ocpi_json.proofs.Printable.{cells_folded, told_alike}
