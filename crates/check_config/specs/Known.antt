@@ -1,9 +1,12 @@
 -- The members that the objects of a configuration have, and which of them a misspelt name means.
 use Rattle.std.specs.Cmp.Lexicographic.{pointwise}
-use Rattle.std.specs.Prelude.{ℕ, ◌==◌, List, [], ◌∷◌, Bool, Option, None, find, map, nat_eq, nat_le, nat_lt, length, if◌then◌else◌}
+use Rattle.std.specs.Prelude.{ℕ, ◌==◌, List, [], ◌∷◌, Bool, Option, None, find, map, nat_eq, nat_le, nat_lt, length, if◌then◌else◌, option_and_then, unwrap_or}
 use Rattle.std.specs.Char.{to_ascii_lowercase}
 use Rattle.std.specs.Str.{chars}
+use Rattle.json.specs.Find.{get}
+use Rattle.json.specs.Json.{Json as Data}
 use Rattle.strsim.specs.Edits.{levenshtein_row}
+use Rattle.ocpi_json.specs.Fields.{as_items}
 use Rattle.ocpi_json.specs.Name.{key_text}
 use Rattle.ocpi_json.specs.declared.name.Name.{Name}
 use Rattle.ocpi_json.specs.declared.name.Name.TheVariants.{Version, Tolerance, Currencies, Providers, Limits, CreditWindow, Party, Zone, Name as NameMember, Parties, Hub, Operator, Provider, Currency, Limit, Hold, Cdrs, Tariffs, Entries, Order, Periods, Operators as OperatorsMember, Platforms as PlatformsMember, PairLimits as PairLimitsMember}
@@ -11,6 +14,24 @@ use Rattle.check_config.specs.declared.objects.Listing.{Listing}
 use Rattle.check_config.specs.declared.objects.Listing.TheVariants.{Operators, Providers as ProvidersListing, Platforms, PairLimits}
 use Rattle.check_config.specs.declared.objects.Place.{Place}
 use Rattle.check_config.specs.declared.objects.Place.TheVariants.{Whole, Item, LimitOf, Limits as LimitsPlace}
+
+-- the member of a configuration that is the list
+abbrev pub list_name : Listing → Name
+list_name Operators = OperatorsMember
+list_name ProvidersListing = Providers
+list_name Platforms = PlatformsMember
+list_name PairLimits = PairLimitsMember
+
+-- the members by which the items of the list differ
+abbrev pub item_keys : Listing → List Name
+item_keys Operators = Party ∷ []
+item_keys ProvidersListing = Party ∷ []
+item_keys Platforms = NameMember ∷ []
+item_keys PairLimits = Operator ∷ Provider ∷ Currency ∷ []
+
+-- the items of that member, and none where it is no array
+abbrev pub items_at : Name → Data → List Data
+items_at called node = unwrap_or (option_and_then as_items (get (key_text called) node)) []
 
 abbrev pub item_members : Listing → List Name
 item_members Operators = Party ∷ Zone ∷ []

@@ -41,11 +41,20 @@ impl<'a> From<StartFault<'a>> for Fault<'a> {
 }
 
 impl Fault<'_> {
+    ghost use Rattle.std.specs.Prelude.{◌≡◌};
+    ghost use Rattle.check_config.specs.Status.{status_of};
+
     /// The exit status.
-    pub fn status(&self) -> u8 {
+    pub fn status(&self) -> u8
+        ensures { result ≡ status_of self.now }
+    {
         match self {
             Fault::Usage => 2,
-            _ => 1,
+            Fault::CannotRead { .. }
+            | Fault::CannotWrite
+            | Fault::TooLong
+            | Fault::NoJson { .. }
+            | Fault::NoMemory => 1,
         }
     }
 }

@@ -3,6 +3,7 @@
 ghost use Rattle.std.specs.Prelude.{◌≡◌, ◌↔◌, IsTrue, Ok};
 ghost use Rattle.ocpi_json.specs.Fields.{required, as_whole};
 ghost use Rattle.ocpi_json.specs.declared.name.Name.TheVariants.{Version};
+ghost use Rattle.check_config.specs.Known.{items_at};
 
 use ocpi_json::name::Name;
 use ocpi_json::{Node, Nodes, fields};
@@ -20,9 +21,11 @@ pub enum Listing {
 
 impl Listing {
     ghost use Rattle.std.specs.Prelude.{◌≡◌};
-    ghost use Rattle.check_config.specs.Known.{item_members};
+    ghost use Rattle.check_config.specs.Known.{item_keys, item_members, list_name};
 
-    pub fn name(self) -> Name {
+    pub fn name(self) -> Name
+        ensures { result ≡ list_name self }
+    {
         match self {
             Listing::Operators => Name::Operators,
             Listing::Providers => Name::Providers,
@@ -44,7 +47,9 @@ impl Listing {
     }
 
     /// The members by which its items differ.
-    pub fn keys(self) -> &'static [Name] {
+    pub fn keys(self) -> &'static [Name]
+        ensures { result.now ≡ item_keys self }
+    {
         match self {
             Listing::Operators | Listing::Providers => &[Name::Party],
             Listing::Platforms => &[Name::Name],
@@ -128,7 +133,9 @@ pub fn is_of_version_1(whole: &Node) -> bool
 }
 
 /// The items of a member, and none where it is no array.
-pub fn items<'a>(node: &Node<'a>, name: Name) -> Nodes<'a> {
+pub fn items<'a>(node: &Node<'a>, name: Name) -> Nodes<'a>
+    ensures { result ≡ items_at name node.now }
+{
     match node.get(name.key()) {
         Some(member) => member.items().unwrap_or(Nodes::none()),
         None => Nodes::none(),
