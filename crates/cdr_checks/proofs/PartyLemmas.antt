@@ -1,5 +1,5 @@
 -- An admitted command is of configured parties.
-use Rattle.std.proofs.Common.{◌≡◌, List, ℕ, Bool, true, false, is_some, refl, ap, sym, subst, ◌∙◌, Option, Some, None, Result, Ok, Err}
+use Rattle.std.proofs.Common.{◌≡◌, List, ℕ, Bool, true, false, is_some, refl, ap, sym, subst, ◌∙◌, Some, None, Result, Ok, Err}
 use Rattle.ocpi_types.specs.declared.config.Config.{Config}
 use Rattle.ocpi_types.specs.declared.party.Party.{Party}
 use Rattle.ocpi_types.specs.declared.refusal.Refusal.{Refusal}

@@ -9,8 +9,8 @@ use super::charging_period::ChargingPeriod;
 use super::copying::TryCopy;
 use super::currency::Currency;
 use super::party::Party;
+use super::shared_list::SharedUpTo;
 use super::tariff::Tariff;
-use super::up_to::UpTo;
 use exact_money::Millionths;
 use jiff::Timestamp;
 use ocpi_json::ci_text::CiText;
@@ -30,7 +30,7 @@ pub struct Cdr {
     pub authorization_reference: Option<CiText<36>>,
     pub currency: Currency,
     pub tariffs: Sequence<Tariff>,
-    pub charging_periods: UpTo<ChargingPeriod, 1000>,
+    pub charging_periods: SharedUpTo<ChargingPeriod, 1000>,
     /// Without tax, in millionths of the currency unit.
     pub total_cost: Millionths,
     /// In millionths of a kWh.

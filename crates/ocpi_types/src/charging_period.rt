@@ -2,7 +2,6 @@ ghost use Rattle.std.specs.Prelude.{◌≡◌};
 ghost use Rattle.std.specs.List.{list_all};
 ghost use Rattle.ocpi_types.specs.Dimension.{is_in_range};
 
-use super::copying::TryCopy;
 use super::dimension::Dimension;
 use super::up_to::{UpTo, read_up_to};
 use jiff::Timestamp;
@@ -11,7 +10,7 @@ use ocpi_json::ci_text::CiText;
 use ocpi_json::fields::{self, FieldFault};
 use ocpi_json::name::Name;
 use ocpi_json::objects::FromNodeIn;
-use std::alloc::{AllocError, Global};
+use std::alloc::Global;
 
 /// What a session counted from a moment on (OCPI 2.2.1, ChargingPeriod object).
 #[derive(Drop)]
@@ -54,17 +53,6 @@ impl FromNodeIn for ChargingPeriod {
             start_date_time,
             dimensions,
             tariff_id,
-        })
-    }
-}
-
-impl TryCopy for ChargingPeriod {
-    fn copy(&self, alloc: Global) -> Result<ChargingPeriod, AllocError> {
-        let dimensions = self.dimensions.copy(alloc)?;
-        Ok(ChargingPeriod {
-            start_date_time: self.start_date_time,
-            dimensions,
-            tariff_id: self.tariff_id,
         })
     }
 }

@@ -2,14 +2,13 @@ ghost use Rattle.std.specs.Prelude.{◌≡◌};
 ghost use Rattle.ocpi_json.specs.Faults.{Finds};
 ghost use Rattle.ocpi_types.specs.Dimension.{dimension_kind_at};
 
-use super::copying::TryCopy;
 use super::kind_text::KindText;
 use exact_money::Millionths;
 use ocpi_json::Node;
 use ocpi_json::fields::{self, FieldFault};
 use ocpi_json::name::Name;
 use ocpi_json::objects::FromNodeIn;
-use std::alloc::{AllocError, Global};
+use std::alloc::Global;
 
 /// What a volume counts (OCPI 2.2.1, CdrDimensionType enum). Every text that is none of the four is kept.
 #[derive(Drop)]
@@ -70,27 +69,5 @@ impl FromNodeIn for Dimension {
         let kind = read_kind(alloc, node)?;
         let volume = fields::number(node, Name::Volume)?;
         Ok(Dimension { kind, volume })
-    }
-}
-
-impl TryCopy for DimensionKind {
-    fn copy(&self, alloc: Global) -> Result<DimensionKind, AllocError> {
-        match self {
-            DimensionKind::Energy => Ok(DimensionKind::Energy),
-            DimensionKind::ParkingTime => Ok(DimensionKind::ParkingTime),
-            DimensionKind::ReservationTime => Ok(DimensionKind::ReservationTime),
-            DimensionKind::Time => Ok(DimensionKind::Time),
-            DimensionKind::Other(text) => Ok(DimensionKind::Other(text.copy(alloc)?)),
-        }
-    }
-}
-
-impl TryCopy for Dimension {
-    fn copy(&self, alloc: Global) -> Result<Dimension, AllocError> {
-        let kind = self.kind.copy(alloc)?;
-        Ok(Dimension {
-            kind,
-            volume: self.volume,
-        })
     }
 }

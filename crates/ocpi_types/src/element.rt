@@ -1,14 +1,11 @@
-ghost use Rattle.std.specs.Prelude.{◌≡◌, IfOk};
-
 use super::component::PriceComponent;
-use super::copying::{TryCopy, copied};
 use super::restrictions::Restrictions;
 use ocpi_json::Node;
 use ocpi_json::fields::{self, FieldFault};
 use ocpi_json::name::Name;
 use ocpi_json::objects::{FromNodeIn, read_each, read_if_any_in};
 use ocpi_json::sequence::Sequence;
-use std::alloc::{AllocError, Global};
+use std::alloc::Global;
 
 /// Price components under one set of restrictions (OCPI 2.2.1, TariffElement object).
 #[derive(Drop)]
@@ -28,29 +25,6 @@ impl FromNodeIn for Element {
         let price_components = read_each(alloc, items)?;
         let found = fields::object_or_none(node, Name::Restrictions)?;
         let restrictions = read_if_any_in(alloc, found)?;
-        Ok(Element {
-            price_components,
-            restrictions,
-        })
-    }
-}
-
-fn copy_restrictions(
-    alloc: Global,
-    restrictions: &Option<Restrictions>,
-) -> Result<Option<Restrictions>, AllocError>
-    ensures { IfOk result (λ copy. copy ≡ restrictions.now) }
-{
-    match restrictions {
-        Some(restrictions) => Ok(Some(restrictions.copy(alloc)?)),
-        None => Ok(None),
-    }
-}
-
-impl TryCopy for Element {
-    fn copy(&self, alloc: Global) -> Result<Element, AllocError> {
-        let price_components = copied(alloc, &self.price_components)?;
-        let restrictions = copy_restrictions(alloc, &self.restrictions)?;
         Ok(Element {
             price_components,
             restrictions,

@@ -2,7 +2,6 @@
 
 ghost use Rattle.std.specs.Prelude.{◌≡◌, IfOk};
 
-use super::copying::TryCopy;
 use ocpi_json::same::Same;
 use ocpi_json::text::Text;
 use std::alloc::{AllocError, Global};
@@ -19,7 +18,7 @@ enum Kept {
     MinPower,
     Power,
     StateOfCharge,
-    Text(Text),
+    Text(Box<Text>),
 }
 
 /// A text that names a kind, compared byte by byte. The words of OCPI 2.2.1 (CdrDimensionType enum) take no memory.
@@ -51,7 +50,7 @@ impl KindText {
             "MIN_POWER" => Kept::MinPower,
             "POWER" => Kept::Power,
             "STATE_OF_CHARGE" => Kept::StateOfCharge,
-            other => Kept::Text(Text::new(alloc, other)?),
+            other => Kept::Text(Box::new(alloc, Text::new(alloc, other)?)?),
         };
         Ok(KindText { kept })
     }
@@ -71,12 +70,6 @@ impl KindText {
             Kept::StateOfCharge => "STATE_OF_CHARGE",
             Kept::Text(text) => text.as_str(),
         }
-    }
-}
-
-impl TryCopy for KindText {
-    fn copy(&self, alloc: Global) -> Result<KindText, AllocError> {
-        KindText::new(alloc, self.as_str())
     }
 }
 

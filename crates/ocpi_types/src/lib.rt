@@ -44,7 +44,7 @@ pub use party::Party;
 pub use refusal::{Refusal, Store};
 pub use restrictions::{ElectricBounds, Restrictions, Seconds};
 pub use same_content::{same_cdr, same_tariff};
-pub use shared_list::SharedList;
+pub use shared_list::{SharedList, SharedUpTo};
 pub use tariff::Tariff;
 pub use token::{Token, TokenKind};
 pub use up_to::UpTo;

@@ -1,10 +1,9 @@
-ghost use Rattle.std.specs.Prelude.{◌≡◌, IfOk};
+ghost use Rattle.std.specs.Prelude.{◌≡◌};
 ghost use Rattle.ocpi_json.specs.Faults.{Finds};
 ghost use Rattle.ocpi_types.specs.Inner.RestrictionParts.{times_at, bounds_at, restrictions_in_parts};
 ghost use Rattle.ocpi_types.specs.Restrictions.{days_at, electric_bounds_at};
 
 use super::bounded::AtMost;
-use super::copying::{TryCopy, copied};
 use super::day_of_week::DayOfWeek;
 use super::members::{self, Quantity};
 use jiff::civil::{Date, Time};
@@ -14,7 +13,7 @@ use ocpi_json::name::Name;
 use ocpi_json::objects::{FromNodeIn, parsed_each};
 use ocpi_json::sequence::Sequence;
 use ocpi_json::text::Text;
-use std::alloc::{AllocError, Global};
+use std::alloc::Global;
 
 /// A whole number of seconds.
 pub type Seconds = AtMost<999_999_999_999_999_999>;
@@ -152,34 +151,5 @@ impl FromNodeIn for Restrictions {
 
     fn from_node_in(alloc: Global, node: &Node) -> Result<Restrictions, FieldFault> {
         read_parts(alloc, node)
-    }
-}
-
-fn copy_text(alloc: Global, text: &Option<Text>) -> Result<Option<Text>, AllocError>
-    ensures { IfOk result (λ copy. copy ≡ text.now) }
-{
-    match text {
-        Some(text) => Ok(Some(text.copy(alloc)?)),
-        None => Ok(None),
-    }
-}
-
-impl TryCopy for Restrictions {
-    fn copy(&self, alloc: Global) -> Result<Restrictions, AllocError> {
-        let day_of_week = copied(alloc, &self.day_of_week)?;
-        let reservation = copy_text(alloc, &self.reservation)?;
-        Ok(Restrictions {
-            start_time: self.start_time,
-            end_time: self.end_time,
-            start_date: self.start_date,
-            end_date: self.end_date,
-            min_kwh: self.min_kwh,
-            max_kwh: self.max_kwh,
-            min_duration: self.min_duration,
-            max_duration: self.max_duration,
-            day_of_week,
-            reservation,
-            electric: self.electric,
-        })
     }
 }

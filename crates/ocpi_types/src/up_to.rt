@@ -1,13 +1,12 @@
-ghost use Rattle.std.specs.Prelude.{◌≡◌, ◌≤◌, length, IfOk};
+ghost use Rattle.std.specs.Prelude.{◌≤◌, length};
 ghost use Rattle.ocpi_json.specs.Faults.{Finds};
 ghost use Rattle.ocpi_json.specs.Members.{each};
 
-use super::copying::TryCopy;
 use ocpi_json::Nodes;
 use ocpi_json::fields::FieldFault;
 use ocpi_json::objects::{FromNodeIn, read_each_in};
 use ocpi_json::sequence::Sequence;
-use std::alloc::{AllocError, Global};
+use std::alloc::Global;
 use std::marker::Model;
 
 /// A list of at most `MOST` items.
@@ -62,11 +61,4 @@ pub fn read_up_to<T: FromNodeIn + Drop, const MOST: usize>(
 {
     let values = read_each_in(alloc, nodes)?;
     Ok(UpTo::new(values).unwrap())
-}
-
-impl<T: TryCopy + Drop, const MOST: usize> TryCopy for UpTo<T, MOST> {
-    fn copy(&self, alloc: Global) -> Result<UpTo<T, MOST>, AllocError> {
-        let items = self.items.copy(alloc)?;
-        Ok(UpTo { items })
-    }
 }

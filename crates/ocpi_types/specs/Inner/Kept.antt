@@ -13,4 +13,4 @@ text_of kept.MinCurrent = codes "MIN_CURRENT"
 text_of kept.MinPower = codes "MIN_POWER"
 text_of kept.Power = codes "POWER"
 text_of kept.StateOfCharge = codes "STATE_OF_CHARGE"
-text_of (kept.Text text) = text
+text_of (kept.Text text) = text.value

@@ -13,8 +13,9 @@ use crate::charging_period::ChargingPeriod;
 use crate::currency::Currency;
 use crate::members;
 use crate::party::Party;
+use crate::shared_list::SharedUpTo;
 use crate::tariff::Tariff;
-use crate::up_to::{UpTo, read_up_to};
+use crate::up_to::read_up_to;
 use exact_money::Millionths;
 use jiff::Timestamp;
 use ocpi_json::Node;
@@ -40,10 +41,11 @@ fn read_tariffs(alloc: Global, node: &Node) -> Result<Sequence<Tariff>, FieldFau
 }
 
 #[tactic(auto, unfolding(crate::specs::Cdr::periods_at))]
-fn read_periods(alloc: Global, node: &Node) -> Result<UpTo<ChargingPeriod, 1000>, FieldFault>
+fn read_periods(alloc: Global, node: &Node) -> Result<SharedUpTo<ChargingPeriod, 1000>, FieldFault>
     ensures { Finds result (periods_at node.now) }
 {
-    read_up_to(alloc, fields::list(node, Name::ChargingPeriods, 1, 1000)?)
+    let periods = read_up_to(alloc, fields::list(node, Name::ChargingPeriods, 1, 1000)?)?;
+    Ok(SharedUpTo::new(alloc, periods)?)
 }
 
 #[tactic(auto, unfolding(crate::specs::Cdr::cost_at))]
@@ -157,7 +159,7 @@ struct Parts {
     opening: Opening,
     authorised: Authorised,
     tariffs: Sequence<Tariff>,
-    charging_periods: UpTo<ChargingPeriod, 1000>,
+    charging_periods: SharedUpTo<ChargingPeriod, 1000>,
     totals: Totals,
 }
 
