@@ -1,5 +1,5 @@
 -- What the charging periods of a session count (OCPI 2.2.1, CDR object, ChargingPeriod object and CdrDimension object).
-use Rattle.std.specs.Prelude.{ℕ, ◌+◌, ◌*◌, ◌/◌, Bool, false, List, [], ◌∷◌, ◌++◌, filter, sum_by, Option, Some, None, unsigned_abs}
+use Rattle.std.specs.Prelude.{ℕ, ◌+◌, ◌*◌, ◌/◌, ◌^◌, Bool, false, List, [], ◌∷◌, ◌++◌, filter, sum_by, Option, Some, None, unsigned_abs}
 use Rattle.std.specs.Option.{option_map_or}
 use Rattle.ocpi_types.specs.Component.{same_component_kind}
 use Rattle.ocpi_types.specs.declared.charging_period.ChargingPeriod.{ChargingPeriod}
@@ -34,6 +34,13 @@ volume_in component.Energy period = millionths_in component.Energy period
 volume_in component.ParkingTime period = seconds_of_hours (millionths_in component.ParkingTime period)
 volume_in component.Time period = seconds_of_hours (millionths_in component.Time period)
 volume_in component.Flat period = 0
+
+-- no period is charged for more, since it has at most 100 dimensions of at most 10^15 millionths each
+abbrev pub most_volume : ComponentKind → ℕ
+most_volume component.Energy = 10 ^ 17
+most_volume component.ParkingTime = 4 * 10 ^ 14
+most_volume component.Time = 4 * 10 ^ 14
+most_volume component.Flat = 0
 
 -- the energy of periods, in millionths of a kWh
 abbrev pub energy_of : List ChargingPeriod → ℕ

@@ -1,5 +1,5 @@
 ghost use Rattle.std.specs.Prelude.{◌≡◌, ◌*◌, ◌^◌, ◌≤◌, ℤ, unsigned_abs};
-ghost use Rattle.cdr_rating.specs.Volumes.{charges_for, charging_kind, energy_of, millionths_in, seconds_of_hours, volume_in};
+ghost use Rattle.cdr_rating.specs.Volumes.{charges_for, charging_kind, energy_of, millionths_in, most_volume, seconds_of_hours, volume_in};
 
 use ocpi_types::{Cdr, ChargingPeriod, ComponentKind, Dimension, DimensionKind};
 
@@ -81,7 +81,7 @@ pub(crate) fn time_in(period: &ChargingPeriod) -> u128
 /// and none where the component is due once.
 pub fn volume_in(kind: ComponentKind, period: &ChargingPeriod) -> u128
     ensures value { result ≡ volume_in kind period.now }
-    ensures bound { result ≤ 10 ^ 17 }
+    ensures bound { result ≤ most_volume kind }
 {
     match kind {
         ComponentKind::Energy => energy_in(period),

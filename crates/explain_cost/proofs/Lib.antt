@@ -2,4 +2,3 @@ pub mod AddedRows
 pub mod DigitLemmas
 pub mod DigitValues
 pub mod SameSums
-pub mod VolumeBounds

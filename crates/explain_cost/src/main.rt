@@ -13,7 +13,6 @@ mod numbers;
 mod record;
 mod row;
 mod rows;
-mod volume;
 
 use explained::explain_text;
 use fault::Fault;

@@ -7,7 +7,6 @@ ghost use Rattle.cdr_rating.specs.Volumes.{volume_in};
 ghost use Rattle.explain_cost.specs.Costs.{cost_rows, flat_rows, last_above_zero, row_at, step_rows, stepped_rows, time_rows, volume_rows, whole_volume};
 
 use super::row::{Row, Source, row_of, step_of};
-use super::volume::volume_of;
 use cdr_rating::{active_component, up_to_step, volume_in};
 use ocpi_types::{Cdr, ChargingPeriod, ComponentKind, Zone};
 use std::alloc::{AllocError, Global};
@@ -29,7 +28,7 @@ fn period_row(
         Source::Period { number },
         component.price,
         component.step_size,
-        volume_of(kind, period),
+        volume_in(kind, period),
     ))
 }
 
