@@ -65,8 +65,8 @@ fn read_tariff(alloc: Global, node: &Node) -> Result<Ask, FieldFault>
 
 #[inline(never)]
 #[tactic(auto, unfolding(crate::specs::RequestText::token_ask_at))]
-fn read_token(node: &Node) -> Result<Ask, Name>
-    ensures { result ≡ token_ask_at node.now }
+fn read_token(node: &Node) -> Result<Ask, FieldFault>
+    ensures { Finds result (token_ask_at node.now) }
 {
     let token = Token::from_node(&fields::object(node, Name::Token)?)?;
     Ok(Ask::PutToken(token))
@@ -80,8 +80,8 @@ fn kind_or_rfid(kind: Option<TokenKind>) -> TokenKind
 
 #[inline(never)]
 #[tactic(auto, unfolding(crate::specs::RequestText::authorize_at))]
-fn read_authorize(node: &Node) -> Result<Ask, Name>
-    ensures { result ≡ authorize_at node.now }
+fn read_authorize(node: &Node) -> Result<Ask, FieldFault>
+    ensures { Finds result (authorize_at node.now) }
 {
     let operator = members::party(node, Name::Operator)?;
     let provider = members::party(node, Name::Provider)?;
@@ -99,8 +99,8 @@ fn read_authorize(node: &Node) -> Result<Ask, Name>
 
 #[inline(never)]
 #[tactic(auto, unfolding(crate::specs::RequestText::release_at))]
-fn read_release(node: &Node) -> Result<Ask, Name>
-    ensures { result ≡ release_at node.now }
+fn read_release(node: &Node) -> Result<Ask, FieldFault>
+    ensures { Finds result (release_at node.now) }
 {
     let operator = members::party(node, Name::Operator)?;
     let provider = members::party(node, Name::Provider)?;
@@ -132,8 +132,8 @@ fn period(node: &Node) -> Result<u64, Name>
 
 #[inline(never)]
 #[tactic(auto, unfolding(crate::specs::RequestText::close_at))]
-fn read_close(node: &Node) -> Result<Ask, Name>
-    ensures { result ≡ close_at node.now }
+fn read_close(node: &Node) -> Result<Ask, FieldFault>
+    ensures { Finds result (close_at node.now) }
 {
     let period = period(node)?;
     Ok(Ask::Close(Close { period }))
@@ -141,8 +141,8 @@ fn read_close(node: &Node) -> Result<Ask, Name>
 
 #[inline(never)]
 #[tactic(auto, unfolding(crate::specs::RequestText::settle_at))]
-fn read_settle(node: &Node) -> Result<Ask, Name>
-    ensures { result ≡ settle_at node.now }
+fn read_settle(node: &Node) -> Result<Ask, FieldFault>
+    ensures { Finds result (settle_at node.now) }
 {
     let provider = members::party(node, Name::Provider)?;
     let currency = members::currency(node, Name::Currency)?;
@@ -156,8 +156,8 @@ fn read_settle(node: &Node) -> Result<Ask, Name>
 
 #[inline(never)]
 #[tactic(auto, unfolding(crate::specs::RequestText::exposure_at))]
-fn read_exposure(node: &Node) -> Result<Ask, Name>
-    ensures { result ≡ exposure_at node.now }
+fn read_exposure(node: &Node) -> Result<Ask, FieldFault>
+    ensures { Finds result (exposure_at node.now) }
 {
     let provider = members::party(node, Name::Provider)?;
     let currency = members::currency(node, Name::Currency)?;
@@ -166,8 +166,8 @@ fn read_exposure(node: &Node) -> Result<Ask, Name>
 
 #[inline(never)]
 #[tactic(auto, unfolding(crate::specs::RequestText::find_at))]
-fn read_find(node: &Node) -> Result<Ask, Name>
-    ensures { result ≡ find_at node.now }
+fn read_find(node: &Node) -> Result<Ask, FieldFault>
+    ensures { Finds result (find_at node.now) }
 {
     let operator = members::party(node, Name::Operator)?;
     let id = fields::ci_text(node, Name::Id)?;
@@ -176,8 +176,8 @@ fn read_find(node: &Node) -> Result<Ask, Name>
 
 #[inline(never)]
 #[tactic(auto, unfolding(crate::specs::RequestText::statement_at))]
-fn read_statement(node: &Node) -> Result<Ask, Name>
-    ensures { result ≡ statement_at node.now }
+fn read_statement(node: &Node) -> Result<Ask, FieldFault>
+    ensures { Finds result (statement_at node.now) }
 {
     let party = members::party(node, Name::Party)?;
     let period = period(node)?;
@@ -189,15 +189,15 @@ fn read_ask(alloc: Global, command: CommandName, node: &Node) -> Result<Ask, Fie
 {
     match command {
         CommandName::PutTariff => read_tariff(alloc, node),
-        CommandName::PutToken => Ok(read_token(node)?),
-        CommandName::Authorize => Ok(read_authorize(node)?),
-        CommandName::Release => Ok(read_release(node)?),
+        CommandName::PutToken => read_token(node),
+        CommandName::Authorize => read_authorize(node),
+        CommandName::Release => read_release(node),
         CommandName::Post => read_post(alloc, node),
-        CommandName::Close => Ok(read_close(node)?),
-        CommandName::Settle => Ok(read_settle(node)?),
-        CommandName::Exposure => Ok(read_exposure(node)?),
-        CommandName::Find => Ok(read_find(node)?),
-        CommandName::Statement => Ok(read_statement(node)?),
+        CommandName::Close => read_close(node),
+        CommandName::Settle => read_settle(node),
+        CommandName::Exposure => read_exposure(node),
+        CommandName::Find => read_find(node),
+        CommandName::Statement => read_statement(node),
     }
 }
 
