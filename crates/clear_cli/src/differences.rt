@@ -10,6 +10,7 @@ use period_order::operator_number;
 use plain_house::{BookedAmount, Event};
 use re_rating::{Record, re_rate};
 use std::alloc::{AllocError, Global};
+use std::mem;
 use std::thread::Threads;
 
 // An empty list for each of so many operators.
@@ -92,5 +93,8 @@ pub fn difference_count<R: Threads + Sync>(
     ensures { IfOk result (λ count. count ≡ difference_count config.now events.items) }
 {
     let lists = lists_of(alloc, config, events)?;
-    count_in(rt, alloc, config.operators.as_slice(), lists.as_slice())
+    let count = count_in(rt, alloc, config.operators.as_slice(), lists.as_slice())?;
+    // The program ends behind this, and the system takes the memory back at once.
+    mem::forget(lists);
+    Ok(count)
 }

@@ -14,6 +14,7 @@ use request_lines::{Sink, Source};
 use shared_house::{Blanks, Configured, FinishFault, House, Names, NoGate, Part, Pass};
 use std::alloc::{AllocError, Global};
 use std::marker::Brand;
+use std::mem;
 use std::sync::Wait;
 use std::thread::Threads;
 
@@ -74,7 +75,11 @@ fn finish<N: Names>(
         (λ fault. IsUnfinished N.BookEntries.config (map (λ pass. pass.calls) passes.items) fault) }
 {
     match house.finish(alloc, passes) {
-        Ok(ended) => Ok(ended.events),
+        Ok(ended) => {
+            // The program ends behind this, and the system takes the memory back at once.
+            mem::forget(ended.calls);
+            Ok(ended.events)
+        }
         Err(fault) => Err(fault),
     }
 }
