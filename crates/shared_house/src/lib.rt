@@ -14,6 +14,7 @@ mod ledgers;
 mod locked;
 mod made;
 mod pass;
+mod waiting;
 
 pub use certifying::{
     CertifyFault, certified_is_unique, certified_is_whole, certify, histories_keep_promises,

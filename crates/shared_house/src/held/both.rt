@@ -11,6 +11,7 @@ ghost use Rattle.shared_house.specs.Inner.Outcomes.{account_with, book_with, rep
 use crate::laws::house_laws;
 use crate::ledgers::{Configured, Names, Part};
 use crate::locked::{LockedAccount, LockedBook, LockedOrder, Placed};
+use crate::waiting::take_lock;
 use cdr_checks::Command;
 use ocpi_types::Config;
 use operator_book::Book;
@@ -93,9 +94,9 @@ pub fn answer_both<N: Names, R: Wait>(
     if reserve_both(book, account).is_err() {
         return Err(out_of_memory());
     }
-    let placed = order
-        .lock(rt)
-        .decide_both(config, command, book, in_book, account, in_account, mine);
+    let placed = take_lock(rt, order).decide_both(
+        config, command, book, in_book, account, in_account, mine,
+    );
     let Ok(placed) = placed else {
         return Err(out_of_memory());
     };

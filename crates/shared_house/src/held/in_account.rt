@@ -11,6 +11,7 @@ ghost use Rattle.shared_house.specs.Inner.Outcomes.{account_with, reply_in};
 use crate::laws::house_laws;
 use crate::ledgers::{Configured, Names, Part};
 use crate::locked::{LockedAccount, LockedOrder, Placed};
+use crate::waiting::take_lock;
 use cdr_checks::Command;
 use ocpi_types::Config;
 use period_order::{Outcome, put_in_account};
@@ -72,9 +73,7 @@ pub fn answer_in_account<N: Names, R: Wait>(
     if account.reserve().is_err() {
         return Err(out_of_memory());
     }
-    let placed = order
-        .lock(rt)
-        .decide_in_account(config, command, account, in_account, mine);
+    let placed = take_lock(rt, order).decide_in_account(config, command, account, in_account, mine);
     let Ok(placed) = placed else {
         return Err(out_of_memory());
     };

@@ -11,6 +11,7 @@ ghost use Rattle.shared_house.specs.Inner.Outcomes.{book_with, reply_in};
 use crate::laws::house_laws;
 use crate::ledgers::{Configured, Names, Part};
 use crate::locked::{LockedBook, LockedOrder, Placed};
+use crate::waiting::take_lock;
 use cdr_checks::Command;
 use ocpi_types::Config;
 use operator_book::Book;
@@ -72,9 +73,7 @@ pub fn answer_in_book<N: Names, R: Wait>(
     if book.reserve().is_err() {
         return Err(out_of_memory());
     }
-    let placed = order
-        .lock(rt)
-        .decide_in_book(config, command, book, in_book, mine);
+    let placed = take_lock(rt, order).decide_in_book(config, command, book, in_book, mine);
     let Ok(placed) = placed else {
         return Err(out_of_memory());
     };

@@ -12,6 +12,7 @@ use crate::gate::Gate;
 use crate::laws::{collecting_laws, house_laws};
 use crate::ledgers::{Configured, Names, Part};
 use crate::locked::Placed;
+use crate::waiting::take_lock;
 use cdr_checks::{Close, Command};
 use netting_positions::Positions;
 use period_order::Outcome;
@@ -72,11 +73,11 @@ impl<N: Names> House<N> {
         let Ok(positions) = Positions::new(alloc, &self.config) else {
             return Err(out_of_memory());
         };
-        let placed = self
-            .locks
-            .order
-            .lock(rt)
-            .decide_alone(&self.config, Command::Close(*close), mine);
+        let placed = take_lock(rt, &self.locks.order).decide_alone(
+            &self.config,
+            Command::Close(*close),
+            mine,
+        );
         let Ok(placed) = placed else {
             return Err(out_of_memory());
         };

@@ -13,6 +13,7 @@ use crate::gate::{Gate, Place};
 use crate::laws::collecting_laws;
 use crate::ledgers::{Configured, Names, Part};
 use crate::locked::LockedBook;
+use crate::waiting::take_lock;
 use cdr_checks::StatementOf;
 use netting_positions::{NetPosition, ObligationTable, Positions, StatementRow, StatementTable};
 use ocpi_json::sequence::Sequence;
@@ -69,7 +70,7 @@ impl<N: Names> House<N> {
         let operators = self.config.operators.as_slice();
         for number in 0..self.locks.books.len() {
             gate.at(pass, Place::Collecting(number));
-            let held = self.locks.books[number].lock(rt);
+            let held = take_lock(rt, &self.locks.books[number]);
             collect_from(&self.config, &held, &operators[number].party, period, table);
         }
     }

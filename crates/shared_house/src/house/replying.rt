@@ -10,6 +10,7 @@ use super::numbers::{account_number, book_number};
 use crate::gate::{Gate, Place};
 use crate::held::{answer_both, answer_in_account, answer_in_book};
 use crate::ledgers::{Configured, Names, Part};
+use crate::waiting::take_lock;
 use cdr_checks::{Command, commands_have_parties};
 use plain_house::{Refused, Replied};
 use std::sync::Wait;
@@ -37,9 +38,9 @@ impl<N: Names> House<N> {
         ensures share { mine.new.amount ≡ mine.old.amount + event_count result }
         ensures returns { Returns N.BookEntries.config command mine.old.amount result }
     {
-        let mut held_book = self.locks.books[book].lock(rt);
+        let mut held_book = take_lock(rt, &self.locks.books[book]);
         gate.at(pass, Place::BookHeld(book));
-        let mut held_account = self.locks.accounts[account].lock(rt);
+        let mut held_account = take_lock(rt, &self.locks.accounts[account]);
         gate.at(pass, Place::AccountHeld(account));
         answer_both(
             rt,
@@ -71,7 +72,7 @@ impl<N: Names> House<N> {
         ensures share { mine.new.amount ≡ mine.old.amount + event_count result }
         ensures returns { Returns N.BookEntries.config command mine.old.amount result }
     {
-        let mut held = self.locks.books[book].lock(rt);
+        let mut held = take_lock(rt, &self.locks.books[book]);
         gate.at(pass, Place::BookHeld(book));
         answer_in_book(
             rt,
@@ -102,7 +103,7 @@ impl<N: Names> House<N> {
         ensures share { mine.new.amount ≡ mine.old.amount + event_count result }
         ensures returns { Returns N.BookEntries.config command mine.old.amount result }
     {
-        let mut held = self.locks.accounts[account].lock(rt);
+        let mut held = take_lock(rt, &self.locks.accounts[account]);
         gate.at(pass, Place::AccountHeld(account));
         answer_in_account(
             rt,

@@ -12,6 +12,7 @@ use crate::gate::Gate;
 use crate::laws::{collecting_laws, house_laws};
 use crate::ledgers::{Configured, Names, Part};
 use crate::locked::Placed;
+use crate::waiting::take_lock;
 use cdr_checks::{Command, StatementOf};
 use netting_positions::StatementTable;
 use period_order::Outcome;
@@ -71,11 +72,11 @@ impl<N: Names> House<N> {
         let Ok(table) = StatementTable::new(alloc, &self.config, ask.party) else {
             return Err(out_of_memory());
         };
-        let placed = self
-            .locks
-            .order
-            .lock(rt)
-            .decide_alone(&self.config, Command::Statement(*ask), mine);
+        let placed = take_lock(rt, &self.locks.order).decide_alone(
+            &self.config,
+            Command::Statement(*ask),
+            mine,
+        );
         let Ok(placed) = placed else {
             return Err(out_of_memory());
         };
