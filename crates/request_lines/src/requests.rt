@@ -1,8 +1,9 @@
 //! What a line asks for.
 
-ghost use Rattle.std.specs.Prelude.{◌≡◌, IfOk, IfErr, Ok, Err, false};
+ghost use Rattle.std.specs.Prelude.{◌≡◌, IfOk, IfErr, IsErrOf, Ok, Err, false};
 ghost use Rattle.ocpi_json.specs.Faults.{Finds};
 ghost use Rattle.ocpi_json.specs.Fields.{required, as_whole};
+ghost use Rattle.ocpi_json.specs.declared.fields.FieldFault.TheVariants as fault;
 ghost use Rattle.ocpi_json.specs.declared.name.Name.TheVariants as name;
 ghost use Rattle.plain_house.specs.Replies.{is_refusal_no_memory};
 ghost use Rattle.request_lines.specs.RequestText.{authorize_at, close_at, exposure_at, find_at, post_at, release_at, settle_at, statement_at, tariff_ask_at, token_ask_at, ask_at, request_at, kind_or_rfid, request_of};
@@ -66,7 +67,8 @@ fn read_tariff(alloc: Global, node: &Node) -> Result<Ask, FieldFault>
 #[inline(never)]
 #[tactic(auto, unfolding(crate::specs::RequestText::token_ask_at))]
 fn read_token(node: &Node) -> Result<Ask, FieldFault>
-    ensures { Finds result (token_ask_at node.now) }
+    ensures found { Finds result (token_ask_at node.now) }
+    ensures never_gives_up { IsErrOf result fault.NoMemory → ⊥ }
 {
     let token = Token::from_node(&fields::object(node, Name::Token)?)?;
     Ok(Ask::PutToken(token))
@@ -81,7 +83,8 @@ fn kind_or_rfid(kind: Option<TokenKind>) -> TokenKind
 #[inline(never)]
 #[tactic(auto, unfolding(crate::specs::RequestText::authorize_at))]
 fn read_authorize(node: &Node) -> Result<Ask, FieldFault>
-    ensures { Finds result (authorize_at node.now) }
+    ensures found { Finds result (authorize_at node.now) }
+    ensures never_gives_up { IsErrOf result fault.NoMemory → ⊥ }
 {
     let operator = members::party(node, Name::Operator)?;
     let provider = members::party(node, Name::Provider)?;
@@ -100,7 +103,8 @@ fn read_authorize(node: &Node) -> Result<Ask, FieldFault>
 #[inline(never)]
 #[tactic(auto, unfolding(crate::specs::RequestText::release_at))]
 fn read_release(node: &Node) -> Result<Ask, FieldFault>
-    ensures { Finds result (release_at node.now) }
+    ensures found { Finds result (release_at node.now) }
+    ensures never_gives_up { IsErrOf result fault.NoMemory → ⊥ }
 {
     let operator = members::party(node, Name::Operator)?;
     let provider = members::party(node, Name::Provider)?;
@@ -133,7 +137,8 @@ fn period(node: &Node) -> Result<u64, Name>
 #[inline(never)]
 #[tactic(auto, unfolding(crate::specs::RequestText::close_at))]
 fn read_close(node: &Node) -> Result<Ask, FieldFault>
-    ensures { Finds result (close_at node.now) }
+    ensures found { Finds result (close_at node.now) }
+    ensures never_gives_up { IsErrOf result fault.NoMemory → ⊥ }
 {
     let period = period(node)?;
     Ok(Ask::Close(Close { period }))
@@ -142,7 +147,8 @@ fn read_close(node: &Node) -> Result<Ask, FieldFault>
 #[inline(never)]
 #[tactic(auto, unfolding(crate::specs::RequestText::settle_at))]
 fn read_settle(node: &Node) -> Result<Ask, FieldFault>
-    ensures { Finds result (settle_at node.now) }
+    ensures found { Finds result (settle_at node.now) }
+    ensures never_gives_up { IsErrOf result fault.NoMemory → ⊥ }
 {
     let provider = members::party(node, Name::Provider)?;
     let currency = members::currency(node, Name::Currency)?;
@@ -157,7 +163,8 @@ fn read_settle(node: &Node) -> Result<Ask, FieldFault>
 #[inline(never)]
 #[tactic(auto, unfolding(crate::specs::RequestText::exposure_at))]
 fn read_exposure(node: &Node) -> Result<Ask, FieldFault>
-    ensures { Finds result (exposure_at node.now) }
+    ensures found { Finds result (exposure_at node.now) }
+    ensures never_gives_up { IsErrOf result fault.NoMemory → ⊥ }
 {
     let provider = members::party(node, Name::Provider)?;
     let currency = members::currency(node, Name::Currency)?;
@@ -167,7 +174,8 @@ fn read_exposure(node: &Node) -> Result<Ask, FieldFault>
 #[inline(never)]
 #[tactic(auto, unfolding(crate::specs::RequestText::find_at))]
 fn read_find(node: &Node) -> Result<Ask, FieldFault>
-    ensures { Finds result (find_at node.now) }
+    ensures found { Finds result (find_at node.now) }
+    ensures never_gives_up { IsErrOf result fault.NoMemory → ⊥ }
 {
     let operator = members::party(node, Name::Operator)?;
     let id = fields::ci_text(node, Name::Id)?;
@@ -177,7 +185,8 @@ fn read_find(node: &Node) -> Result<Ask, FieldFault>
 #[inline(never)]
 #[tactic(auto, unfolding(crate::specs::RequestText::statement_at))]
 fn read_statement(node: &Node) -> Result<Ask, FieldFault>
-    ensures { Finds result (statement_at node.now) }
+    ensures found { Finds result (statement_at node.now) }
+    ensures never_gives_up { IsErrOf result fault.NoMemory → ⊥ }
 {
     let party = members::party(node, Name::Party)?;
     let period = period(node)?;
