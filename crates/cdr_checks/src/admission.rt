@@ -8,7 +8,7 @@ use super::request::{
     Ask, Authorize, Close, Command, ExposureOf, Find, Release, Request, Settlement, StatementOf,
 };
 use ocpi_json::ci_text::CiText;
-use ocpi_types::{Cdr, Config, Refusal, Tariff, Token};
+use ocpi_types::{Cdr, Config, Refusal, Shared, Tariff, Token};
 use tariff_elements::supported;
 
 fn ensure_tariff(config: &Config, platform: &CiText<36>, tariff: &Tariff) -> Result<(), Refusal>
@@ -118,7 +118,7 @@ fn exposure(
 }
 
 #[inline(never)]
-fn post(config: &Config, platform: &CiText<36>, cdr: Cdr) -> Result<Command, (Ask, Refusal)>
+fn post(config: &Config, platform: &CiText<36>, cdr: Shared<Cdr>) -> Result<Command, (Ask, Refusal)>
     ensures { result ≡ handed_back (Ask.Post cdr) (post_admission config.now platform.now cdr) }
 {
     match check(config, platform, cdr) {

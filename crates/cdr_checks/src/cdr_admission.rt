@@ -13,7 +13,7 @@ use super::refusing::ensure;
 use cdr_rating::{lacks_tariff, rate};
 use exact_money::Amount;
 use ocpi_json::ci_text::CiText;
-use ocpi_types::{AtMost, Cdr, Config, Cost, Refusal, Zone};
+use ocpi_types::{AtMost, Cdr, Config, Cost, Refusal, Shared, Zone};
 
 /// What the admission of a CDR finds beside it.
 #[derive(Drop)]
@@ -97,7 +97,11 @@ fn findings_of(config: &Config, platform: &CiText<36>, cdr: &Cdr) -> Result<Find
 
 /// Checks a CDR by itself: its parties, its platform and its currency, and where it is no Credit CDR its tariffs, its
 /// dates, its energy and its cost. What is refused is handed back with the first refusal that holds.
-pub fn check(config: &Config, platform: &CiText<36>, cdr: Cdr) -> Result<Checked, (Cdr, Refusal)>
+pub fn check(
+    config: &Config,
+    platform: &CiText<36>,
+    cdr: Shared<Cdr>,
+) -> Result<Checked, (Shared<Cdr>, Refusal)>
     ensures checked { MatchResult result (λ checked. checked_of config.now platform.now cdr ≡ Ok checked)
         (λ refused. checked_of config.now platform.now cdr ≡ Err refused.1) }
     ensures handed_back { MatchResult result (λ _. Unit {0}) (λ refused. refused.0 ≡ cdr) }

@@ -1,11 +1,11 @@
-use ocpi_types::{Cdr, Cost, TryCopy, Zone};
+use ocpi_types::{Cdr, Cost, Shared, TryCopy, Zone};
 use std::alloc::{AllocError, Global};
 use std::marker::Model;
 
 /// A CDR that is admitted, with its operator's time zone and what its session costs.
 #[derive(Drop)]
 pub struct Checked {
-    cdr: Cdr,
+    cdr: Shared<Cdr>,
     zone: Zone,
     cost: Option<Cost>,
 }
@@ -24,7 +24,7 @@ impl Checked {
     ghost use Rattle.std.specs.Prelude.{◌≡◌};
     ghost use Rattle.cdr_checks.specs.Checked.{IsCostOf};
 
-    pub(crate) fn new(cdr: Cdr, zone: Zone, cost: Option<Cost>) -> Checked
+    pub(crate) fn new(cdr: Shared<Cdr>, zone: Zone, cost: Option<Cost>) -> Checked
         requires { IsCostOf cost cdr zone }
         ensures { result ≡ record { cdr = cdr; zone = zone; cost = cost } }
     {
@@ -52,7 +52,7 @@ impl Checked {
         self.cost
     }
 
-    pub fn into_cdr(self) -> Cdr
+    pub fn into_cdr(self) -> Shared<Cdr>
         ensures { result ≡ self.cdr }
     {
         self.cdr

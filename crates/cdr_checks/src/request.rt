@@ -1,6 +1,6 @@
 use super::checked::Checked;
 use ocpi_json::ci_text::CiText;
-use ocpi_types::{Cdr, Currency, Party, Tariff, Token, TokenKind, TryCopy};
+use ocpi_types::{Cdr, Currency, Party, Shared, Tariff, Token, TokenKind, TryCopy};
 use std::alloc::{AllocError, Global};
 
 /// An operator asks to authorise a token of a provider.
@@ -63,7 +63,7 @@ pub enum Ask {
     PutToken(Token),
     Authorize(Authorize),
     Release(Release),
-    Post(Cdr),
+    Post(Shared<Cdr>),
     Close(Close),
     Settle(Settlement),
     Exposure(ExposureOf),

@@ -1,10 +1,11 @@
 use crate::index::Index;
 use crate::keys::SumKey;
 use crate::owed::add_providers;
+use crate::sharing::Sharing;
 use cdr_checks::Find;
 use netting_positions::{Obligation, ObligationTable};
 use ocpi_json::ci_text::CiText;
-use ocpi_types::{Cdr, Config, Cost, Currency, Party, Refusal, Tariff, same_tariff};
+use ocpi_types::{Cdr, Config, Cost, Currency, Party, Refusal, Shared, Tariff, same_tariff};
 use plain_house::{Answer, BookEntry, BookedAmount, BookedCdr, reply_to_booked, taken_back};
 use std::alloc::{AllocError, Global};
 use std::marker::Model;
@@ -256,18 +257,18 @@ impl Book {
         self.put(BookEntry::Tariff(tariff));
     }
 
-    // The CDR, whose tariffs take no memory for the elements that their stored versions have as well.
-    fn with_shared_tariffs(&self, cdr: Cdr) -> Cdr
+    // The CDR, whose tariffs take no memory for the elements that their stored versions have as well, where it has no other owner.
+    fn with_shared_tariffs(&self, cdr: Shared<Cdr>) -> Shared<Cdr>
         ensures { result ≡ cdr }
     {
         let mut cdr = cdr;
         let versions = &self.index.versions;
-        versions.share(self.entries.as_slice(), &mut cdr.tariffs);
+        cdr.change_sole(&Sharing::new(versions, self.entries.as_slice()));
         cdr
     }
 
     /// Books a CDR, without taking memory.
-    pub fn put_cdr(&mut self, cdr: Cdr, cost: Cost, period: u64)
+    pub fn put_cdr(&mut self, cdr: Shared<Cdr>, cost: Cost, period: u64)
         requires { self.old.has_room ≡ true }
         ensures { self.new ≡ record { entries = self.old.entries ++ book.Cdr cdr cost period ∷ []; has_room = false } }
     {
@@ -276,7 +277,7 @@ impl Book {
     }
 
     /// Books a Credit CDR, without taking memory.
-    pub fn put_credit(&mut self, credit: Cdr, amount: BookedAmount, period: u64)
+    pub fn put_credit(&mut self, credit: Shared<Cdr>, amount: BookedAmount, period: u64)
         requires { self.old.has_room ≡ true }
         ensures { self.new ≡ record { entries = self.old.entries ++ book.Credit credit amount period ∷ []; has_room = false } }
     {

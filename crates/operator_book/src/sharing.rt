@@ -6,7 +6,7 @@ ghost use Rattle.operator_book.specs.Inner.Versions.{FindsVersions};
 use crate::versions::Versions;
 use ocpi_json::same::Same;
 use ocpi_json::sequence::Sequence;
-use ocpi_types::Tariff;
+use ocpi_types::{Cdr, Tariff, Unseen};
 use plain_house::BookEntry;
 
 // The tariff again, with the elements of the version, where these are the same.
@@ -38,8 +38,8 @@ impl Versions {
         with_elements_of(self.find(entries, tariff)?, tariff)
     }
 
-    /// Lets tariffs share their elements with their stored versions, where these are the same, without taking memory.
-    pub fn share(&self, entries: &[BookEntry], tariffs: &mut Sequence<Tariff>)
+    // Lets tariffs share their elements with their stored versions, where these are the same.
+    fn share(&self, entries: &[BookEntry], tariffs: &mut Sequence<Tariff>)
         requires { FindsVersions self.now entries.now }
         ensures { tariffs.new ≡ tariffs.old }
     {
@@ -48,5 +48,27 @@ impl Versions {
                 tariffs.set(at, shared);
             }
         }
+    }
+}
+
+/// Lets the tariffs of CDRs share their elements with their stored versions, where these are the same, without taking memory.
+#[derive(Clone, Copy)]
+pub struct Sharing<'a> {
+    versions: &'a Versions,
+    entries: &'a [BookEntry],
+    ghost finds: { FindsVersions versions.now entries.now },
+}
+
+impl<'a> Sharing<'a> {
+    pub fn new(versions: &'a Versions, entries: &'a [BookEntry]) -> Sharing<'a>
+        requires { FindsVersions versions.now entries.now }
+    {
+        Sharing { versions, entries }
+    }
+}
+
+impl Unseen<Cdr> for Sharing<'_> {
+    fn change(&self, cdr: &mut Cdr) {
+        self.versions.share(self.entries, &mut cdr.tariffs);
     }
 }

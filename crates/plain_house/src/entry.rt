@@ -5,19 +5,19 @@ use super::booked_amount::BookedAmount;
 use super::event::Hold;
 use cdr_checks::{Release, Settlement};
 use ocpi_json::ci_text::CiText;
-use ocpi_types::{Cdr, Cost, Currency, Party, Tariff, Token};
+use ocpi_types::{Cdr, Cost, Currency, Party, Shared, Tariff, Token};
 
 /// What an operator's book keeps of an event. CDRs and Credit CDRs keep the period in which they were booked.
 #[derive(Drop)]
 pub enum BookEntry {
     Tariff(Tariff),
     Cdr {
-        cdr: Cdr,
+        cdr: Shared<Cdr>,
         cost: Cost,
         period: u64,
     },
     Credit {
-        cdr: Cdr,
+        cdr: Shared<Cdr>,
         amount: BookedAmount,
         period: u64,
     },

@@ -2,7 +2,7 @@ use super::booked_amount::BookedAmount;
 use cdr_checks::{Release, Settlement};
 use ocpi_json::ci_text::CiText;
 use ocpi_types::config::HoldAmount;
-use ocpi_types::{Cdr, Cost, Currency, Party, Tariff, Token, TryCopy};
+use ocpi_types::{Cdr, Cost, Currency, Party, Shared, Tariff, Token, TryCopy};
 use std::alloc::{AllocError, Global};
 
 /// What an allowed authorisation holds of its provider's credit.
@@ -23,11 +23,19 @@ pub enum Event {
     Authorised(Hold),
     Released(Release),
     /// A CDR that is no Credit CDR, booked at what its session costs.
-    Cdr { cdr: Cdr, cost: Cost },
+    Cdr {
+        cdr: Shared<Cdr>,
+        cost: Cost,
+    },
     /// A Credit CDR, booked at the negated amount of the CDR that it credits.
-    Credit { cdr: Cdr, amount: BookedAmount },
+    Credit {
+        cdr: Shared<Cdr>,
+        amount: BookedAmount,
+    },
     Settled(Settlement),
-    Closed { period: u64 },
+    Closed {
+        period: u64,
+    },
 }
 
 impl TryCopy for Event {

@@ -9,9 +9,9 @@ use ocpi_json::fields::FieldFault;
 use ocpi_json::name::Name;
 use ocpi_json::objects::FromNodeIn;
 use ocpi_json::{ReadFault, Room};
-use ocpi_types::Cdr;
+use ocpi_types::{Cdr, Shared};
 use re_rating::Record;
-use std::alloc::Global;
+use std::alloc::{AllocError, Global};
 
 /// Why a line is no record.
 #[derive(Clone, Copy)]
@@ -95,7 +95,10 @@ pub fn read_record(alloc: Global, room: &mut Room, line: &[u8]) -> Result<Record
         return Err(LineFault::NoAmount);
     };
     match read_cdr(alloc, room, text) {
-        Ok(cdr) => Ok(Record { cdr, booked }),
+        Ok(cdr) => match Shared::new(alloc, cdr) {
+            Ok(cdr) => Ok(Record { cdr, booked }),
+            Err(AllocError) => Err(LineFault::NoMemory),
+        },
         Err(fault) => Err(fault),
     }
 }

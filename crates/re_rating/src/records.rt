@@ -1,10 +1,10 @@
 use exact_money::Amount;
-use ocpi_types::Cdr;
+use ocpi_types::{Cdr, Shared};
 
 /// A CDR and the amount at which it was booked.
 #[derive(Drop)]
 pub struct Record {
-    pub cdr: Cdr,
+    pub cdr: Shared<Cdr>,
     pub booked: Amount,
 }
 

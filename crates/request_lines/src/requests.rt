@@ -15,7 +15,7 @@ use ocpi_json::fields::{self, FieldFault};
 use ocpi_json::name::Name;
 use ocpi_json::objects::{FromNode, FromNodeIn, FromText};
 use ocpi_json::{Node, ReadFault, Room};
-use ocpi_types::{Cdr, Refusal, Tariff, Token, TokenKind, members};
+use ocpi_types::{Cdr, Refusal, Shared, Tariff, Token, TokenKind, members};
 use std::alloc::Global;
 
 /// The commands of request lines, as the member `do` names them.
@@ -122,7 +122,7 @@ fn read_post(alloc: Global, node: &Node) -> Result<Ask, FieldFault>
     ensures { Finds result (post_at node.now) }
 {
     let cdr = Cdr::from_node_in(alloc, &fields::object(node, Name::Cdr)?)?;
-    Ok(Ask::Post(cdr))
+    Ok(Ask::Post(Shared::new(alloc, cdr)?))
 }
 
 // 18 digits.

@@ -2,7 +2,7 @@
 
 ghost use Rattle.std.specs.Prelude.{◌≡◌, not, position};
 ghost use Rattle.ocpi_types.specs.Currency.{same_currency};
-ghost use Rattle.explain_lines.specs.Currencies.{asked_currency, wrong_currency};
+ghost use Rattle.explain_lines.specs.Currencies.{asked_currency, of_another_currency, wrong_currency};
 
 use crate::place::Place;
 use crate::telling::{Cause, Told, Value};
@@ -44,6 +44,16 @@ fn of_another_currency(cdr: &Cdr) -> Option<usize>
         .position(|tariff| !tariff.currency.is(&cdr.currency))
 }
 
+// The same, where the CDR is no Credit CDR.
+fn other_than_its_own(cdr: &Cdr) -> Option<WrongCurrency>
+    ensures { result ≡ of_another_currency cdr.now }
+{
+    if cdr.is_credit() {
+        return None;
+    }
+    Some(WrongCurrency::OfTariff(of_another_currency(cdr)?))
+}
+
 /// The currency of the request that is not configured, or else the first tariff of its CDR that has another one.
 pub fn wrong_currency(config: &Config, ask: &Ask) -> Option<WrongCurrency>
     ensures { result ≡ wrong_currency config.now ask.now }
@@ -53,9 +63,7 @@ pub fn wrong_currency(config: &Config, ask: &Ask) -> Option<WrongCurrency>
         return Some(WrongCurrency::Asked);
     }
     match ask {
-        Ask::Post(cdr) if !cdr.is_credit() => {
-            Some(WrongCurrency::OfTariff(of_another_currency(cdr)?))
-        }
+        Ask::Post(cdr) => other_than_its_own(cdr),
         _ => None,
     }
 }

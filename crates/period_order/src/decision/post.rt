@@ -22,7 +22,7 @@ use crate::numbers::{in_account, in_book};
 use crate::order::Order;
 use crate::order_entry::OrderEntry;
 use cdr_checks::Checked;
-use ocpi_types::{Cdr, Config, Cost, Refusal};
+use ocpi_types::{Cdr, Config, Cost, Refusal, Shared};
 use operator_book::Book;
 use plain_house::{Answer, BookedAmount, Charge, Event, charge_of, events_are_of_their_command};
 use provider_account::Account;
@@ -51,7 +51,7 @@ fn over_limit(config: &Config, account: &Account, charge: &Charge) -> Option<Ref
 // Books a CDR that its operator's book takes.
 fn take_cdr(
     config: &Config,
-    cdr: Cdr,
+    cdr: Shared<Cdr>,
     cost: Cost,
     book: &Book,
     account: &Account,
@@ -83,7 +83,7 @@ fn take_cdr(
 // Books a Credit CDR that its operator's book takes.
 fn take_credit(
     config: &Config,
-    credit: Cdr,
+    credit: Shared<Cdr>,
     booked: BookedAmount,
     book: &Book,
     account: &Account,
@@ -110,7 +110,7 @@ fn take_credit(
 #[tactic(auto, using(crate::proofs::PostLemmas::cdr_replied, crate::proofs::PostLemmas::cdr_left))]
 fn post_cdr(
     config: &Config,
-    cdr: Cdr,
+    cdr: Shared<Cdr>,
     cost: Cost,
     book: &Book,
     account: &Account,
@@ -130,7 +130,7 @@ fn post_cdr(
 #[tactic(auto, using(crate::proofs::PostLemmas::credit_replied, crate::proofs::PostLemmas::credit_left))]
 fn post_credit(
     config: &Config,
-    credit: Cdr,
+    credit: Shared<Cdr>,
     book: &Book,
     account: &Account,
     order: &mut Order,

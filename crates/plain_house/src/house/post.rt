@@ -30,7 +30,7 @@ use crate::replies::stamped;
 use crate::scope::Scope;
 use crate::tariffs::lacks_registered;
 use cdr_checks::Checked;
-use ocpi_types::{Cdr, Config, Cost, Refusal};
+use ocpi_types::{Cdr, Config, Cost, Refusal, Shared};
 
 // The refusal where an exposure with the charge added is above its limit.
 fn above_with(
@@ -84,7 +84,7 @@ fn over_limit(config: &Config, events: &[Event], charge: &Charge) -> Option<Refu
 fn book_cdr(
     config: &Config,
     events: &mut Vec<Event>,
-    cdr: Cdr,
+    cdr: Shared<Cdr>,
     cost: Cost,
 ) -> Result<Replied, Refused>
     requires { KeepsLimits config.now (account_entries events.old.items) }
@@ -112,7 +112,7 @@ fn book_cdr(
 fn post_cdr(
     config: &Config,
     events: &mut Vec<Event>,
-    cdr: Cdr,
+    cdr: Shared<Cdr>,
     cost: Cost,
 ) -> Result<Replied, Refused>
     requires { KeepsLimits config.now (account_entries events.old.items) }
@@ -132,7 +132,7 @@ fn post_cdr(
 fn book_credit(
     config: &Config,
     events: &mut Vec<Event>,
-    credit: Cdr,
+    credit: Shared<Cdr>,
     booked: BookedAmount,
 ) -> Result<Replied, Refused>
     ensures { Follows (credit_taken config.now (known events.old.items) credit (Ok booked)) events.old.items result events.new.items }
@@ -154,7 +154,11 @@ fn book_credit(
 }
 
 // A Credit CDR whose id is not booked.
-fn take_credit(config: &Config, events: &mut Vec<Event>, credit: Cdr) -> Result<Replied, Refused>
+fn take_credit(
+    config: &Config,
+    events: &mut Vec<Event>,
+    credit: Shared<Cdr>,
+) -> Result<Replied, Refused>
     ensures { Follows (credit_taken config.now (known events.old.items) credit (credited_amount config.now (period_of events.old.items) credit (book_entries events.old.items))) events.old.items result events.new.items }
 {
     let at = events.len();
@@ -165,7 +169,11 @@ fn take_credit(config: &Config, events: &mut Vec<Event>, credit: Cdr) -> Result<
     }
 }
 
-fn post_credit(config: &Config, events: &mut Vec<Event>, credit: Cdr) -> Result<Replied, Refused>
+fn post_credit(
+    config: &Config,
+    events: &mut Vec<Event>,
+    credit: Shared<Cdr>,
+) -> Result<Replied, Refused>
     ensures { Follows (credit_posted config.now (known events.old.items) credit) events.old.items result events.new.items }
 {
     let at = events.len() as u64;

@@ -1,11 +1,14 @@
 use Rattle.std.specs.Option.{option_and_then, option_copied}
-use Rattle.std.proofs.Common.{slice_get, ◌≡◌, ◌<◌, ℕ, Option, IfSome, is_some, length, refl, ap, ap₂, sym, subst, ◌∙◌}
+use Rattle.std.proofs.Common.{slice_get, ◌≡◌, ◌<◌, ℕ, List, Option, None, Some, IfSome, is_some, length, refl, ap, ap₂, sym, subst, ◌∙◌}
 use Rattle.plain_house.specs.Entries.{account_entry, book_entry}
 use Rattle.plain_house.specs.Replies.{with_event}
-use Rattle.period_order.specs.Decided.{Decides, event_of}
+use Rattle.operator_book.specs.State.{PlainBook}
+use Rattle.provider_account.specs.State.{PlainAccount}
+use Rattle.plain_house.specs.declared.event.Event.{Event}
+use Rattle.period_order.specs.Decided.{AccountTakesAny, BookTakesAny, Decides, event_of}
 use Rattle.period_order.specs.Kept.{Keeps, account_number, book_number}
 use Rattle.period_order.specs.Order.{current_of}
-use Rattle.period_order.specs.Inner.Kept.{kept_events, with_event_added}
+use Rattle.period_order.specs.Inner.Kept.{AccountTakesAt, BookTakesAt, kept_events, with_event_added}
 use Rattle.period_order.specs.Resolved.{entries_of_accounts, entries_of_books}
 use Rattle.period_order.proofs.PerformLemmas.{account_within, book_within, is_given_account, decides_given, is_given_book, keeps_put, kept_is, kept_still, ordered_given, some_copied}
 use Rattle.period_order.proofs.ReachedLemmas.{reached}
@@ -107,3 +110,29 @@ returns-clause-ok c =
     c.verdicts_are_of_own_entries.ensures c.entries_are_dated.ensures
     (record { point = c.decide-point.result.point; period = c.decide-point.result.period; outcome = c.parted-outcome.result.0 }) _
     c.decide-point.ensures.point c.parted-outcome.ensures.left (now_is c)
+
+takes_in_book : (books : List PlainBook) (number : Option ℕ) (event : Option Event) → BookTakesAny (option_and_then (slice_get books) number) event → IfSome event (λ e. BookTakesAt books number e)
+takes_in_book books number None takes = tt
+takes_in_book books None (Some event) takes = tt
+takes_in_book books (Some number) (Some event) takes = λ book found. subst (λ (o : Option PlainBook). BookTakesAny o (Some event)) found takes
+
+takes_in_account : (accounts : List PlainAccount) (number : Option ℕ) (period : ℕ) (event : Option Event) → AccountTakesAny (option_and_then (slice_get accounts) number) period event
+    → IfSome event (λ e. AccountTakesAt accounts number period e)
+takes_in_account accounts number period None takes = tt
+takes_in_account accounts None period (Some event) takes = tt
+takes_in_account accounts (Some number) period (Some event) takes = λ account found. subst (λ (o : Option PlainAccount). AccountTakesAny o period (Some event)) found takes
+
+pub put-requires-clause-book_takes : goal.put-requires-clause-book_takes
+put-requires-clause-book_takes c =
+    let given = c.book_at-given_book.ensures ∙ ap (λ (l : List PlainBook). option_and_then (slice_get l) c.book_number-book.result) c.as_slice.ensures.value in
+    takes_in_book c.reserve.new.books.items c.book_number-book.result c.parted-outcome.result.1
+    (subst (λ (o : Option Event). BookTakesAny (option_and_then (slice_get c.reserve.new.books.items) c.book_number-book.result) o) (sym c.parted-outcome.ensures.event)
+    (subst (λ (o : Option PlainBook). BookTakesAny o (event_of c.decide-point.result.outcome)) given c.decide-point.ensures.outcome.in_book))
+
+pub put-requires-clause-account_takes : goal.put-requires-clause-account_takes
+put-requires-clause-account_takes c =
+    let given = c.account_at-given_account.ensures ∙ ap (λ (l : List PlainAccount). option_and_then (slice_get l) c.account_number-account.result) c.as_slice-2.ensures.value in
+    takes_in_account c.reserve.new.accounts.items c.account_number-account.result c.decide-point.result.period c.parted-outcome.result.1
+    (subst (λ (o : Option Event). AccountTakesAny (option_and_then (slice_get c.reserve.new.accounts.items) c.account_number-account.result) c.decide-point.result.period o) (sym c.parted-outcome.ensures.event)
+    (subst (λ n. AccountTakesAny (option_and_then (slice_get c.reserve.new.accounts.items) c.account_number-account.result) n (event_of c.decide-point.result.outcome)) (sym c.decide-point.ensures.period)
+    (subst (λ (o : Option PlainAccount). AccountTakesAny o (current_of c.reserve.new.order) (event_of c.decide-point.result.outcome)) given c.decide-point.ensures.outcome.in_account)))
