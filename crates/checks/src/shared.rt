@@ -10,15 +10,18 @@ mod held;
 mod missing_pass;
 mod one_pass;
 mod opening;
+mod performing;
 mod workers;
 
 use crate::fault::Fault;
 use crate::files::config_in;
 use crate::growths::Trial;
+use ending::Ending;
 use held::place_of;
 use house_program::open_file;
 use ocpi_types::{Config, TryCopy};
-use opening::{Work, with_house};
+use opening::with_house;
+use performing::{Next, Work};
 use request_lines::{Device, Sink, Source};
 use std::alloc::Global;
 use std::io;
@@ -35,14 +38,21 @@ pub fn answer<R: Threads + Wait + Sync, S: Source, W: Sink>(
     reader: &mut S,
     writer: &mut W,
 ) -> Result<(), Fault<'static>> {
-    with_house(
-        rt,
-        threads,
-        config,
-        Work::Lines { is_again },
-        reader,
-        writer,
-    )
+    let next = Next::Finish(Ending::Lines { is_again });
+    let work = Work::Lines { is_again, next };
+    with_house(rt, threads, config, work, reader, writer)
+}
+
+// Does work that reads no lines by a new house.
+fn do_by_house<R: Threads + Wait + Sync>(
+    rt: &HostRuntime,
+    threads: &R,
+    config: Config,
+    work: Work<'_>,
+) -> Result<(), Fault<'static>> {
+    let mut reader = Device::new(rt.stdin());
+    let mut writer = Device::new(io::sink());
+    with_house(rt, threads, config, work, &mut reader, &mut writer)
 }
 
 /// Tells how a house ends without one of its passes. Then answers the lines of the reader by one pass of a new house, and tells
@@ -55,17 +65,14 @@ pub fn tell_changes<'a, R: Threads + Wait + Sync, S: Read + Drop>(
 ) -> Result<(), Fault<'a>> {
     let config = config_in(rt, path)?;
     let other = config.copy(rt.alloc())?;
+    do_by_house(rt, threads, other, Work::MissingPass)?;
     let mut reader = Device::new(reader);
     let mut writer = Device::new(io::sink());
-    with_house(
-        rt,
-        threads,
-        other,
-        Work::MissingPass,
-        &mut reader,
-        &mut writer,
-    )?;
-    with_house(rt, threads, config, Work::Changes, &mut reader, &mut writer)
+    let work = Work::Lines {
+        is_again: false,
+        next: Next::Gather,
+    };
+    with_house(rt, threads, config, work, &mut reader, &mut writer)
 }
 
 /// Makes the calls of the files' lines, each file by a pass and on a thread of its own.
@@ -76,16 +83,7 @@ pub fn call_at_once<'a, R: Threads + Wait + Sync>(
     files: &[String],
 ) -> Result<(), Fault<'a>> {
     let config = config_in(rt, path)?;
-    let mut reader = Device::new(rt.stdin());
-    let mut writer = Device::new(io::sink());
-    with_house(
-        rt,
-        threads,
-        config,
-        Work::AtOnce { files },
-        &mut reader,
-        &mut writer,
-    )
+    do_by_house(rt, threads, config, Work::AtOnce { files })
 }
 
 /// Has a pass of a new house do the last line of the trial, and perhaps once more where memory is refused, and ends the house.
@@ -96,16 +94,8 @@ pub fn try_growths<R: Threads + Wait + Sync>(
     trial: &Trial<'_>,
     is_again: bool,
 ) -> Result<(), Fault<'static>> {
-    let mut reader = Device::new(rt.stdin());
-    let mut writer = Device::new(io::sink());
-    with_house(
-        rt,
-        threads,
-        config.copy(rt.alloc())?,
-        Work::Growths { trial, is_again },
-        &mut reader,
-        &mut writer,
-    )
+    let copy = config.copy(rt.alloc())?;
+    do_by_house(rt, threads, copy, Work::Growths { trial, is_again })
 }
 
 // The bytes of the file of this path.
@@ -130,16 +120,7 @@ pub fn hold<'a, R: Threads + Wait + Sync>(
         return Err(Fault::Usage);
     };
     let config = config_in(rt, path)?;
-    let mut reader = Device::new(rt.stdin());
-    let mut writer = Device::new(io::sink());
-    with_house(
-        rt,
-        threads,
-        config,
-        Work::Held { place, files },
-        &mut reader,
-        &mut writer,
-    )
+    do_by_house(rt, threads, config, Work::Held { place, files })
 }
 
 // The bytes of the files.
@@ -164,17 +145,9 @@ fn answer_texts(
     events: usize,
     texts: &[Vec<u8>],
 ) -> Result<(), Fault<'static>> {
-    let mut reader = Device::new(rt.stdin());
-    let mut writer = Device::new(io::sink());
     for _time in 0..times {
-        with_house(
-            rt,
-            threads,
-            config.copy(rt.alloc())?,
-            Work::Texts { texts, events },
-            &mut reader,
-            &mut writer,
-        )?;
+        let copy = config.copy(rt.alloc())?;
+        do_by_house(rt, threads, copy, Work::Texts { texts, events })?;
     }
     Ok(())
 }

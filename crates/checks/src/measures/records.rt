@@ -3,7 +3,7 @@
 use super::asked::Asked;
 use super::rating::{cdr, rated_once};
 use exact_money::Amount;
-use ocpi_types::{Cdr, TryCopy, Zone};
+use ocpi_types::{Cdr, Shared, TryCopy, Zone};
 use re_rating::{Difference, Record, re_rate};
 use std::alloc::{AllocError, Global};
 use std::io;
@@ -31,7 +31,7 @@ fn records_of(
     for place in 0..count {
         let booked = if place % AGREEING == 0 { 0 } else { cost };
         let booked = Amount::from_ten_thousandths(booked);
-        let cdr = cdr.copy(alloc)?;
+        let cdr = Shared::new(alloc, cdr.copy(alloc)?)?;
         records.push(Record { cdr, booked })?;
     }
     Ok(records)

@@ -1,13 +1,12 @@
 //! Calls of several passes at once, each pass on a thread of its own, and how long they take.
 
-ghost use Rattle.std.specs.Prelude.{◌≡◌};
-
-use super::ending::end;
+use super::ending::Ending;
+use super::performing::Next;
 use crate::fault::Fault;
 use cdr_checks::Command;
 use ocpi_json::Room;
 use request_lines::command_of;
-use shared_house::{Configured, FinishFault, House, Names, NoGate, Part, Pass};
+use shared_house::{Configured, Ended, FinishFault, House, Names, NoGate, Part, Pass};
 use std::alloc::{AllocError, Global};
 use std::io::{BufRead, BufReader};
 use std::marker::{Model, PhantomData};
@@ -158,13 +157,16 @@ fn add_workers<N: Names>(
     Ok(())
 }
 
-fn passes_of<N: Names>(alloc: Global, workers: Vec<Worker<N>>) -> Result<Vec<Pass<N>>, AllocError> {
-    let mut passes = Vec::new(alloc);
+// Adds the passes of the workers.
+fn add_passes<N: Names>(
+    workers: Vec<Worker<N>>,
+    passes: &mut Vec<Pass<N>>,
+) -> Result<(), AllocError> {
     for worker in workers {
         let Worker { pass, .. } = worker;
         passes.push(pass)?;
     }
-    Ok(passes)
+    Ok(())
 }
 
 // How many calls a second that are, on standard error.
@@ -219,75 +221,12 @@ fn call_count<N: Names>(passes: &[Pass<N>]) -> usize {
     count
 }
 
-// Tells how many calls were certified since then, and how many events there are.
-fn tell_certified(
-    rt: &HostRuntime,
-    passes: usize,
-    calls: usize,
-    since: io::Result<Instant>,
-    ended: Result<usize, FinishFault>,
-) -> io::Result<()> {
-    let Ok(events) = ended else {
-        return println!(rt; "at once: not certified");
-    };
-    tell_rate(rt, "certified", calls, since?.elapsed(rt)?)?;
-    println!(rt; "at once: {passes} passes, {calls} calls, {events} events")
-}
-
-fn certify_all<N: Names>(rt: &HostRuntime, house: House<N>, passes: Vec<Pass<N>>) -> io::Result<()>
-    requires book_parts { (N.BookEntries.all ≡ N.BookEntries.parts) × (N.BookAmounts.all ≡ N.BookAmounts.parts) }
-    requires account_parts { (N.AccountEntries.all ≡ N.AccountEntries.parts) × (N.AccountAmounts.all ≡ N.AccountAmounts.parts) }
-    requires pass_parts { N.Events.all ≡ N.Events.parts }
-{
-    let count = passes.len();
-    let calls = call_count(passes.as_slice());
-    let since = Instant::now(rt);
-    let ended = end(rt.alloc(), house, passes);
-    tell_certified(rt, count, calls, since, ended)
-}
-
-// Has the calls certified, where they were made.
-fn certify_called<N: Names>(
-    rt: &HostRuntime,
-    house: House<N>,
-    called: io::Result<Vec<Pass<N>>>,
-) -> io::Result<()>
-    requires book_parts { (N.BookEntries.all ≡ N.BookEntries.parts) × (N.BookAmounts.all ≡ N.BookAmounts.parts) }
-    requires account_parts { (N.AccountEntries.all ≡ N.AccountEntries.parts) × (N.AccountAmounts.all ≡ N.AccountAmounts.parts) }
-    requires pass_parts { N.Events.all ≡ N.Events.parts }
-{
-    match called {
-        Ok(passes) => certify_all(rt, house, passes),
-        Err(fault) => Err(fault),
-    }
-}
-
 // Makes the calls of the files' lines, each file's by a pass.
-fn called<N: Names + Send + Sync, R: Threads + Wait + Sync>(
+fn make_calls<N: Names + Send + Sync, R: Threads + Wait + Sync>(
     rt: &HostRuntime,
     threads: &R,
     house: &House<N>,
-    passes: Vec<Pass<N>>,
-    files: &[String],
-) -> io::Result<Vec<Pass<N>>>
-where
-    N::BookEntries: Send + Sync,
-    N::BookAmounts: Send + Sync,
-    N::AccountEntries: Send + Sync,
-    N::AccountAmounts: Send + Sync,
-    N::Events: Send + Sync,
-{
-    let mut workers = Vec::new(rt.alloc());
-    add_workers(rt, house, passes, files, &mut workers)?;
-    call_all(rt, threads, house, workers.as_mut_slice())?;
-    Ok(passes_of(rt.alloc(), workers)?)
-}
-
-fn work<N: Names + Send + Sync, R: Threads + Wait + Sync>(
-    rt: &HostRuntime,
-    threads: &R,
-    house: House<N>,
-    passes: Vec<Pass<N>>,
+    passes: &mut Vec<Pass<N>>,
     files: &[String],
 ) -> io::Result<()>
 where
@@ -296,35 +235,70 @@ where
     N::AccountEntries: Send + Sync,
     N::AccountAmounts: Send + Sync,
     N::Events: Send + Sync,
-    requires book_parts { (N.BookEntries.all ≡ N.BookEntries.parts) × (N.BookAmounts.all ≡ N.BookAmounts.parts) }
-    requires account_parts { (N.AccountEntries.all ≡ N.AccountEntries.parts) × (N.AccountAmounts.all ≡ N.AccountAmounts.parts) }
-    requires pass_parts { N.Events.all ≡ N.Events.parts }
 {
-    let called = called(rt, threads, &house, passes, files);
-    certify_called(rt, house, called)
+    let given = mem::replace(passes, Vec::new(rt.alloc()));
+    let mut workers = Vec::new(rt.alloc());
+    add_workers(rt, house, given, files, &mut workers)?;
+    call_all(rt, threads, house, workers.as_mut_slice())?;
+    Ok(add_passes(workers, passes)?)
 }
 
-/// Makes the calls of the files' lines, each file's by a pass and on a thread of its own, has them certified, and tells how many
-/// there were, and how many a second.
-pub fn measure<'a, N: Names + Send + Sync, R: Threads + Wait + Sync>(
+fn measured<T>(done: io::Result<T>) -> Result<T, Fault<'static>> {
+    match done {
+        Ok(value) => Ok(value),
+        Err(_) => Err(Fault::NotMeasured),
+    }
+}
+
+/// Calls that are to be certified.
+#[derive(Clone, Copy)]
+pub struct Certifying {
+    passes: usize,
+    calls: usize,
+    /// When that begins.
+    since: Result<Instant, Fault<'static>>,
+}
+
+/// Makes the calls of the files' lines, each file's by a pass and on a thread of its own, and tells how many a second. They are to
+/// be certified right then.
+pub fn measure<N: Names + Send + Sync, R: Threads + Wait + Sync>(
     rt: &HostRuntime,
     threads: &R,
-    house: House<N>,
-    passes: Vec<Pass<N>>,
+    house: &House<N>,
+    passes: &mut Vec<Pass<N>>,
     files: &[String],
-) -> Result<(), Fault<'a>>
+) -> Result<Next<'static>, Fault<'static>>
 where
     N::BookEntries: Send + Sync,
     N::BookAmounts: Send + Sync,
     N::AccountEntries: Send + Sync,
     N::AccountAmounts: Send + Sync,
     N::Events: Send + Sync,
-    requires book_parts { (N.BookEntries.all ≡ N.BookEntries.parts) × (N.BookAmounts.all ≡ N.BookAmounts.parts) }
-    requires account_parts { (N.AccountEntries.all ≡ N.AccountEntries.parts) × (N.AccountAmounts.all ≡ N.AccountAmounts.parts) }
-    requires pass_parts { N.Events.all ≡ N.Events.parts }
 {
-    match work(rt, threads, house, passes, files) {
-        Ok(()) => Ok(()),
-        Err(_) => Err(Fault::NotMeasured),
-    }
+    measured(make_calls(rt, threads, house, passes, files))?;
+    Ok(Next::Finish(Ending::AtOnce(Certifying {
+        passes: passes.len(),
+        calls: call_count(passes),
+        since: measured(Instant::now(rt)),
+    })))
+}
+
+/// Tells how many calls were certified, how many a second, and how many events there are.
+pub fn tell(
+    rt: &HostRuntime,
+    certifying: Certifying,
+    ended: &Result<Ended, FinishFault>,
+) -> Result<(), Fault<'static>> {
+    let Ok(ended) = ended else {
+        return measured(println!(rt; "at once: not certified"));
+    };
+    let Certifying {
+        passes,
+        calls,
+        since,
+    } = certifying;
+    let took = measured(since?.elapsed(rt))?;
+    measured(tell_rate(rt, "certified", calls, took))?;
+    let events = ended.events.len();
+    measured(println!(rt; "at once: {passes} passes, {calls} calls, {events} events"))
 }

@@ -4,19 +4,14 @@
 ghost use Rattle.std.specs.Prelude.{All, ◌≡◌, IfOk, map};
 ghost use Rattle.shared_house.specs.Points.{AreAdmitted};
 
-use super::one_pass::answer_by_last;
 use crate::fault::Fault;
 use exact_money::Amount;
 use ocpi_types::Config;
 use period_order::OrderEntry;
 use plain_house::Answer;
-use request_lines::{Sink, Source};
-use shared_house::{
-    CertifyFault, Configured, Gathered, House, Made, Names, Part, Pass, certify, gather,
-};
+use shared_house::{CertifyFault, Gathered, Made, certify};
 use std::alloc::{AllocError, Global};
 use std::io;
-use std::sync::Wait;
 
 fn told(written: io::Result<()>) -> Result<(), Fault<'static>> {
     match written {
@@ -185,8 +180,8 @@ fn tell_all(rt: &HostRuntime, config: &Config, gathered: Gathered) -> Result<(),
     tell_amounts(rt, config, gathered)
 }
 
-// Tells what is certified of what was gathered.
-fn tell_gathered(
+/// Tells what is certified of what was gathered of a house under the configuration, as it is and with each change.
+pub fn tell(
     rt: &HostRuntime,
     config: &Config,
     gathered: Result<Gathered, AllocError>,
@@ -197,42 +192,4 @@ fn tell_gathered(
         Ok(gathered) => tell_all(rt, config, gathered),
         Err(AllocError) => Err(Fault::NoMemory),
     }
-}
-
-// Tells what is certified of what the house leaves behind, where its lines were answered.
-fn tell_left<N: Names>(
-    rt: &HostRuntime,
-    config: &Config,
-    house: House<N>,
-    answered: Result<Vec<Pass<N>>, Fault<'static>>,
-) -> Result<(), Fault<'static>>
-    requires config { config.now ≡ N.BookEntries.config }
-    requires book_parts { (N.BookEntries.all ≡ N.BookEntries.parts) × (N.BookAmounts.all ≡ N.BookAmounts.parts) }
-    requires account_parts { (N.AccountEntries.all ≡ N.AccountEntries.parts) × (N.AccountAmounts.all ≡ N.AccountAmounts.parts) }
-    requires pass_parts { N.Events.all ≡ N.Events.parts }
-{
-    match answered {
-        Ok(passes) => tell_gathered(rt, config, gather(rt.alloc(), house, passes)),
-        Err(fault) => Err(fault),
-    }
-}
-
-/// Answers the lines of the reader by the last of the passes, and tells what is certified of what the house then leaves behind, by the
-/// house's configuration.
-pub fn tell<N: Names, R: Wait, S: Source, W: Sink>(
-    rt: &HostRuntime,
-    locks: &R,
-    config: &Config,
-    house: House<N>,
-    passes: Vec<Pass<N>>,
-    reader: &mut S,
-    writer: &mut W,
-) -> Result<(), Fault<'static>>
-    requires config { config.now ≡ N.BookEntries.config }
-    requires book_parts { (N.BookEntries.all ≡ N.BookEntries.parts) × (N.BookAmounts.all ≡ N.BookAmounts.parts) }
-    requires account_parts { (N.AccountEntries.all ≡ N.AccountEntries.parts) × (N.AccountAmounts.all ≡ N.AccountAmounts.parts) }
-    requires pass_parts { N.Events.all ≡ N.Events.parts }
-{
-    let answered = answer_by_last(rt.alloc(), locks, &house, passes, false, reader, writer);
-    tell_left(rt, config, house, answered)
 }

@@ -1,39 +1,80 @@
-//! The end of a house.
+//! The end of a house that has done its work.
 
-ghost use Rattle.std.specs.Prelude.{◌≡◌};
-
+use super::at_once::Certifying;
+use super::{at_once, growths, missing_pass};
 use crate::fault::Fault;
-use shared_house::{Configured, FinishFault, House, Names, Part, Pass};
-use std::alloc::Global;
+use crate::growths::{Outcome, Trial};
+use shared_house::{Ended, FinishFault};
 
-/// Ends the house, and gives how many events it has.
-pub fn end<N: Names>(
-    alloc: Global,
-    house: House<N>,
-    passes: Vec<Pass<N>>,
-) -> Result<usize, FinishFault>
-    requires book_parts { (N.BookEntries.all ≡ N.BookEntries.parts) × (N.BookAmounts.all ≡ N.BookAmounts.parts) }
-    requires account_parts { (N.AccountEntries.all ≡ N.AccountEntries.parts) × (N.AccountAmounts.all ≡ N.AccountAmounts.parts) }
-    requires pass_parts { N.Events.all ≡ N.Events.parts }
-{
-    match house.finish(alloc, passes) {
-        Ok(ended) => Ok(ended.events.len()),
-        Err(fault) => Err(fault),
+/// What is wanted of the end of a house, or told of it.
+#[derive(Clone, Copy)]
+pub enum Ending<'a> {
+    /// A house that is ended cannot be ended again, so where all else is done once more, want of memory is no fault.
+    Lines {
+        is_again: bool,
+    },
+
+    /// It is told how the house ends.
+    MissingPass,
+
+    /// It is told how fast the calls are certified.
+    AtOnce(Certifying),
+
+    /// The call is to have been held up.
+    Held {
+        was_held: bool,
+    },
+
+    /// It is told how the last line was done. The events are to be those that are expected then.
+    Growths {
+        trial: &'a Trial<'a>,
+        outcome: Outcome,
+    },
+
+    /// There are to be so many events.
+    Texts {
+        events: usize,
+    },
+}
+
+fn end_lines(ended: &Result<Ended, FinishFault>, is_again: bool) -> Result<(), Fault<'static>> {
+    match ended {
+        Ok(_) => Ok(()),
+        Err(FinishFault::NoMemory) if is_again => Ok(()),
+        Err(fault) => Err(Fault::from(*fault)),
     }
 }
 
-/// The same with the passes that are given back, where their lines were answered.
-pub fn end_answered<'a, N: Names>(
-    alloc: Global,
-    house: House<N>,
-    answered: Result<Vec<Pass<N>>, Fault<'a>>,
-) -> Result<usize, Fault<'a>>
-    requires book_parts { (N.BookEntries.all ≡ N.BookEntries.parts) × (N.BookAmounts.all ≡ N.BookAmounts.parts) }
-    requires account_parts { (N.AccountEntries.all ≡ N.AccountEntries.parts) × (N.AccountAmounts.all ≡ N.AccountAmounts.parts) }
-    requires pass_parts { N.Events.all ≡ N.Events.parts }
-{
-    match answered {
-        Ok(passes) => Ok(end(alloc, house, passes)?),
-        Err(fault) => Err(fault),
+fn end_held(ended: &Result<Ended, FinishFault>, was_held: bool) -> Result<(), Fault<'static>> {
+    match ended {
+        Ok(_) if was_held => Ok(()),
+        Ok(_) => Err(Fault::NotHeld),
+        Err(fault) => Err(Fault::from(*fault)),
+    }
+}
+
+fn end_texts(ended: &Result<Ended, FinishFault>, events: usize) -> Result<(), Fault<'static>> {
+    match ended {
+        Ok(ended) if ended.events.len() == events => Ok(()),
+        Ok(_) => Err(Fault::NotAsExpected),
+        Err(fault) => Err(Fault::from(*fault)),
+    }
+}
+
+impl Ending<'_> {
+    /// Tells how the house ended, and gives the fault where it is not as wanted.
+    pub fn tell(
+        self,
+        rt: &HostRuntime,
+        ended: &Result<Ended, FinishFault>,
+    ) -> Result<(), Fault<'static>> {
+        match self {
+            Ending::Lines { is_again } => end_lines(ended, is_again),
+            Ending::MissingPass => missing_pass::tell(rt, ended),
+            Ending::AtOnce(certifying) => at_once::tell(rt, certifying, ended),
+            Ending::Held { was_held } => end_held(ended, was_held),
+            Ending::Growths { trial, outcome } => growths::tell_ended(rt, trial, outcome, ended),
+            Ending::Texts { events } => end_texts(ended, events),
+        }
     }
 }

@@ -1,6 +1,5 @@
 //! A command of one pass, to which memory may be refused.
 
-ghost use Rattle.std.specs.Prelude.{◌≡◌};
 ghost use Rattle.cdr_checks.specs.Admission.{IsAdmitted};
 
 use crate::fault::Fault;
@@ -8,9 +7,9 @@ use crate::growths::{Outcome, Trial, announce, command_in, tell, told};
 use cdr_checks::Command;
 use ocpi_json::Room;
 use ocpi_json::same::are_same;
-use plain_house::{Event, Refused, Replied, is_out_of_memory};
+use plain_house::{Refused, Replied, is_out_of_memory};
 use request_lines::command_of;
-use shared_house::{Configured, House, Names, NoGate, Part, Pass};
+use shared_house::{Configured, Ended, FinishFault, House, Names, NoGate, Part, Pass};
 use std::alloc::Global;
 use std::sync::Wait;
 
@@ -147,8 +146,8 @@ fn replied<N: Names, R: Wait>(
     }
 }
 
-// How the first of the passes does the lines.
-fn outcome<N: Names, R: Wait>(
+/// How the first of the passes does the lines.
+pub fn outcome<N: Names, R: Wait>(
     rt: &HostRuntime,
     locks: &R,
     house: &House<N>,
@@ -165,42 +164,20 @@ fn outcome<N: Names, R: Wait>(
     }
 }
 
-// Whether the house ends with these events.
-fn ends_with<N: Names>(
-    alloc: Global,
-    house: House<N>,
-    passes: Vec<Pass<N>>,
-    events: &[Event],
-) -> bool
-    requires book_parts { (N.BookEntries.all ≡ N.BookEntries.parts) × (N.BookAmounts.all ≡ N.BookAmounts.parts) }
-    requires account_parts { (N.AccountEntries.all ≡ N.AccountEntries.parts) × (N.AccountAmounts.all ≡ N.AccountAmounts.parts) }
-    requires pass_parts { N.Events.all ≡ N.Events.parts }
-{
-    match house.finish(alloc, passes) {
-        Ok(ended) => are_same(ended.events.as_slice(), events),
-        Err(_) => false,
-    }
-}
-
-/// Does the lines by a pass of the house, tells how it does the last one, and wants the house to end with the events that are
-/// expected then.
-pub fn try_last<'a, N: Names, R: Wait>(
+/// Tells how the last line was done by a pass of a house that ended so. The events are to be those that are expected then.
+pub fn tell_ended(
     rt: &HostRuntime,
-    locks: &R,
-    house: House<N>,
-    mut passes: Vec<Pass<N>>,
     trial: &Trial<'_>,
-    is_again: bool,
-) -> Result<(), Fault<'a>>
-    requires book_parts { (N.BookEntries.all ≡ N.BookEntries.parts) × (N.BookAmounts.all ≡ N.BookAmounts.parts) }
-    requires account_parts { (N.AccountEntries.all ≡ N.AccountEntries.parts) × (N.AccountAmounts.all ≡ N.AccountAmounts.parts) }
-    requires pass_parts { N.Events.all ≡ N.Events.parts }
-{
-    let outcome = outcome(rt, locks, &house, passes.as_mut_slice(), trial, is_again);
+    outcome: Outcome,
+    ended: &Result<Ended, FinishFault>,
+) -> Result<(), Fault<'static>> {
     let events = match outcome {
         Outcome::Unchanged => trial.events_before,
         _ => trial.events,
     };
-    let ended = ends_with(rt.alloc(), house, passes, events);
-    tell(rt, Outcome::only_if(ended, outcome))
+    let is_so = match ended {
+        Ok(ended) => are_same(ended.events.as_slice(), events),
+        Err(_) => false,
+    };
+    tell(rt, Outcome::only_if(is_so, outcome))
 }

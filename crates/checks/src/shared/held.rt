@@ -1,17 +1,16 @@
 //! A call that is held up at a place while another pass is answered.
 
-ghost use Rattle.std.specs.Prelude.{◌≡◌};
-
 mod flags;
 mod lines;
 
-use super::ending::end_answered;
+use super::ending::Ending;
+use super::performing::Next;
 use super::workers::answer_pairs;
 use crate::fault::Fault;
 use flags::{Flags, Holding};
 use lines::Lines;
 use request_lines::Device;
-use shared_house::{Configured, House, Names, Part, Pass, Place};
+use shared_house::{House, Names, Pass, Place};
 use std::fs;
 use std::io::Stdout;
 use std::sync::Wait;
@@ -40,13 +39,14 @@ pub fn place_of(text: &str) -> Option<Place> {
     number_in(text, "Collecting").map(Place::Collecting)
 }
 
-// The lines of the file at the path, and where their answers go.
-fn pair_of<'f>(
+// Adds the lines of the file at the path, and where their answers go.
+fn add_pair<'f>(
     rt: &HostRuntime,
     path: &str,
     behind: Option<&'f AtomicBool>,
     sets: &'f AtomicBool,
-) -> Result<(Lines<'f>, Device<Stdout>), Fault<'static>> {
+    pairs: &mut Vec<(Lines<'f>, Device<Stdout>)>,
+) -> Result<(), Fault<'static>> {
     let Ok(file) = fs::open(rt, path) else {
         return Err(Fault::NotHeld);
     };
@@ -55,7 +55,7 @@ fn pair_of<'f>(
         behind,
         sets,
     };
-    Ok((lines, Device::new(rt.stdout())))
+    Ok(pairs.push((lines, Device::new(rt.stdout())))?)
 }
 
 // The lines of four files: those of the second behind those of the first, those of the third once the second's call is at its
@@ -69,23 +69,41 @@ fn pairs_of<'f>(
         return Err(Fault::Usage);
     };
     let mut pairs = Vec::new(rt.alloc());
-    pairs.push(pair_of(rt, before.as_str(), None, &flags.before)?)?;
-    pairs.push(pair_of(rt, held.as_str(), Some(&flags.before), &flags.held)?)?;
-    pairs.push(pair_of(rt, other.as_str(), Some(&flags.at_place), &flags.other)?)?;
-    pairs.push(pair_of(rt, behind.as_str(), Some(&flags.held), &flags.behind)?)?;
+    add_pair(rt, before.as_str(), None, &flags.before, &mut pairs)?;
+    add_pair(
+        rt,
+        held.as_str(),
+        Some(&flags.before),
+        &flags.held,
+        &mut pairs,
+    )?;
+    add_pair(
+        rt,
+        other.as_str(),
+        Some(&flags.at_place),
+        &flags.other,
+        &mut pairs,
+    )?;
+    add_pair(
+        rt,
+        behind.as_str(),
+        Some(&flags.held),
+        &flags.behind,
+        &mut pairs,
+    )?;
     Ok(pairs)
 }
 
 // Answers the lines of the files by a pass each, with the second pass's call held up at the place.
-fn answered<'a, N: Names + Send + Sync, R: Threads + Wait + Sync>(
+fn answer_files<N: Names + Send + Sync, R: Threads + Wait + Sync>(
     rt: &HostRuntime,
     threads: &R,
     house: &House<N>,
-    passes: Vec<Pass<N>>,
+    passes: &mut Vec<Pass<N>>,
     place: Place,
     files: &[String],
     flags: &Flags,
-) -> Result<Vec<Pass<N>>, Fault<'a>>
+) -> Result<(), Fault<'static>>
 where
     N::BookEntries: Send + Sync,
     N::BookAmounts: Send + Sync,
@@ -102,32 +120,27 @@ where
     answer_pairs(rt.alloc(), threads, house, passes, pairs, &gate)
 }
 
-/// Answers the lines of the files by a pass each, on standard output, with the second pass's call held up at the place, and has
-/// all calls certified.
-pub fn answer<'a, N: Names + Send + Sync, R: Threads + Wait + Sync>(
+/// Answers the lines of the files by a pass each, on standard output. The second pass's call is to be held up at the place.
+pub fn answer<N: Names + Send + Sync, R: Threads + Wait + Sync>(
     rt: &HostRuntime,
     threads: &R,
-    house: House<N>,
-    passes: Vec<Pass<N>>,
+    house: &House<N>,
+    passes: &mut Vec<Pass<N>>,
     place: Place,
     files: &[String],
-) -> Result<(), Fault<'a>>
+) -> Result<Next<'static>, Fault<'static>>
 where
     N::BookEntries: Send + Sync,
     N::BookAmounts: Send + Sync,
     N::AccountEntries: Send + Sync,
     N::AccountAmounts: Send + Sync,
     N::Events: Send + Sync,
-    requires book_parts { (N.BookEntries.all ≡ N.BookEntries.parts) × (N.BookAmounts.all ≡ N.BookAmounts.parts) }
-    requires account_parts { (N.AccountEntries.all ≡ N.AccountEntries.parts) × (N.AccountAmounts.all ≡ N.AccountAmounts.parts) }
-    requires pass_parts { N.Events.all ≡ N.Events.parts }
 {
     let flags = Flags::new();
-    let answered = answered(rt, threads, &house, passes, place, files, &flags);
-    end_answered(rt.alloc(), house, answered)?;
-    if flags.was_held.load(Ordering::SeqCst) {
-        Ok(())
-    } else {
-        Err(Fault::NotHeld)
+    match answer_files(rt, threads, house, passes, place, files, &flags) {
+        Ok(()) => Ok(Next::Finish(Ending::Held {
+            was_held: flags.was_held.load(Ordering::SeqCst),
+        })),
+        Err(fault) => Err(fault),
     }
 }

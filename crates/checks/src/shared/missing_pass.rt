@@ -1,23 +1,17 @@
 //! How a house ends without one of its passes.
 
-ghost use Rattle.std.specs.Prelude.{◌≡◌};
-
 use crate::fault::Fault;
-use shared_house::{Configured, FinishFault, House, Names, Part, Pass};
+use shared_house::{Ended, FinishFault, Names, Pass};
 
-/// Tells how the house ends with all of these passes but the last.
-pub fn tell<'a, N: Names>(
-    rt: &HostRuntime,
-    house: House<N>,
-    mut passes: Vec<Pass<N>>,
-) -> Result<(), Fault<'a>>
-    requires book_parts { (N.BookEntries.all ≡ N.BookEntries.parts) × (N.BookAmounts.all ≡ N.BookAmounts.parts) }
-    requires account_parts { (N.AccountEntries.all ≡ N.AccountEntries.parts) × (N.AccountAmounts.all ≡ N.AccountAmounts.parts) }
-    requires pass_parts { N.Events.all ≡ N.Events.parts }
-{
+/// Loses the last of the passes.
+pub fn lose_last<N: Names>(passes: &mut Vec<Pass<N>>) {
     let _ = passes.pop();
-    let how = match house.finish(rt.alloc(), passes) {
-        Ok(_ended) => "ended",
+}
+
+/// Tells how the house ended.
+pub fn tell(rt: &HostRuntime, ended: &Result<Ended, FinishFault>) -> Result<(), Fault<'static>> {
+    let how = match ended {
+        Ok(_) => "ended",
         Err(FinishFault::MissingPass) => "a pass is missing",
         Err(FinishFault::Torn { .. }) => "torn",
         Err(FinishFault::NoMemory) => return Err(Fault::NoMemory),

@@ -1,81 +1,30 @@
-//! A new house with its ledgers, and what is done with it.
+//! A new house with its ledgers, and what becomes of it.
 
 ghost use Rattle.std.specs.Prelude.{◌≡◌, length};
 ghost use Rattle.shared_house.specs.Names.{IsLedgerOf};
 
-use super::{at_once, changes, growths, held, missing_pass, one_pass, workers};
+use super::changes;
+use super::performing::{Next, Work, perform};
 use crate::fault::Fault;
-use crate::growths::Trial;
 use ocpi_types::{Config, TryCopy};
 use request_lines::{Sink, Source};
-use shared_house::{Blanks, Configured, House, Names, Part, Pass, Place};
+use shared_house::{Blanks, Configured, House, Names, Part, Pass, gather};
 use std::alloc::AllocError;
 use std::marker::Brand;
 use std::sync::Wait;
 use std::thread::Threads;
 
-/// What is done with a new house.
-#[derive(Clone, Copy)]
-pub enum Work<'a> {
-    /// One pass answers the lines of the reader, and perhaps does once more what memory is refused for.
-    Lines {
-        is_again: bool,
-    },
-
-    /// So it does, and then it is told what is certified of changed values.
-    Changes,
-
-    /// The house ends without one of two passes.
-    MissingPass,
-
-    /// The calls of files' lines are made at once, each file's by a pass.
-    AtOnce {
-        files: &'a [String],
-    },
-
-    /// A call is held up at a place while another pass is answered.
-    Held {
-        place: Place,
-        files: &'a [String],
-    },
-
-    /// A pass does the last line of the trial, and perhaps once more where memory is refused.
-    Growths {
-        trial: &'a Trial<'a>,
-        is_again: bool,
-    },
-
-    /// Workers answer the texts, and there are to be so many events.
-    Texts {
-        texts: &'a [Vec<u8>],
-        events: usize,
-    },
-}
-
-impl Work<'_> {
-    // How many passes the house has.
-    fn passes(&self) -> usize {
-        match self {
-            Work::Lines { .. } | Work::Changes | Work::Growths { .. } => 1,
-            Work::MissingPass => 2,
-            Work::AtOnce { files } => files.len(),
-            Work::Held { .. } => held::FILES,
-            Work::Texts { texts, .. } => texts.len(),
-        }
-    }
-}
-
-// Does the work by the house and its passes.
-fn perform_by<'a, N: Names + Send + Sync, R: Threads + Wait + Sync, S: Source, W: Sink>(
+// Does the work by the house and its passes, and tells what becomes of them.
+fn perform_by<N: Names + Send + Sync, R: Threads + Wait + Sync, S: Source, W: Sink>(
     rt: &HostRuntime,
     threads: &R,
     config: &Config,
     house: House<N>,
-    passes: Vec<Pass<N>>,
+    mut passes: Vec<Pass<N>>,
     work: Work<'_>,
     reader: &mut S,
     writer: &mut W,
-) -> Result<(), Fault<'a>>
+) -> Result<(), Fault<'static>>
 where
     N::BookEntries: Send + Sync,
     N::BookAmounts: Send + Sync,
@@ -87,27 +36,16 @@ where
     requires account_parts { (N.AccountEntries.all ≡ N.AccountEntries.parts) × (N.AccountAmounts.all ≡ N.AccountAmounts.parts) }
     requires pass_parts { N.Events.all ≡ N.Events.parts }
 {
-    match work {
-        Work::Lines { is_again } => {
-            one_pass::answer_lines(rt, threads, house, passes, is_again, reader, writer)
-        }
-        Work::Changes => changes::tell(rt, threads, config, house, passes, reader, writer),
-        Work::MissingPass => missing_pass::tell(rt, house, passes),
-        Work::AtOnce { files } => at_once::measure(rt, threads, house, passes, files),
-        Work::Held { place, files } => held::answer(rt, threads, house, passes, place, files),
-        Work::Growths { trial, is_again } => {
-            growths::try_last(rt, threads, house, passes, trial, is_again)
-        }
-        Work::Texts { texts, events } => {
-            workers::answer_texts(rt.alloc(), threads, house, passes, texts, events)
-        }
+    match perform(rt, threads, &house, &mut passes, work, reader, writer) {
+        Ok(Next::Gather) => changes::tell(rt, config, gather(rt.alloc(), house, passes)),
+        Ok(Next::Finish(ending)) => ending.tell(rt, &house.finish(rt.alloc(), passes)),
+        Err(fault) => Err(fault),
     }
 }
 
 // Does the work by a house of these ledgers, under their names, one of which stands for the configuration too. The house takes its
 // configuration in, so there is a copy.
 fn perform_under<
-    'a,
     B: Configured + Send + Sync,
     X: Part + Send + Sync,
     A: Part + Send + Sync,
@@ -126,7 +64,7 @@ fn perform_under<
     work: Work<'_>,
     reader: &mut S,
     writer: &mut W,
-) -> Result<(), Fault<'a>>
+) -> Result<(), Fault<'static>>
     requires config { config ≡ B.config }
     requires copy { copy.now ≡ config }
     requires book_entries { IsLedgerOf blanks.book_entries B.name B.parts B.all (length config.operators) }
@@ -142,14 +80,14 @@ fn perform_under<
 }
 
 /// Does the work by a new house under the configuration.
-pub fn with_house<'a, R: Threads + Wait + Sync, S: Source, W: Sink>(
+pub fn with_house<R: Threads + Wait + Sync, S: Source, W: Sink>(
     rt: &HostRuntime,
     threads: &R,
     config: Config,
     work: Work<'_>,
     reader: &mut S,
     writer: &mut W,
-) -> Result<(), Fault<'a>> {
+) -> Result<(), Fault<'static>> {
     let copy = config.copy(rt.alloc())?;
     let passes = work.passes();
     let blanks = Blanks::new(&config, passes);

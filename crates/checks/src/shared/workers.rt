@@ -1,40 +1,32 @@
 //! Lines that workers answer, a pass each.
 
-ghost use Rattle.std.specs.Prelude.{◌≡◌};
-
-use super::ending::end_answered;
+use super::ending::Ending;
+use super::performing::Next;
 use crate::fault::Fault;
 use platform_workers::{WorkerEnd, run_platforms};
 use request_lines::{Device, Sink, Source};
-use shared_house::{Configured, Gate, House, Names, NoGate, Part, Pass};
+use shared_house::{Gate, House, Names, NoGate, Pass};
 use std::alloc::{AllocError, Global};
-use std::io;
 use std::sync::Wait;
 use std::thread::Threads;
+use std::{io, mem};
 
-// The pass of a worker that was done, or its fault.
-fn pass_of<'a, N: Names>(worker: (Pass<N>, WorkerEnd)) -> Result<Pass<N>, Fault<'a>> {
-    match worker {
-        (pass, WorkerEnd::Done(_)) => Ok(pass),
-        (_, WorkerEnd::Failed(fault)) => Err(Fault::from(fault)),
-    }
-}
-
-// The passes of workers that were done, or the first fault.
-fn passes_of<'a, N: Names>(
-    alloc: Global,
+// Adds the passes of workers that were done, up to the first fault.
+fn add_passes<N: Names>(
     workers: Vec<(Pass<N>, WorkerEnd)>,
-) -> Result<Vec<Pass<N>>, Fault<'a>> {
-    let mut passes = Vec::new(alloc);
-    for worker in workers {
-        passes.push(pass_of(worker)?)?;
+    passes: &mut Vec<Pass<N>>,
+) -> Result<(), Fault<'static>> {
+    for (pass, end) in workers {
+        match end {
+            WorkerEnd::Done(_) => passes.push(pass)?,
+            WorkerEnd::Failed(fault) => return Err(Fault::from(fault)),
+        }
     }
-    Ok(passes)
+    Ok(())
 }
 
-/// Answers the lines of each pair by a worker with the pass in the same place, and gives the passes back.
+/// Answers the lines of each pair by a worker with the pass in the same place.
 pub fn answer_pairs<
-    'a,
     N: Names + Send + Sync,
     R: Threads + Wait + Sync,
     S: Source + Drop + Send,
@@ -44,10 +36,10 @@ pub fn answer_pairs<
     alloc: Global,
     threads: &R,
     house: &House<N>,
-    passes: Vec<Pass<N>>,
+    passes: &mut Vec<Pass<N>>,
     pairs: Vec<(S, W)>,
     gate: &G,
-) -> Result<Vec<Pass<N>>, Fault<'a>>
+) -> Result<(), Fault<'static>>
 where
     N::BookEntries: Send + Sync,
     N::BookAmounts: Send + Sync,
@@ -58,8 +50,9 @@ where
     if passes.len() != pairs.len() {
         return Err(Fault::NotAsExpected);
     }
-    match run_platforms(threads, alloc, house, passes, pairs, gate) {
-        Ok(workers) => passes_of(alloc, workers),
+    let given = mem::replace(passes, Vec::new(alloc));
+    match run_platforms(threads, alloc, house, given, pairs, gate) {
+        Ok(workers) => add_passes(workers, passes),
         Err(_) => Err(Fault::NoMemory),
     }
 }
@@ -76,14 +69,15 @@ fn pairs_of<'a>(
     Ok(pairs)
 }
 
-// Answers the texts by a worker each.
-fn answered_texts<'a, N: Names + Send + Sync, R: Threads + Wait + Sync>(
+/// Answers the texts by a worker each. There are to be so many events then.
+pub fn answer_texts<N: Names + Send + Sync, R: Threads + Wait + Sync>(
     alloc: Global,
     threads: &R,
     house: &House<N>,
-    passes: Vec<Pass<N>>,
+    passes: &mut Vec<Pass<N>>,
     texts: &[Vec<u8>],
-) -> Result<Vec<Pass<N>>, Fault<'a>>
+    events: usize,
+) -> Result<Next<'static>, Fault<'static>>
 where
     N::BookEntries: Send + Sync,
     N::BookAmounts: Send + Sync,
@@ -92,32 +86,6 @@ where
     N::Events: Send + Sync,
 {
     let pairs = pairs_of(alloc, texts)?;
-    answer_pairs(alloc, threads, house, passes, pairs, &NoGate)
-}
-
-/// Answers the texts by a worker each, has all calls certified, and wants so many events.
-pub fn answer_texts<'a, N: Names + Send + Sync, R: Threads + Wait + Sync>(
-    alloc: Global,
-    threads: &R,
-    house: House<N>,
-    passes: Vec<Pass<N>>,
-    texts: &[Vec<u8>],
-    events: usize,
-) -> Result<(), Fault<'a>>
-where
-    N::BookEntries: Send + Sync,
-    N::BookAmounts: Send + Sync,
-    N::AccountEntries: Send + Sync,
-    N::AccountAmounts: Send + Sync,
-    N::Events: Send + Sync,
-    requires book_parts { (N.BookEntries.all ≡ N.BookEntries.parts) × (N.BookAmounts.all ≡ N.BookAmounts.parts) }
-    requires account_parts { (N.AccountEntries.all ≡ N.AccountEntries.parts) × (N.AccountAmounts.all ≡ N.AccountAmounts.parts) }
-    requires pass_parts { N.Events.all ≡ N.Events.parts }
-{
-    let answered = answered_texts(alloc, threads, &house, passes, texts);
-    if end_answered(alloc, house, answered)? == events {
-        Ok(())
-    } else {
-        Err(Fault::NotAsExpected)
-    }
+    answer_pairs(alloc, threads, house, passes, pairs, &NoGate)?;
+    Ok(Next::Finish(Ending::Texts { events }))
 }
