@@ -32,7 +32,7 @@ fn ensure_tariff(config: &Config, platform: &CiText<36>, tariff: &Tariff) -> Res
 fn put_tariff(
     config: &Config,
     platform: &CiText<36>,
-    tariff: Tariff,
+    tariff: Shared<Tariff>,
 ) -> Result<Command, (Ask, Refusal)>
     ensures { result ≡ handed_back (Ask.PutTariff tariff) (put_tariff_admission config.now platform.now tariff) }
 {

@@ -59,7 +59,7 @@ pub struct StatementOf {
 /// What a request asks for.
 #[derive(Drop)]
 pub enum Ask {
-    PutTariff(Tariff),
+    PutTariff(Shared<Tariff>),
     PutToken(Token),
     Authorize(Authorize),
     Release(Release),
@@ -81,7 +81,7 @@ pub struct Request {
 /// What a house is told to do, once the request is admitted.
 #[derive(Drop)]
 pub enum Command {
-    PutTariff(Tariff),
+    PutTariff(Shared<Tariff>),
     PutToken(Token),
     Authorize(Authorize),
     Release(Release),

@@ -5,7 +5,7 @@ ghost use Rattle.cdr_rating.specs.Pricing.{lacks_its_tariff, lacks_tariff, secon
 
 use jiff::Timestamp;
 use ocpi_json::ci_text::CiText;
-use ocpi_types::{Cdr, ChargingPeriod, Tariff};
+use ocpi_types::{Cdr, ChargingPeriod, Shared, Tariff};
 
 /// Whole seconds from one instant to another, 0 where it is earlier.
 pub(crate) fn seconds_between(start: Timestamp, instant: Timestamp) -> u64
@@ -20,7 +20,7 @@ pub(crate) fn seconds_between(start: Timestamp, instant: Timestamp) -> u64
     }
 }
 
-fn tariff_among<'a>(tariffs: &'a [Tariff], id: &CiText<36>) -> Option<&'a Tariff>
+fn tariff_among<'a>(tariffs: &'a [Shared<Tariff>], id: &CiText<36>) -> Option<&'a Shared<Tariff>>
     ensures { option_copied result ≡ find (λ tariff. same_folded tariff.id id.now) tariffs.now }
 {
     tariffs.iter().find(|tariff| tariff.id == *id)
@@ -31,7 +31,7 @@ pub(crate) fn tariff_of<'a>(cdr: &'a Cdr, period: &ChargingPeriod) -> Option<&'a
     ensures { option_copied result ≡ tariff_of cdr.now period.now }
 {
     match &period.tariff_id {
-        Some(id) => tariff_among(cdr.tariffs.as_slice(), id),
+        Some(id) => Some(tariff_among(cdr.tariffs.as_slice(), id)?),
         None => None,
     }
 }

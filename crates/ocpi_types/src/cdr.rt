@@ -6,16 +6,15 @@ mod reading;
 
 use super::cdr_token::{AuthMethod, CdrToken};
 use super::charging_period::ChargingPeriod;
-use super::copying::TryCopy;
 use super::currency::Currency;
 use super::party::Party;
-use super::shared_list::SharedUpTo;
+use super::shared::Shared;
 use super::tariff::Tariff;
+use super::up_to::UpTo;
 use exact_money::Millionths;
 use jiff::Timestamp;
 use ocpi_json::ci_text::CiText;
 use ocpi_json::sequence::Sequence;
-use std::alloc::{AllocError, Global};
 
 /// A charge detail record of an operator (OCPI 2.2.1, CDR object). One that is no Credit CDR has an id of up to 36 bytes and no
 /// volume or total energy below 0.
@@ -29,8 +28,8 @@ pub struct Cdr {
     pub auth_method: AuthMethod,
     pub authorization_reference: Option<CiText<36>>,
     pub currency: Currency,
-    pub tariffs: Sequence<Tariff>,
-    pub charging_periods: SharedUpTo<ChargingPeriod, 1000>,
+    pub tariffs: Sequence<Shared<Tariff>>,
+    pub charging_periods: UpTo<ChargingPeriod, 1000>,
     /// Without tax, in millionths of the currency unit.
     pub total_cost: Millionths,
     /// In millionths of a kWh.
@@ -54,29 +53,5 @@ impl Cdr {
         ensures { result ≡ is_credit self.now }
     {
         self.credit.is_some()
-    }
-}
-
-impl TryCopy for Cdr {
-    fn copy(&self, alloc: Global) -> Result<Cdr, AllocError> {
-        let tariffs = self.tariffs.copy(alloc)?;
-        let charging_periods = self.charging_periods.copy(alloc)?;
-        Ok(Cdr {
-            operator: self.operator,
-            id: self.id,
-            start_date_time: self.start_date_time,
-            end_date_time: self.end_date_time,
-            cdr_token: self.cdr_token,
-            auth_method: self.auth_method,
-            authorization_reference: self.authorization_reference,
-            currency: self.currency,
-            tariffs,
-            charging_periods,
-            total_cost: self.total_cost,
-            total_energy: self.total_energy,
-            total_time: self.total_time,
-            credit: self.credit,
-            last_updated: self.last_updated,
-        })
     }
 }

@@ -3,6 +3,9 @@
 ghost use Rattle.std.specs.Prelude.{◌≡◌, IfOk};
 
 use super::copying::TryCopy;
+use ocpi_json::Node;
+use ocpi_json::fields::FieldFault;
+use ocpi_json::objects::FromNodeIn;
 use ocpi_json::same::Same;
 use std::alloc::{AllocError, Global};
 use std::marker::Model;
@@ -40,6 +43,19 @@ impl<T: Drop> Shared<T> {
         }
     }
 
+    /// The same value, for one more owner.
+    ///
+    /// # Errors
+    ///
+    /// `AllocError` where it has as many owners as can be counted, 2^63 - 1.
+    pub fn share(&self) -> Result<Shared<T>, AllocError>
+        ensures { IfOk result (λ shared. shared ≡ self.now) }
+    {
+        Ok(Shared {
+            value: Arc::try_clone(&self.value)?,
+        })
+    }
+
     /// Changes the value, where it has no other owner.
     pub fn change_sole<C: Unseen<T>>(&mut self, change: &C)
         ensures { self.new ≡ self.old }
@@ -64,16 +80,18 @@ impl<T> Deref for Shared<T> {
     }
 }
 
+impl<T: FromNodeIn + Drop> FromNodeIn for Shared<T> {
+    ghost at = { T.at };
+
+    fn from_node_in(alloc: Global, node: &Node) -> Result<Shared<T>, FieldFault> {
+        let value = T::from_node_in(alloc, node)?;
+        Ok(Shared::new(alloc, value)?)
+    }
+}
+
 impl<T: Drop> TryCopy for Shared<T> {
-    /// The same value, for one more owner.
-    ///
-    /// # Errors
-    ///
-    /// `AllocError` where it has as many owners as can be counted, 2^63 - 1.
     fn copy(&self, _alloc: Global) -> Result<Shared<T>, AllocError> {
-        Ok(Shared {
-            value: Arc::try_clone(&self.value)?,
-        })
+        self.share()
     }
 }
 

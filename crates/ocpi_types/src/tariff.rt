@@ -1,19 +1,18 @@
 ghost use Rattle.std.specs.Prelude.{◌≡◌};
 ghost use Rattle.ocpi_types.specs.Tariff.{price_at};
 
-use super::copying::TryCopy;
 use super::currency::Currency;
 use super::element::Element;
 use super::members::{self, Quantity};
 use super::party::Party;
-use super::shared_list::SharedList;
 use jiff::Timestamp;
 use ocpi_json::Node;
 use ocpi_json::ci_text::CiText;
 use ocpi_json::fields::{self, FieldFault};
 use ocpi_json::name::Name;
 use ocpi_json::objects::{FromNode, FromNodeIn, read_each_in};
-use std::alloc::{AllocError, Global};
+use ocpi_json::sequence::Sequence;
+use std::alloc::Global;
 
 /// A version of a tariff of an operator (OCPI 2.2.1, Tariff object).
 #[derive(Drop)]
@@ -25,7 +24,7 @@ pub struct Tariff {
     pub min_price: Option<Quantity>,
     /// Without tax, in millionths of the currency unit.
     pub max_price: Option<Quantity>,
-    pub elements: SharedList<Element>,
+    pub elements: Sequence<Element>,
     pub last_updated: Timestamp,
 }
 
@@ -52,7 +51,7 @@ impl FromNodeIn for Tariff {
         let min_price = read_price(node, Name::MinPrice)?;
         let max_price = read_price(node, Name::MaxPrice)?;
         let items = fields::list(node, Name::Elements, 1, 100)?;
-        let elements = SharedList::new(alloc, read_each_in(alloc, items)?)?;
+        let elements = read_each_in(alloc, items)?;
         let last_updated = fields::instant(node, Name::LastUpdated)?;
         Ok(Tariff {
             operator,
@@ -62,21 +61,6 @@ impl FromNodeIn for Tariff {
             max_price,
             elements,
             last_updated,
-        })
-    }
-}
-
-impl TryCopy for Tariff {
-    fn copy(&self, alloc: Global) -> Result<Tariff, AllocError> {
-        let elements = self.elements.copy(alloc)?;
-        Ok(Tariff {
-            operator: self.operator,
-            id: self.id,
-            currency: self.currency,
-            min_price: self.min_price,
-            max_price: self.max_price,
-            elements,
-            last_updated: self.last_updated,
         })
     }
 }

@@ -78,7 +78,7 @@ impl Book {
     }
 
     // The stored version of that operator, id and moment.
-    fn stored_version(&self, tariff: &Tariff) -> Option<&Tariff>
+    fn stored_version(&self, tariff: &Tariff) -> Option<&Shared<Tariff>>
         ensures { option_copied result ≡ stored_version tariff.now self.now.entries }
     {
         self.index.versions.find(self.entries.as_slice(), tariff)
@@ -249,7 +249,7 @@ impl Book {
     }
 
     /// Stores a tariff version that is not stored, without taking memory.
-    pub fn put_tariff(&mut self, tariff: Tariff)
+    pub fn put_tariff(&mut self, tariff: Shared<Tariff>)
         requires room { self.old.has_room ≡ true }
         requires fresh { stored_version tariff self.old.entries ≡ None }
         ensures { self.new ≡ record { entries = self.old.entries ++ book.Tariff tariff ∷ []; has_room = false } }
@@ -257,7 +257,7 @@ impl Book {
         self.put(BookEntry::Tariff(tariff));
     }
 
-    // The CDR, whose tariffs take no memory for the elements that their stored versions have as well, where it has no other owner.
+    // The CDR, whose tariffs are their stored versions, where these are the same and it has no other owner.
     fn with_shared_tariffs(&self, cdr: Shared<Cdr>) -> Shared<Cdr>
         ensures { result ≡ cdr }
     {

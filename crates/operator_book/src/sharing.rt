@@ -1,4 +1,4 @@
-//! The tariffs of CDRs share their elements with the stored versions.
+//! The tariffs of CDRs have one place in memory with their stored versions.
 
 ghost use Rattle.std.specs.Prelude.{◌≡◌, IfSome};
 ghost use Rattle.operator_book.specs.Inner.Versions.{FindsVersions};
@@ -6,40 +6,25 @@ ghost use Rattle.operator_book.specs.Inner.Versions.{FindsVersions};
 use crate::versions::Versions;
 use ocpi_json::same::Same;
 use ocpi_json::sequence::Sequence;
-use ocpi_types::{Cdr, Tariff, Unseen};
+use ocpi_types::{Cdr, Shared, Tariff, Unseen};
 use plain_house::BookEntry;
 
-// The tariff again, with the elements of the version, where these are the same.
-fn with_elements_of(version: &Tariff, tariff: &Tariff) -> Option<Tariff>
-    ensures { IfSome result (λ shared. shared ≡ tariff.now) }
-{
-    if !version.elements.is_same(&tariff.elements) {
-        return None;
-    }
-    let Ok(elements) = version.elements.share() else {
-        return None;
-    };
-    Some(Tariff {
-        operator: tariff.operator,
-        id: tariff.id,
-        currency: tariff.currency,
-        min_price: tariff.min_price,
-        max_price: tariff.max_price,
-        elements,
-        last_updated: tariff.last_updated,
-    })
-}
-
 impl Versions {
-    fn shared(&self, entries: &[BookEntry], tariff: &Tariff) -> Option<Tariff>
+    // The stored version, for one more owner, where it is this tariff.
+    fn shared(&self, entries: &[BookEntry], tariff: &Shared<Tariff>) -> Option<Shared<Tariff>>
         requires { FindsVersions self.now entries.now }
         ensures { IfSome result (λ shared. shared ≡ tariff.now) }
     {
-        with_elements_of(self.find(entries, tariff)?, tariff)
+        let version = self.find(entries, tariff)?;
+        if version.is_same(tariff) {
+            version.share().ok()
+        } else {
+            None
+        }
     }
 
-    // Lets tariffs share their elements with their stored versions, where these are the same.
-    fn share(&self, entries: &[BookEntry], tariffs: &mut Sequence<Tariff>)
+    // Puts the stored versions in the places of tariffs that are the same.
+    fn share(&self, entries: &[BookEntry], tariffs: &mut Sequence<Shared<Tariff>>)
         requires { FindsVersions self.now entries.now }
         ensures { tariffs.new ≡ tariffs.old }
     {
@@ -51,7 +36,7 @@ impl Versions {
     }
 }
 
-/// Lets the tariffs of CDRs share their elements with their stored versions, where these are the same, without taking memory.
+/// Lets the tariffs of CDRs be their stored versions, where these are the same, without taking memory.
 #[derive(Clone, Copy)]
 pub struct Sharing<'a> {
     versions: &'a Versions,

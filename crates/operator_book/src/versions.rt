@@ -10,11 +10,11 @@ ghost use Rattle.plain_house.specs.declared.entry.BookEntry.{BookEntry as Entry}
 use crate::keys::VersionKey;
 use crate::places::Places;
 use ocpi_types::laws::same_tariffs_are_equal_folded;
-use ocpi_types::{Cdr, Party, Tariff, same_tariff};
+use ocpi_types::{Cdr, Party, Shared, Tariff, same_tariff};
 use plain_house::BookEntry;
 use std::alloc::{AllocError, Global};
 
-fn version_in(entry: &BookEntry) -> Option<&Tariff>
+fn version_in(entry: &BookEntry) -> Option<&Shared<Tariff>>
     ensures { option_to_list (option_copied result) ≡ version_in entry.now }
 {
     match entry {
@@ -58,7 +58,7 @@ impl Versions {
     }
 
     /// The stored version of that operator, id and moment.
-    pub fn find<'a>(&self, entries: &'a [BookEntry], tariff: &Tariff) -> Option<&'a Tariff>
+    pub fn find<'a>(&self, entries: &'a [BookEntry], tariff: &Tariff) -> Option<&'a Shared<Tariff>>
         requires { FindsVersions self.now entries.now }
         ensures { option_copied result ≡ stored_version tariff.now entries.now }
     {

@@ -61,7 +61,7 @@ fn read_tariff(alloc: Global, node: &Node) -> Result<Ask, FieldFault>
     ensures { Finds result (tariff_ask_at node.now) }
 {
     let tariff = Tariff::from_node_in(alloc, &fields::object(node, Name::Tariff)?)?;
-    Ok(Ask::PutTariff(tariff))
+    Ok(Ask::PutTariff(Shared::new(alloc, tariff)?))
 }
 
 #[inline(never)]

@@ -12,16 +12,16 @@ use crate::telling::{Cause, Told, Value};
 use cdr_checks::Ask;
 use ocpi_json::ci_text::CiText;
 use ocpi_json::name::Name;
-use ocpi_types::{Cdr, ChargingPeriod, ElectricBounds, Element, Tariff};
+use ocpi_types::{Cdr, ChargingPeriod, ElectricBounds, Element, Shared, Tariff};
 use tariff_elements::supported;
 
-fn is_id_of_one(tariffs: &[Tariff], id: &CiText<36>) -> bool
+fn is_id_of_one(tariffs: &[Shared<Tariff>], id: &CiText<36>) -> bool
     ensures { result ≡ list_any (λ tariff. same_folded tariff.id id.now) tariffs.now }
 {
     tariffs.iter().any(|tariff| tariff.id == *id)
 }
 
-fn is_not_given(tariffs: &[Tariff], id: &Option<CiText<36>>) -> bool
+fn is_not_given(tariffs: &[Shared<Tariff>], id: &Option<CiText<36>>) -> bool
     ensures { result ≡ is_not_given tariffs.now id.now }
 {
     match id {
@@ -31,7 +31,10 @@ fn is_not_given(tariffs: &[Tariff], id: &Option<CiText<36>>) -> bool
 }
 
 /// The first charging period that names a tariff which is not among these.
-pub fn period_without_tariff(tariffs: &[Tariff], periods: &[ChargingPeriod]) -> Option<usize>
+pub fn period_without_tariff(
+    tariffs: &[Shared<Tariff>],
+    periods: &[ChargingPeriod],
+) -> Option<usize>
     ensures { result ≡ position (λ period. is_not_given tariffs.now period.tariff_id) periods.now }
 {
     periods
@@ -75,7 +78,7 @@ pub fn electric_element(elements: &[Element]) -> Option<usize>
 }
 
 /// The first tariff that is not supported.
-pub fn unsupported_tariff(tariffs: &[Tariff]) -> Option<usize>
+pub fn unsupported_tariff(tariffs: &[Shared<Tariff>]) -> Option<usize>
     ensures { result ≡ position (λ tariff. not (supported tariff)) tariffs.now }
 {
     tariffs.iter().position(|tariff| !supported(tariff))

@@ -2,7 +2,7 @@
 
 use ocpi_json::name::Name;
 use ocpi_json::same::Same;
-use ocpi_types::{Cdr, CdrToken, ChargingPeriod, Dimension, Tariff, same_tariff};
+use ocpi_types::{Cdr, CdrToken, ChargingPeriod, Dimension, Shared, Tariff, same_tariff};
 
 fn is_same_token(one: &CdrToken, other: &CdrToken) -> bool {
     one.provider.is(&other.provider)
@@ -11,7 +11,7 @@ fn is_same_token(one: &CdrToken, other: &CdrToken) -> bool {
         && one.contract_id == other.contract_id
 }
 
-fn are_same_tariffs(some: &[Tariff], others: &[Tariff]) -> bool {
+fn are_same_tariffs(some: &[Shared<Tariff>], others: &[Shared<Tariff>]) -> bool {
     for (one, other) in some.iter().zip(others) {
         if !same_tariff(one, other) {
             return false;

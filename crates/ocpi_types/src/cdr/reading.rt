@@ -13,9 +13,9 @@ use crate::charging_period::ChargingPeriod;
 use crate::currency::Currency;
 use crate::members;
 use crate::party::Party;
-use crate::shared_list::SharedUpTo;
+use crate::shared::Shared;
 use crate::tariff::Tariff;
-use crate::up_to::read_up_to;
+use crate::up_to::{UpTo, read_up_to};
 use exact_money::Millionths;
 use jiff::Timestamp;
 use ocpi_json::Node;
@@ -34,18 +34,17 @@ fn read_session_token(node: &Node) -> Result<CdrToken, Name>
 }
 
 #[tactic(auto, unfolding(crate::specs::Cdr::tariffs_at))]
-fn read_tariffs(alloc: Global, node: &Node) -> Result<Sequence<Tariff>, FieldFault>
+fn read_tariffs(alloc: Global, node: &Node) -> Result<Sequence<Shared<Tariff>>, FieldFault>
     ensures { Finds result (tariffs_at node.now) }
 {
     read_each_in(alloc, fields::list_or_empty(node, Name::Tariffs, 10)?)
 }
 
 #[tactic(auto, unfolding(crate::specs::Cdr::periods_at))]
-fn read_periods(alloc: Global, node: &Node) -> Result<SharedUpTo<ChargingPeriod, 1000>, FieldFault>
+fn read_periods(alloc: Global, node: &Node) -> Result<UpTo<ChargingPeriod, 1000>, FieldFault>
     ensures { Finds result (periods_at node.now) }
 {
-    let periods = read_up_to(alloc, fields::list(node, Name::ChargingPeriods, 1, 1000)?)?;
-    Ok(SharedUpTo::new(alloc, periods)?)
+    read_up_to(alloc, fields::list(node, Name::ChargingPeriods, 1, 1000)?)
 }
 
 #[tactic(auto, unfolding(crate::specs::Cdr::cost_at))]
@@ -158,8 +157,8 @@ fn read_totals(node: &Node) -> Result<Totals, Name>
 struct Parts {
     opening: Opening,
     authorised: Authorised,
-    tariffs: Sequence<Tariff>,
-    charging_periods: SharedUpTo<ChargingPeriod, 1000>,
+    tariffs: Sequence<Shared<Tariff>>,
+    charging_periods: UpTo<ChargingPeriod, 1000>,
     totals: Totals,
 }
 

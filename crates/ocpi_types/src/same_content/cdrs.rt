@@ -9,6 +9,7 @@ use crate::cdr_token::{AuthMethod, CdrToken};
 use crate::charging_period::ChargingPeriod;
 use crate::dimension::{Dimension, DimensionKind};
 use crate::kind_text::KindText;
+use crate::shared::Shared;
 use crate::tariff::Tariff;
 use exact_money::Millionths;
 use ocpi_json::ci_text::CiText;
@@ -113,6 +114,14 @@ impl Part for Tariff {
 
     fn is_same(&self, other: &Tariff) -> bool {
         same_tariff(self, other)
+    }
+}
+
+impl<T: Part + Drop> Part for Shared<T> {
+    ghost same = { T.same };
+
+    fn is_same(&self, other: &Shared<T>) -> bool {
+        (**self).is_same(&**other)
     }
 }
 
