@@ -2,7 +2,6 @@ pub mod EndingLemmas
 pub mod LegalSettlements
 pub mod ListLemmas
 pub mod ObligationLemmas
-pub mod PeriodsLemmas
 pub mod RowsLemmas
 pub mod SettledLemmas
 pub mod SizeLemmas

@@ -1,6 +1,6 @@
 //! The rows of all that is booked, by period, currency, operator and provider.
 
-ghost use Rattle.std.specs.Prelude.{◌≡◌, ◌++◌, ◌<◌, ◌≤◌, ◌^◌, ℕ, length, IfOk, OnOk};
+ghost use Rattle.std.specs.Prelude.{◌≡◌, ◌++◌, ◌<◌, ◌^◌, ℕ, IfOk, OnOk};
 ghost use Rattle.netting_positions.specs.Netting.{total_size};
 ghost use Rattle.plain_house.specs.Entries.{book_entries, period_of};
 ghost use Rattle.plain_house.specs.Obligations.{obligations};
@@ -12,7 +12,7 @@ use super::booking::{Booking, bookings};
 use super::laws::bookings_are_obligations;
 use super::row::{Place, Row, of_currency, of_operator, of_period, of_provider, row_of};
 use ocpi_types::{Config, Currency, Party};
-use plain_house::{Event, period_after};
+use plain_house::{Event, period_of};
 use std::alloc::{AllocError, Global};
 
 /// The parties and currencies of which there are rows, in their order.
@@ -140,21 +140,6 @@ fn listed_in(alloc: Global, config: &Config) -> Result<Listed, AllocError>
         operators: operators_of(alloc, config)?,
         providers: providers_of(alloc, config)?,
     })
-}
-
-// The current period: how many are closed.
-#[tactic(auto, using(crate::proofs::PeriodsLemmas::next_period))]
-fn period_of(events: &[Event]) -> u64
-    ensures value { result ≡ period_of events.now }
-    ensures bound { result ≤ length events.now }
-{
-    let mut period = 0;
-    let mut rest = events;
-    while let Some((event, later)) = rest.split_first() {
-        period = period_after(period, event);
-        rest = later;
-    }
-    period
 }
 
 /// The rows, by period, currency, operator and provider.

@@ -14,4 +14,5 @@ pub mod SameParties
 pub mod ShortLemmas
 pub mod StatedLemmas
 pub mod Sums
+pub mod TableLemmas
 pub mod Walks

@@ -16,7 +16,7 @@ pub use laws::{
     statements_are_short, sums_decide_net_positions, sums_decide_statements,
 };
 pub use obligation::Obligation;
-pub use positions::{NetPosition, Positions};
+pub use positions::{NetPosition, Positions, parties_of};
 pub use row::StatementRow;
-pub use statement::StatementTable;
-pub use table::ObligationTable;
+pub use statement::{StatementTable, rows_of};
+pub use table::{ObligationTable, add_each};

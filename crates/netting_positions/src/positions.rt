@@ -82,7 +82,7 @@ fn add_providers(parties: &mut Vec<Party>, config: &Config) -> Result<(), AllocE
 }
 
 /// The operators, and then the providers that are no operators.
-pub(crate) fn parties_of(alloc: Global, config: &Config) -> Result<Vec<Party>, AllocError>
+pub fn parties_of(alloc: Global, config: &Config) -> Result<Vec<Party>, AllocError>
     ensures parties { IfOk result (λ found. found.items ≡ parties config.now) }
     ensures few { IfOk result (λ found. length found.items ≤ 128) }
 {

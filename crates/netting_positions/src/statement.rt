@@ -1,9 +1,10 @@
 //! Statements, as obligations are added.
 
-ghost use Rattle.std.specs.Prelude.{◌≡◌, ◌≤◌, ◌<◌, ◌^◌, length, map, vec_capacity};
-ghost use Rattle.std.specs.List.{All};
+ghost use Rattle.std.specs.Prelude.{◌≡◌, ◌≤◌, ◌<◌, ◌^◌, true, length, map, vec_capacity, IfOk};
+ghost use Rattle.std.specs.List.{All, list_all};
 ghost use Rattle.std.specs.List.Sorted.{IsStrictlySortedBy};
-ghost use Rattle.netting_positions.specs.Netting.{size};
+ghost use Rattle.netting_positions.specs.Netting.{is_configured, parties, size, total_size};
+ghost use Rattle.netting_positions.specs.Statement.{statement_rows};
 ghost use Rattle.netting_positions.specs.StatementKeys.{key_order};
 ghost use Rattle.netting_positions.specs.Inner.StatedRows.{HasRoomIn, row_key, rows_with};
 
@@ -12,7 +13,7 @@ use super::laws::statements_are_short;
 use super::obligation::Obligation;
 use super::positions::parties_of;
 use super::row::{Key, StatementRow, key_of, place_of, row_with, zero_row};
-use super::table::ObligationTable;
+use super::table::{ObligationTable, add_each};
 use ocpi_json::sequence::Sequence;
 use ocpi_types::{Config, Currency, Party};
 use std::alloc::{AllocError, Global};
@@ -105,4 +106,20 @@ impl ObligationTable for StatementTable {
         }
         self.history = self.history.and(obligation);
     }
+}
+
+/// The rows of a party's statement of these obligations.
+pub fn rows_of(
+    alloc: Global,
+    config: &Config,
+    obligations: &[Obligation],
+    party: &Party,
+) -> Result<Sequence<StatementRow>, AllocError>
+    requires configured { list_all (is_configured (parties config.now) config.now.currencies) obligations.now ≡ true }
+    requires fits { total_size obligations.now < 2 ^ 63 }
+    ensures { IfOk result (λ rows. rows ≡ statement_rows party.now obligations.now) }
+{
+    let mut table = StatementTable::new(alloc, config, *party)?;
+    add_each(&mut table, obligations);
+    Ok(table.into_rows())
 }

@@ -10,7 +10,7 @@ use ocpi_types::{Cdr, Cost, Currency, Party, Shared, Tariff, Token};
 /// What an operator's book keeps of an event. CDRs and Credit CDRs keep the period in which they were booked.
 #[derive(Drop)]
 pub enum BookEntry {
-    Tariff(Tariff),
+    Tariff(Shared<Tariff>),
     Cdr {
         cdr: Shared<Cdr>,
         cost: Cost,

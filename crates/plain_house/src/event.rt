@@ -18,7 +18,7 @@ pub struct Hold {
 /// What has happened in a house.
 #[derive(Drop)]
 pub enum Event {
-    Tariff(Tariff),
+    Tariff(Shared<Tariff>),
     Token(Token),
     Authorised(Hold),
     Released(Release),

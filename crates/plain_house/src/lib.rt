@@ -50,8 +50,8 @@ pub use laws::{
     replies_fit, replies_tell_events, settlements_end_their_debts, verdicts_are_of_own_entries,
     verdicts_are_told,
 };
-pub use obligations::statement_rows;
-pub use periods::{period_after, split_first_period};
+pub use obligations::{obligations_in, statement_rows};
+pub use periods::{period_after, period_of, split_first_period};
 pub use posting::{above, reply_to_booked, taken_back};
 pub use replies::{adds_event, is_out_of_memory, out_of_memory, stamped};
 pub use reply_room::ReplyRoom;

@@ -61,6 +61,28 @@ fn add_all<T: ObligationTable>(table: &mut T, events: &[Event], period: u64)
     }
 }
 
+/// What the CDRs and Credit CDRs of a period oblige to, in their order.
+#[tactic(auto, using(crate::proofs::ObligationLemmas::obligation_rules))]
+pub fn obligations_in(
+    alloc: Global,
+    events: &[Event],
+    period: u64,
+) -> Result<Vec<Obligation>, AllocError>
+    ensures { IfOk result (λ found. found.items ≡ obligations period (book_entries events.now)) }
+{
+    let mut found = Vec::new(alloc);
+    let mut current = 0;
+    let mut rest = events;
+    while let Some((event, later)) = rest.split_first() {
+        if let Some(obligation) = obligation_in(event, current, period) {
+            found.push(obligation)?;
+        }
+        current = period_after(current, event);
+        rest = later;
+    }
+    Ok(found)
+}
+
 /// The net positions of all parties in a period.
 pub fn positions_in(
     alloc: Global,

@@ -1,6 +1,6 @@
 //! The periods in which events stand.
 
-ghost use Rattle.std.specs.Prelude.{◌≡◌, ◌<◌, ◌≤◌, ◌+◌, ◌^◌, position};
+ghost use Rattle.std.specs.Prelude.{◌≡◌, ◌<◌, ◌≤◌, ◌+◌, ◌^◌, length, position};
 ghost use Rattle.plain_house.specs.Entries.{book_entries, is_close, period_after, period_of};
 ghost use Rattle.plain_house.specs.Obligations.{GoesOnFrom, obligations};
 
@@ -27,7 +27,8 @@ pub fn period_after(period: u64, event: &Event) -> u64
 /// The current period: how many closes there are.
 #[tactic(auto, using(crate::proofs::PeriodsLemmas::next_period))]
 pub fn period_of(events: &[Event]) -> u64
-    ensures { result ≡ period_of events.now }
+    ensures value { result ≡ period_of events.now }
+    ensures bound { result ≤ length events.now }
 {
     let mut period = 0;
     let mut rest = events;

@@ -9,12 +9,12 @@ use super::replies::{add, refused, replied};
 use crate::answer::{Answer, Refused, Replied};
 use crate::event::Event;
 use crate::tariffs::stored_version;
-use ocpi_types::{Config, Refusal, Tariff, same_tariff};
+use ocpi_types::{Config, Refusal, Shared, Tariff, same_tariff};
 
 pub fn put_tariff(
     config: &Config,
     events: &mut Vec<Event>,
-    tariff: Tariff,
+    tariff: Shared<Tariff>,
 ) -> Result<Replied, Refused>
     ensures { Does config.now events.old.items (PutTariff tariff) result events.new.items }
 {
