@@ -2,10 +2,12 @@ pub mod BooksLemmas
 pub mod CollectingLemmas
 pub mod DecidesLemmas
 pub mod DuesLemmas
+pub mod EachLemmas
 pub mod EntriesLemmas
 pub mod HouseLemmas
 pub mod KeptLemmas
 pub mod LawLemmas
+pub mod LedgersLemmas
 pub mod NumberLemmas
 pub mod OrderLemmas
 pub mod OutcomeLemmas

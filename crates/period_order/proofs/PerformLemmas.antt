@@ -1,7 +1,7 @@
 -- A house after a command that looks into one book, one account, or both.
-use Rattle.std.proofs.Common.{◌≡◌, ◌<◌, ℕ, List, [], ◌∷◌, ◌++◌, true, refl, sym, ap, ap₂, subst, ◌∙◌, length, slice_get, count_by, Option, None, Some, is_some, map, option_map, IfSome, Bor}
+use Rattle.std.proofs.Common.{◌≡◌, ℕ, List, [], ◌∷◌, ◌++◌, true, refl, sym, ap, ap₂, subst, ◌∙◌, length, slice_get, count_by, Option, None, Some, is_some, map, option_map, Bor}
 use Rattle.std.specs.Option.{option_and_then, option_copied}
-use Rattle.std.proofs.lemmas.Option.{slice_get-map, slice_get_within}
+use Rattle.std.proofs.lemmas.Option.{slice_get-map}
 use Rattle.ocpi_types.specs.declared.config.Config.{Config}
 use Rattle.ocpi_types.specs.declared.party.Party.{Party}
 use Rattle.ocpi_types.specs.Config.{alike_operators, alike_providers}
@@ -86,7 +86,7 @@ event_is config entries (outcome.Stated ask) = refl
 -- ---- what is given
 
 -- the book whose entries are known
-given_at : {X Y : Type 0} (f : X → List Y) (items : List X) (number : ℕ) (own : List Y) → slice_get (map f items) number ≡ Some own
+pub given_at : {X Y : Type 0} (f : X → List Y) (items : List X) (number : ℕ) (own : List Y) → slice_get (map f items) number ≡ Some own
     → (x : X) × (slice_get items number ≡ Some x) × (own ≡ f x)
 given_at {X = X} f items number own h = by (slice_get items number) refl (sym (slice_get-map f items number) ∙ h)
   where
@@ -133,20 +133,6 @@ module _ (config : Config) (books : List PlainBook) (accounts : List PlainAccoun
           let given = account_given provider e in
           subst (λ (o : Option PlainAccount). AreOfAccount o (own_account provider events)) (sym given.1) given.2
 
-  pub is_given_book : is_some the_book ≡ is_some (operator_of_command told)
-  is_given_book = by (operator_of_command told) refl
-    where
-      by : (o : Option Party) → operator_of_command told ≡ o → is_some (option_and_then (slice_get books) (option_map (operator_number config) o)) ≡ is_some o
-      by None e = refl
-      by (Some operator) e = ap is_some (book_given operator e).1
-
-  pub is_given_account : is_some the_account ≡ is_some (provider_of_command told)
-  is_given_account = by (provider_of_command told) refl
-    where
-      by : (o : Option Party) → provider_of_command told ≡ o → is_some (option_and_then (slice_get accounts) (option_map (provider_number config) o)) ≡ is_some o
-      by None e = refl
-      by (Some provider) e = ap is_some (account_given provider e).1
-
   -- the verdict on what is known of the book and the account is that of the outcome
   given_verdict : OutcomesAreVerdicts → (outcome : Outcome) (entries : List BookEntry) (others : List AccountEntry) → outcome ≡ outcome_of told (verdict config (seen entries others order) told)
       → verdict config (seen entries others order) told ≡ verdict_with config entries outcome
@@ -163,29 +149,15 @@ module _ (config : Config) (books : List PlainBook) (accounts : List PlainAccoun
       ∙ given_verdict are_verdicts outcome (of_operator (operator_of_command told) (book_entries events)) (of_account (provider_of_command told) (account_entries events))
       (decides.outcome_is (of_operator (operator_of_command told) (book_entries events)) (of_account (provider_of_command told) (account_entries events)) are_of_book are_of_account)
 
-  -- ---- what stands at the command's numbers
+  -- ---- how many entries stand at the command's numbers
 
-  pub book_within : IfSome (option_map (operator_number config) (operator_of_command told)) (λ n. n < length books)
-  book_within = by (operator_of_command told) refl
-    where
-      by : (o : Option Party) → operator_of_command told ≡ o → IfSome (option_map (operator_number config) o) (λ n. n < length books)
-      by None e = tt
-      by (Some operator) e = let given = book_given operator e in slice_get_within books (operator_number config operator) given.0 given.1
-
-  pub account_within : IfSome (option_map (provider_number config) (provider_of_command told)) (λ n. n < length accounts)
-  account_within = by (provider_of_command told) refl
-    where
-      by : (o : Option Party) → provider_of_command told ≡ o → IfSome (option_map (provider_number config) o) (λ n. n < length accounts)
-      by None e = tt
-      by (Some provider) e = let given = account_given provider e in slice_get_within accounts (provider_number config provider) given.0 given.1
-
-  book_size_is : (operator : Party) → operator_of_command told ≡ Some operator → book_length the_book ≡ length (own_book operator (book_entries events))
+  pub book_size_is : (operator : Party) → operator_of_command told ≡ Some operator → book_length the_book ≡ length (own_book operator (book_entries events))
   book_size_is operator own =
       let given = book_given operator own in
       ap (λ (o : Option Party). book_length (option_and_then (slice_get books) (option_map (operator_number config) o))) own
       ∙ ap book_length given.1 ∙ ap length (sym given.2)
 
-  account_size_is : (provider : Party) → provider_of_command told ≡ Some provider → account_length the_account ≡ length (own_account provider events)
+  pub account_size_is : (provider : Party) → provider_of_command told ≡ Some provider → account_length the_account ≡ length (own_account provider events)
   account_size_is provider own =
       let given = account_given provider own in
       ap (λ (o : Option Party). account_length (option_and_then (slice_get accounts) (option_map (provider_number config) o))) own
@@ -197,7 +169,7 @@ module _ (config : Config) (books : List PlainBook) (accounts : List PlainAccoun
     abbrev verdict_reached : verdict config (known events) told ≡ verdict_with config (of_operator (operator_of_command told) (book_entries events)) outcome
     verdict_reached = verdict_is laws outcome decides
 
-    event_reached : (verdict config (known events) told).event ≡ event_of outcome
+    pub event_reached : (verdict config (known events) told).event ≡ event_of outcome
     event_reached = ap (λ (v : Verdict). v.event) verdict_reached ∙ event_is config (of_operator (operator_of_command told) (book_entries events)) outcome
 
     pub keeps_put : (now_books : List (List BookEntry)) (now_accounts : List (List AccountEntry)) (now : PlainOrder)

@@ -1,4 +1,5 @@
 -- Words that only private contracts and proofs use.
 pub mod Collected
+pub mod EventParties
 pub mod Kept
 pub mod Named

@@ -2,6 +2,7 @@ pub mod Decided
 pub mod Dues
 pub mod Inner
 pub mod Kept
+pub mod Ledgers
 pub mod Order
 pub mod Places
 pub mod Resolved

@@ -2,9 +2,10 @@
 
 ghost use Rattle.std.specs.Prelude.{◌≡◌, ◌↔◌, ◌-◌, true, [], length, slice_get, IfOk, Some};
 
+use super::last::is_last;
 use super::laws::{orders_are_counted, orders_resolve, resolving_is_unique, resolving_is_whole};
 use super::order::Order;
-use super::resolved::{ResolveFault, named, names, resolve};
+use super::resolved::{ResolveFault, named, resolve};
 use cdr_checks::Command;
 use ocpi_types::Config;
 use operator_book::Book;
@@ -13,10 +14,10 @@ use provider_account::Account;
 use std::alloc::{AllocError, Global};
 use std::marker::Model;
 
-mod books;
+pub(crate) mod books;
 mod collect;
 mod collectable;
-mod keep;
+pub(crate) mod keep;
 mod perform;
 mod table;
 
@@ -99,14 +100,8 @@ impl BookHouse {
     pub fn is_last(&self, event: &Event) -> bool
         ensures { (result ≡ true) ↔ (slice_get self.now.events (length self.now.events - 1) ≡ Some event.now) }
     {
-        orders_are_counted();
-        orders_resolve();
-        let Some(entry) = self.order.entries().last() else {
-            return false;
-        };
-        let period = self.order.period_before(*entry);
         let (books, accounts) = (self.books.as_slice(), self.accounts.as_slice());
-        names(books, accounts, period, *entry, event)
+        is_last(books, accounts, &self.order, event)
     }
 }
 

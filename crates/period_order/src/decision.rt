@@ -13,11 +13,11 @@ use ocpi_types::Config;
 use operator_book::Book;
 use provider_account::Account;
 
-mod authorize;
+pub(crate) mod authorize;
 mod close;
 mod full;
 mod outcomes;
-mod post;
+pub(crate) mod post;
 mod put_tariff;
 mod put_token;
 mod read;

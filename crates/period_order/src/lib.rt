@@ -4,7 +4,9 @@
 mod book_house;
 mod decided;
 mod decision;
+mod last;
 mod laws;
+mod ledgers;
 mod numbers;
 mod order;
 mod order_entry;
@@ -19,6 +21,7 @@ pub use laws::{
     orders_are_counted, orders_are_resolved, orders_resolve, outcomes_are_verdicts,
     parties_stand_at_their_numbers, resolving_is_unique, resolving_is_whole,
 };
+pub use ledgers::Ledgers;
 pub use numbers::{operator_number, provider_number};
 pub use order::Order;
 pub use order_entry::{OrderEntry, Place};

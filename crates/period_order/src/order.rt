@@ -119,6 +119,28 @@ impl Order {
         self.has_room = false;
     }
 
+    /// Adds what is kept of any event, without taking memory.
+    pub(crate) fn add(&mut self, entry: OrderEntry)
+        requires { self.old.has_room ≡ true }
+        ensures { self.new ≡ record { entries = self.old.entries ++ entry ∷ []; has_room = false } }
+    {
+        match entry {
+            OrderEntry::Close => self.close(),
+            OrderEntry::InBook { .. } | OrderEntry::InAccount { .. } | OrderEntry::InBoth { .. } =>
+                self.append(entry),
+        }
+    }
+
+    // Closes the current period, without taking memory.
+    fn close(&mut self)
+        requires { self.old.has_room ≡ true }
+        ensures { self.new ≡ record { entries = self.old.entries ++ entry.Close ∷ []; has_room = false } }
+    {
+        let _ = self.entries.push(OrderEntry::Close);
+        self.period += 1;
+        self.has_room = false;
+    }
+
     // The store that is full, the order first, where a period cannot be closed.
     fn full_for_close(&self, config: &Config) -> Option<Store>
         ensures { result ≡ first_full ((store.Order, is_order_full config.now (point_of self.now))
@@ -150,9 +172,7 @@ impl Order {
             return Err(Refusal::Full { what });
         }
         let point = self.point();
-        let _ = self.entries.push(OrderEntry::Close);
-        self.period += 1;
-        self.has_room = false;
+        self.close();
         Ok(point)
     }
 }

@@ -1,10 +1,12 @@
 -- What is collected book by book, and the table that it is collected in.
-use Rattle.std.specs.Prelude.{◌≡◌, ◌+◌, ◌<◌, ◌^◌, ℕ, List, [], ◌++◌, length, None, Result, Ok}
+use Rattle.std.specs.Prelude.{◌≡◌, ◌+◌, ◌<◌, ◌^◌, ℕ, List, [], ◌++◌, length, None, Some, Result, Ok}
 use Rattle.ocpi_types.specs.declared.config.Config.{Config}
 use Rattle.ocpi_types.specs.declared.config.Operator.{Operator}
 use Rattle.ocpi_types.specs.declared.refusal.Refusal.{Refusal}
 use Rattle.cdr_checks.specs.declared.request.Command.{Command}
 use Rattle.cdr_checks.specs.declared.request.Command.TheVariants as command
+use Rattle.cdr_checks.specs.declared.request.Command.TheVariants.{Statement as StatementCommand}
+use Rattle.cdr_checks.specs.declared.request.StatementOf.{StatementOf}
 use Rattle.netting_positions.specs.declared.obligation.Obligation.{Obligation}
 use Rattle.netting_positions.specs.Netting.{net_positions, parties, total_size}
 use Rattle.netting_positions.specs.State.{Scope}
@@ -13,7 +15,8 @@ use Rattle.plain_house.specs.declared.answer.Answer.{Answer}
 use Rattle.plain_house.specs.declared.answer.Answer.TheVariants as answer
 use Rattle.plain_house.specs.declared.entry.BookEntry.{BookEntry}
 use Rattle.plain_house.specs.declared.event.Event.{Event}
-use Rattle.plain_house.specs.Entries.{book_entries}
+use Rattle.plain_house.specs.declared.event.Event.TheVariants as event
+use Rattle.plain_house.specs.Entries.{book_entries, period_of}
 use Rattle.plain_house.specs.House.{verdict}
 use Rattle.plain_house.specs.Known.{known}
 use Rattle.plain_house.specs.Replies.{with_event}
@@ -85,3 +88,6 @@ pub record IsReached (config : Config) (events : List Event) (command : Command)
   pub reply_is : (verdict config (known events) command).reply ≡ (verdict_with config (book_entries now) decided.outcome).reply
   pub now_is : now ≡ with_event events (verdict config (known events) command).event
   pub table_is : IsTableFor config decided.outcome (table_of config command)
+  -- net positions are left where the current period is closed, and rows where a statement of a closed one is given
+  pub closes : (period : ℕ) → decided.outcome ≡ outcome.Closed period → (verdict config (known events) command).event ≡ Some (event.Closed period)
+  pub states : (ask : StatementOf) → decided.outcome ≡ outcome.Stated ask → (command ≡ StatementCommand ask) × (ask.period < period_of events)

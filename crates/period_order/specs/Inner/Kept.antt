@@ -1,8 +1,10 @@
 -- What a house of books, accounts and an order has, and what it can put.
-use Rattle.std.specs.Prelude.{◌≡◌, ℕ, true, List, Option, Some, None, slice_get}
+use Rattle.std.specs.Prelude.{◌≡◌, ℕ, true, List, length, Option, Some, None, slice_get}
 use Rattle.ocpi_types.specs.declared.config.Config.{Config}
 use Rattle.operator_book.specs.State.{PlainBook}
 use Rattle.provider_account.specs.State.{PlainAccount}
+use Rattle.plain_house.specs.declared.entry.AccountEntry.{AccountEntry}
+use Rattle.plain_house.specs.declared.entry.BookEntry.{BookEntry}
 use Rattle.plain_house.specs.declared.event.Event.{Event}
 use Rattle.period_order.specs.Decided.{AccountTakes, BookTakes}
 use Rattle.period_order.specs.Kept.{Keeps, with_added}
@@ -16,6 +18,21 @@ kept_events books accounts order = resolved (entries_of_books books) (entries_of
 abbrev pub IsKept : Config → List PlainBook → List PlainAccount → PlainOrder → Type 0
 IsKept config books accounts order =
     Keeps config (entries_of_books books) (entries_of_accounts accounts) order.entries (kept_events books accounts order)
+
+-- books, accounts and order keep these events
+abbrev pub AreKept : Config → List PlainBook → List PlainAccount → PlainOrder → List Event → Type 0
+AreKept config books accounts order events = Keeps config (entries_of_books books) (entries_of_accounts accounts) order.entries events
+
+-- what they keep is as it was
+pub record AreAsBefore (books now_books : List PlainBook) (accounts now_accounts : List PlainAccount) (order now_order : PlainOrder) : Type 0 where
+  pub books_are : entries_of_books now_books ≡ entries_of_books books
+  pub accounts_are : entries_of_accounts now_accounts ≡ entries_of_accounts accounts
+  pub order_is : now_order.entries ≡ order.entries
+
+-- there is a book for each operator, and an account for each provider
+pub record OneEach (config : Config) (books : List (List BookEntry)) (accounts : List (List AccountEntry)) : Type 0 where
+  pub of_operators : length books ≡ length config.operators
+  pub of_providers : length accounts ≡ length config.providers
 
 -- ---- one entry more
 

@@ -1,18 +1,19 @@
 //! A command given its place in the order, and its event put.
 
-ghost use Rattle.std.specs.Prelude.{◌≡◌, ◌<◌, true, length, IfOk, IfSome, OnErr, OnOk};
+ghost use Rattle.std.specs.Prelude.{◌≡◌, ◌<◌, true, List, length, IfOk, IfSome, OnErr, OnOk};
 ghost use Rattle.cdr_checks.specs.Admission.{IsAdmitted};
+ghost use Rattle.plain_house.specs.declared.event.Event.{Event};
 ghost use Rattle.plain_house.specs.Entries.{account_entry, book_entry};
+ghost use Rattle.plain_house.specs.House.{events_after};
 ghost use Rattle.period_order.specs.Decided.{event_of};
 ghost use Rattle.period_order.specs.Inner.Collected.{IsReached, without_event};
 ghost use Rattle.period_order.specs.Kept.{account_number, book_number, with_added};
-ghost use Rattle.period_order.specs.Inner.Kept.{AccountHasRoom, AccountTakesAt, BookHasRoom, BookTakesAt, IsKept, kept_events, with_event_added};
+ghost use Rattle.period_order.specs.Inner.Kept.{AccountHasRoom, AccountTakesAt, AreAsBefore, AreKept, BookHasRoom, BookTakesAt, OneEach, with_event_added};
 ghost use Rattle.period_order.specs.Resolved.{entries_of_accounts, entries_of_books};
 
 use super::books::{account_at, book_at, reserve_account, reserve_book};
 use crate::decided::{Decided, Outcome};
 use crate::decision::decide;
-use crate::laws::orders_are_resolved;
 use crate::numbers::{operator_number, provider_number};
 use crate::order::Order;
 use crate::puts::{put_in_account, put_in_book};
@@ -40,8 +41,8 @@ fn account_number(config: &Config, command: &Command) -> Option<usize>
     Some(provider_number(config, &provider))
 }
 
-// Makes room for what the command may add.
-fn reserve(
+/// Makes room for one more entry in the book and the account of these numbers, where they are given, and in the order.
+pub fn reserve(
     books: &mut Vec<Book>,
     book: Option<usize>,
     accounts: &mut Vec<Account>,
@@ -63,8 +64,13 @@ fn reserve(
     Ok(())
 }
 
-// Puts the event's entry into the account of that number, where one is given.
-fn put_in_accounts(accounts: &mut Vec<Account>, account: Option<usize>, event: &Event, period: u64)
+/// Puts the event's entry into the account of that number, where one is given.
+pub fn put_in_accounts(
+    accounts: &mut Vec<Account>,
+    account: Option<usize>,
+    event: &Event,
+    period: u64,
+)
     requires number { IfSome account (λ n. n < length accounts.old.items) }
     requires room { AccountHasRoom accounts.old.items account }
     requires takes { AccountTakesAt accounts.old.items account period event.now }
@@ -75,8 +81,8 @@ fn put_in_accounts(accounts: &mut Vec<Account>, account: Option<usize>, event: &
     }
 }
 
-// Puts the event's entry into the book of that number, where one is given.
-fn put_in_books(books: &mut Vec<Book>, book: Option<usize>, event: Event, period: u64)
+/// Puts the event's entry into the book of that number, where one is given.
+pub fn put_in_books(books: &mut Vec<Book>, book: Option<usize>, event: Event, period: u64)
     requires number { IfSome book (λ n. n < length books.old.items) }
     requires room { BookHasRoom books.old.items book }
     requires takes { BookTakesAt books.old.items book event }
@@ -123,7 +129,8 @@ fn parted(outcome: Outcome) -> (Outcome, Option<Event>)
     }
 }
 
-/// Gives the command its place in the order and puts its event, where there is memory for it.
+/// Gives the command its place in the order and puts its event, where there is memory for it: behind each legal list that
+/// books, accounts and order keep.
 pub fn keep(
     config: &Config,
     books: &mut Vec<Book>,
@@ -132,13 +139,14 @@ pub fn keep(
     command: Command,
 ) -> Result<Decided, AllocError>
     requires admitted { IsAdmitted config.now command }
-    requires kept { IsKept config.now books.old.items accounts.old.items order.old }
-    ensures kept { IsKept config.now books.new.items accounts.new.items order.new }
-    ensures ok { IfOk result (λ decided. IsReached config.now (kept_events books.old.items accounts.old.items order.old) command decided
-        (kept_events books.new.items accounts.new.items order.new)) }
-    ensures err { OnErr result (kept_events books.new.items accounts.new.items order.new ≡ kept_events books.old.items accounts.old.items order.old) }
+    requires each { OneEach config.now (entries_of_books books.old.items) (entries_of_accounts accounts.old.items) }
+    ensures each { OneEach config.now (entries_of_books books.new.items) (entries_of_accounts accounts.new.items) }
+    ensures ok { IfOk result (λ decided. (events : List Event) → AreKept config.now books.old.items accounts.old.items order.old events →
+        IsReached config.now events command decided (events_after config.now events command)) }
+    ensures kept { IfOk result (λ decided. (events : List Event) → AreKept config.now books.old.items accounts.old.items order.old events →
+        AreKept config.now books.new.items accounts.new.items order.new (events_after config.now events command)) }
+    ensures err { OnErr result (AreAsBefore books.old.items books.new.items accounts.old.items accounts.new.items order.old order.new) }
 {
-    orders_are_resolved();
     commands_have_parties();
     commands_keep_lists_legal();
     entries_are_dated();

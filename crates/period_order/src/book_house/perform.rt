@@ -1,14 +1,17 @@
 //! Each command answered.
 
-ghost use Rattle.std.specs.Prelude.{◌≡◌};
+ghost use Rattle.std.specs.Prelude.{◌≡◌, IfOk, OnErr};
 ghost use Rattle.cdr_checks.specs.Admission.{IsAdmitted};
 ghost use Rattle.plain_house.specs.House.{Does};
+ghost use Rattle.period_order.specs.Inner.Collected.{IsReached};
 ghost use Rattle.period_order.specs.Inner.Kept.{IsKept, kept_events};
 
 use super::collect::collected_reply;
 use super::collectable::kept_books_are_collectable;
 use super::keep::keep;
 use super::table::Table;
+use crate::decided::Decided;
+use crate::laws::orders_are_resolved;
 use crate::order::Order;
 use cdr_checks::Command;
 use netting_positions::{sums_decide_net_positions, sums_decide_statements};
@@ -16,7 +19,26 @@ use ocpi_types::Config;
 use operator_book::Book;
 use plain_house::{Refused, Replied, out_of_memory, stamped, verdicts_are_told};
 use provider_account::Account;
-use std::alloc::Global;
+use std::alloc::{AllocError, Global};
+
+// Gives the command its place behind the events of the house.
+fn reach(
+    config: &Config,
+    books: &mut Vec<Book>,
+    accounts: &mut Vec<Account>,
+    order: &mut Order,
+    command: Command,
+) -> Result<Decided, AllocError>
+    requires admitted { IsAdmitted config.now command }
+    requires kept { IsKept config.now books.old.items accounts.old.items order.old }
+    ensures kept { IsKept config.now books.new.items accounts.new.items order.new }
+    ensures ok { IfOk result (λ decided. IsReached config.now (kept_events books.old.items accounts.old.items order.old) command decided
+        (kept_events books.new.items accounts.new.items order.new)) }
+    ensures err { OnErr result (kept_events books.new.items accounts.new.items order.new ≡ kept_events books.old.items accounts.old.items order.old) }
+{
+    orders_are_resolved();
+    keep(config, books, accounts, order, command)
+}
 
 /// Replies to a command and adds its event. All memory is taken before the command has its place in the order.
 pub fn perform(
@@ -39,7 +61,7 @@ pub fn perform(
     let Ok(table) = Table::new(alloc, config, &command) else {
         return Err(out_of_memory());
     };
-    let Ok(decided) = keep(config, books, accounts, order, command) else {
+    let Ok(decided) = reach(config, books, accounts, order, command) else {
         return Err(out_of_memory());
     };
     kept_books_are_collectable(config, books.as_slice(), accounts.as_slice(), order);

@@ -19,9 +19,9 @@ use ocpi_types::{Config, Refusal};
 use plain_house::{Answer, Event, Hold};
 use provider_account::Account;
 
-// The hold of an authorisation that passes no limit.
+/// The hold of an authorisation that passes no limit.
 #[tactic(auto, using(crate::proofs::TakesLemmas::hold_within))]
-fn hold_within(config: &Config, ask: &Authorize, account: &Account) -> Hold
+pub fn hold_within(config: &Config, ask: &Authorize, account: &Account) -> Hold
     requires { lacks_credit config.now ask.now account.now.entries ≡ false }
     ensures value { result ≡ hold_for config.now ask.now account.now.entries }
     ensures takes { (period : ℕ) → AccountTakes account.now.entries period (event.Authorised result) }

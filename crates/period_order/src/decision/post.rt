@@ -37,9 +37,9 @@ fn entry_of(config: &Config, cdr: &Cdr, book: &Book, account: &Account) -> Order
     }
 }
 
-// With the charge added an exposure is above its limit.
+/// With the charge added an exposure is above its limit.
 #[tactic(auto, using(crate::proofs::TakesLemmas::charge_within))]
-fn over_limit(config: &Config, account: &Account, charge: &Charge) -> Option<Refusal>
+pub fn over_limit(config: &Config, account: &Account, charge: &Charge) -> Option<Refusal>
     ensures value { result ≡ over_limit config.now charge.now account.now.entries }
     ensures within { result ≡ None → exposure_of (of_provider charge.now.provider charge.now.currency)
         (account.now.entries ++ ChargeEntry charge.now ∷ []) ≤ 10 ^ 15 }

@@ -10,11 +10,16 @@ use crate::decided::Outcome;
 use crate::numbers::in_book;
 use crate::order::Order;
 use crate::order_entry::OrderEntry;
-use ocpi_types::{Config, Refusal, Tariff};
+use ocpi_types::{Config, Refusal, Shared, Tariff};
 use operator_book::Book;
 use plain_house::{Answer, Event};
 
-pub fn put_tariff(config: &Config, tariff: Tariff, book: &Book, order: &mut Order) -> Outcome
+pub fn put_tariff(
+    config: &Config,
+    tariff: Shared<Tariff>,
+    book: &Book,
+    order: &mut Order,
+) -> Outcome
     requires { order.old.has_room ≡ true }
     ensures outcome { Decides config.now (Some book.now) None order.old (PutTariff tariff) result }
     ensures order { order.new ≡ order_with config.now (Some book.now) None order.old result }

@@ -1,6 +1,8 @@
 use Rattle.std.specs.Option.{option_and_then, option_copied}
 use Rattle.std.proofs.Common.{slice_get, ◌≡◌, ◌<◌, ℕ, List, Option, None, Some, IfSome, is_some, length, refl, ap, ap₂, sym, subst, ◌∙◌}
+use Rattle.cdr_checks.specs.Parties.{HasParties}
 use Rattle.plain_house.specs.Entries.{account_entry, book_entry}
+use Rattle.plain_house.specs.House.{events_after}
 use Rattle.plain_house.specs.Replies.{with_event}
 use Rattle.operator_book.specs.State.{PlainBook}
 use Rattle.provider_account.specs.State.{PlainAccount}
@@ -8,59 +10,74 @@ use Rattle.plain_house.specs.declared.event.Event.{Event}
 use Rattle.period_order.specs.Decided.{AccountTakesAny, BookTakesAny, Decides, event_of}
 use Rattle.period_order.specs.Kept.{Keeps, account_number, book_number}
 use Rattle.period_order.specs.Order.{current_of}
-use Rattle.period_order.specs.Inner.Kept.{AccountTakesAt, BookTakesAt, kept_events, with_event_added}
+use Rattle.period_order.specs.Inner.Kept.{AccountTakesAt, AreKept, BookTakesAt, with_event_added}
 use Rattle.period_order.specs.Resolved.{entries_of_accounts, entries_of_books}
-use Rattle.period_order.proofs.PerformLemmas.{account_within, book_within, is_given_account, decides_given, is_given_book, keeps_put, kept_is, kept_still, ordered_given, some_copied}
+use Rattle.period_order.proofs.EachLemmas.{account_within, book_within, is_given_account, is_given_book, length_event_added}
+use Rattle.period_order.proofs.PerformLemmas.{decides_given, event_reached, keeps_put, kept_still, ordered_given, some_copied}
 use Rattle.period_order.proofs.ReachedLemmas.{reached}
 use Rattle.period_order.proofs.book_house.keep.keep.Goals as goal
 use Rattle.period_order.proofs.book_house.keep.keep.Goals.{After-put}
 
 pub reserve-requires-clause-book : goal.reserve-requires-clause-book
 reserve-requires-clause-book c =
+    let parties = c.commands_have_parties.ensures c.args.config.now c.args.command c.requires.admitted in
     subst (λ (o : Option ℕ). IfSome o (λ n. n < length c.args.books.now.items)) (sym c.book_number-book.ensures)
-    (book_within c.args.config.now c.args.books.now.items c.args.accounts.now.items c.args.order.now _ c.requires.kept c.args.command
-    (c.commands_have_parties.ensures c.args.config.now c.args.command c.requires.admitted))
+    (book_within c.args.config.now c.args.command parties c.args.books.now.items c.requires.each.of_operators)
 
 pub reserve-requires-clause-account : goal.reserve-requires-clause-account
 reserve-requires-clause-account c =
+    let parties = c.commands_have_parties.ensures c.args.config.now c.args.command c.requires.admitted in
     subst (λ (o : Option ℕ). IfSome o (λ n. n < length c.args.accounts.now.items)) (sym c.account_number-account.ensures)
-    (account_within c.args.config.now c.args.books.now.items c.args.accounts.now.items c.args.order.now _ c.requires.kept c.args.command
-    (c.commands_have_parties.ensures c.args.config.now c.args.command c.requires.admitted))
+    (account_within c.args.config.now c.args.command parties c.args.accounts.now.items c.requires.each.of_providers)
 
 pub decide-point-requires-clause-book : goal.decide-point-requires-clause-book
 decide-point-requires-clause-book c =
-    let keeps = kept_still c.args.config.now _ _ _ _ _ _ _ c.requires.kept c.reserve.ensures.books c.reserve.ensures.accounts c.reserve.ensures.order in
     let parties = c.commands_have_parties.ensures c.args.config.now c.args.command c.requires.admitted in
     some_copied c.book_at-given_book.result
     ∙ ap is_some (c.book_at-given_book.ensures ∙ ap₂ (λ l (o : Option ℕ). option_and_then (slice_get l) o) c.as_slice.ensures.value c.book_number-book.ensures)
-    ∙ is_given_book c.args.config.now c.reserve.new.books.items c.reserve.new.accounts.items c.reserve.new.order _ keeps c.args.command parties
+    ∙ is_given_book c.args.config.now c.args.command parties c.reserve.new.books.items (ap length c.reserve.ensures.books ∙ c.requires.each.of_operators)
 
 pub decide-point-requires-clause-account : goal.decide-point-requires-clause-account
 decide-point-requires-clause-account c =
-    let keeps = kept_still c.args.config.now _ _ _ _ _ _ _ c.requires.kept c.reserve.ensures.books c.reserve.ensures.accounts c.reserve.ensures.order in
     let parties = c.commands_have_parties.ensures c.args.config.now c.args.command c.requires.admitted in
     some_copied c.account_at-given_account.result
     ∙ ap is_some (c.account_at-given_account.ensures ∙ ap₂ (λ l (o : Option ℕ). option_and_then (slice_get l) o) c.as_slice-2.ensures.value c.account_number-account.ensures)
-    ∙ is_given_account c.args.config.now c.reserve.new.books.items c.reserve.new.accounts.items c.reserve.new.order _ keeps c.args.command parties
+    ∙ is_given_account c.args.config.now c.args.command parties c.reserve.new.accounts.items (ap length c.reserve.ensures.accounts ∙ c.requires.each.of_providers)
 
 pub put-requires-clause-book : goal.put-requires-clause-book
 put-requires-clause-book c =
-    let keeps = kept_still c.args.config.now _ _ _ _ _ _ _ c.requires.kept c.reserve.ensures.books c.reserve.ensures.accounts c.reserve.ensures.order in
+    let parties = c.commands_have_parties.ensures c.args.config.now c.args.command c.requires.admitted in
     subst (λ (o : Option ℕ). IfSome o (λ n. n < length c.reserve.new.books.items)) (sym c.book_number-book.ensures)
-    (book_within c.args.config.now c.reserve.new.books.items c.reserve.new.accounts.items c.reserve.new.order _ keeps c.args.command
-    (c.commands_have_parties.ensures c.args.config.now c.args.command c.requires.admitted))
+    (book_within c.args.config.now c.args.command parties c.reserve.new.books.items (ap length c.reserve.ensures.books ∙ c.requires.each.of_operators))
 
 pub put-requires-clause-account : goal.put-requires-clause-account
 put-requires-clause-account c =
-    let keeps = kept_still c.args.config.now _ _ _ _ _ _ _ c.requires.kept c.reserve.ensures.books c.reserve.ensures.accounts c.reserve.ensures.order in
+    let parties = c.commands_have_parties.ensures c.args.config.now c.args.command c.requires.admitted in
     subst (λ (o : Option ℕ). IfSome o (λ n. n < length c.reserve.new.accounts.items)) (sym c.account_number-account.ensures)
-    (account_within c.args.config.now c.reserve.new.books.items c.reserve.new.accounts.items c.reserve.new.order _ keeps c.args.command
-    (c.commands_have_parties.ensures c.args.config.now c.args.command c.requires.admitted))
+    (account_within c.args.config.now c.args.command parties c.reserve.new.accounts.items (ap length c.reserve.ensures.accounts ∙ c.requires.each.of_providers))
 
--- books, accounts and order before the command has its place in the order
-abbrev before : (c : After-put) → Keeps c.args.config.now (entries_of_books c.reserve.new.books.items) (entries_of_accounts c.reserve.new.accounts.items) c.reserve.new.order.entries
-    (kept_events c.args.books.now.items c.args.accounts.now.items c.args.order.now)
-before c = kept_still c.args.config.now _ _ _ _ _ _ _ c.requires.kept c.reserve.ensures.books c.reserve.ensures.accounts c.reserve.ensures.order
+pub returns-clause-each : goal.returns-clause-each
+returns-clause-each c = record {
+  of_operators =
+      ap length c.put.ensures.books
+      ∙ length_event_added (entries_of_books c.reserve.new.books.items) c.book_number-book.result (λ e. book_entry e c.decide-point.result.period) c.parted-outcome.result.1
+      ∙ ap length c.reserve.ensures.books ∙ c.requires.each.of_operators;
+  of_providers =
+      ap length c.put.ensures.accounts
+      ∙ length_event_added (entries_of_accounts c.reserve.new.accounts.items) c.account_number-account.result (λ e. account_entry e c.decide-point.result.period) c.parted-outcome.result.1
+      ∙ ap length c.reserve.ensures.accounts ∙ c.requires.each.of_providers;
+}
+
+-- the events that are kept before the command has its place in the order
+abbrev Before : (c : After-put) → List Event → Type 0
+Before c events = AreKept c.args.config.now c.args.books.now.items c.args.accounts.now.items c.args.order.now events
+
+abbrev before : (c : After-put) (events : List Event) → Before c events
+    → Keeps c.args.config.now (entries_of_books c.reserve.new.books.items) (entries_of_accounts c.reserve.new.accounts.items) c.reserve.new.order.entries events
+before c events keeps = kept_still c.args.config.now _ _ _ _ _ _ _ keeps c.reserve.ensures.books c.reserve.ensures.accounts c.reserve.ensures.order
+
+parties : (c : After-put) → HasParties c.args.config.now c.args.command
+parties c = c.commands_have_parties.ensures c.args.config.now c.args.command c.requires.admitted
 
 book_is : (c : After-put) → option_copied c.book_at-given_book.result ≡ option_and_then (slice_get c.reserve.new.books.items) (book_number c.args.config.now c.args.command)
 book_is c = c.book_at-given_book.ensures ∙ ap₂ (λ l (o : Option ℕ). option_and_then (slice_get l) o) c.as_slice.ensures.value c.book_number-book.ensures
@@ -74,16 +91,16 @@ decides c =
     decides_given c.args.config.now c.reserve.new.books.items c.reserve.new.accounts.items c.reserve.new.order c.args.command _ _ c.decide-point.result.outcome c.decide-point.result.outcome (book_is c) (account_is c) refl c.decide-point.ensures.outcome
 
 -- and behind it
-after : (c : After-put) → Keeps c.args.config.now (entries_of_books c.put.new.books.items) (entries_of_accounts c.put.new.accounts.items) c.decide-point.new.order.entries
-    (with_event (kept_events c.args.books.now.items c.args.accounts.now.items c.args.order.now) (event_of c.decide-point.result.outcome))
-after c =
+after : (c : After-put) (events : List Event) → Before c events
+    → Keeps c.args.config.now (entries_of_books c.put.new.books.items) (entries_of_accounts c.put.new.accounts.items) c.decide-point.new.order.entries
+    (with_event events (event_of c.decide-point.result.outcome))
+after c events keeps =
     let config = c.args.config.now in
     let books = c.reserve.new.books.items in
     let accounts = c.reserve.new.accounts.items in
     let order = c.reserve.new.order in
     let told = c.args.command in
     let reached = c.decide-point.result.outcome in
-    let parties = c.commands_have_parties.ensures config told c.requires.admitted in
     let ordered = ordered_given config books accounts order told _ _ reached reached _ (book_is c) (account_is c) refl c.decide-point.ensures.order in
     let now_books = c.put.ensures.books
     ∙ ap₂ (λ (o : Option ℕ) n. with_event_added (entries_of_books books) o (λ e. book_entry e n) c.parted-outcome.result.1) c.book_number-book.ensures c.decide-point.ensures.period
@@ -91,25 +108,28 @@ after c =
     let now_accounts = c.put.ensures.accounts
     ∙ ap₂ (λ (o : Option ℕ) n. with_event_added (entries_of_accounts accounts) o (λ e. account_entry e n) c.parted-outcome.result.1) c.account_number-account.ensures c.decide-point.ensures.period
     ∙ ap (with_event_added (entries_of_accounts accounts) (account_number config told) (λ e. account_entry e (current_of order))) c.parted-outcome.ensures.event in
-    keeps_put config books accounts order _ (before c) told parties reached (decides c) c.verdicts_are_of_own_entries.ensures _ _ _
+    keeps_put config books accounts order events (before c events keeps) told (parties c) reached (decides c) c.verdicts_are_of_own_entries.ensures _ _ _
     c.events_are_of_their_command.ensures c.commands_keep_lists_legal.ensures c.requires.admitted c.has_distinct_parts.ensures.operators c.has_distinct_parts.ensures.providers now_books now_accounts ordered
 
-now_is : (c : After-put) → kept_events c.put.new.books.items c.put.new.accounts.items c.decide-point.new.order
-    ≡ with_event (kept_events c.args.books.now.items c.args.accounts.now.items c.args.order.now) (event_of c.decide-point.result.outcome)
-now_is c = kept_is c.args.config.now _ _ _ _ c.orders_are_resolved.ensures (after c)
+-- the event is that of the verdict
+now_is : (c : After-put) (events : List Event) → Before c events
+    → events_after c.args.config.now events c.args.command ≡ with_event events (event_of c.decide-point.result.outcome)
+now_is c events keeps =
+    ap (with_event events)
+    (event_reached c.args.config.now c.reserve.new.books.items c.reserve.new.accounts.items c.reserve.new.order events (before c events keeps) c.args.command (parties c)
+    c.decide-point.result.outcome (decides c) c.verdicts_are_of_own_entries.ensures)
 
 pub returns-clause-kept : goal.returns-clause-kept
-returns-clause-kept c =
-    subst (Keeps c.args.config.now (entries_of_books c.put.new.books.items) (entries_of_accounts c.put.new.accounts.items) c.decide-point.new.order.entries) (sym (now_is c)) (after c)
+returns-clause-kept c = λ events keeps.
+    subst (Keeps c.args.config.now (entries_of_books c.put.new.books.items) (entries_of_accounts c.put.new.accounts.items) c.decide-point.new.order.entries)
+    (sym (now_is c events keeps)) (after c events keeps)
 
 pub returns-clause-ok : goal.returns-clause-ok
-returns-clause-ok c =
-    let config = c.args.config.now in
-    let parties = c.commands_have_parties.ensures config c.args.command c.requires.admitted in
-    reached config c.reserve.new.books.items c.reserve.new.accounts.items c.reserve.new.order _ (before c) c.args.command parties c.decide-point.result.outcome (decides c)
+returns-clause-ok c = λ events keeps.
+    reached c.args.config.now c.reserve.new.books.items c.reserve.new.accounts.items c.reserve.new.order events (before c events keeps) c.args.command (parties c) c.decide-point.result.outcome (decides c)
     c.verdicts_are_of_own_entries.ensures c.entries_are_dated.ensures
     (record { point = c.decide-point.result.point; period = c.decide-point.result.period; outcome = c.parted-outcome.result.0 }) _
-    c.decide-point.ensures.point c.parted-outcome.ensures.left (now_is c)
+    c.decide-point.ensures.point c.parted-outcome.ensures.left (now_is c events keeps)
 
 takes_in_book : (books : List PlainBook) (number : Option ℕ) (event : Option Event) → BookTakesAny (option_and_then (slice_get books) number) event → IfSome event (λ e. BookTakesAt books number e)
 takes_in_book books number None takes = tt

@@ -1,0 +1,112 @@
+//! Ledgers to which events are put as they are given.
+
+ghost use Rattle.std.specs.Prelude.{◌≡◌, ◌↔◌, ◌-◌, ◌++◌, [], ◌∷◌, List, Some, length, slice_get, true, IfOk};
+ghost use Rattle.cdr_checks.specs.Admission.{IsAdmitted};
+ghost use Rattle.plain_house.specs.declared.event.Event.{Event};
+ghost use Rattle.plain_house.specs.House.{events_after};
+ghost use Rattle.plain_house.specs.Legal.{IsLegal};
+ghost use Rattle.period_order.specs.Ledgers.{IsDecided, Keep};
+
+use super::book_house::books;
+use super::book_house::keep::keep;
+use super::decided::Decided;
+use super::last::is_last;
+use super::order::Order;
+use cdr_checks::Command;
+use ocpi_types::Config;
+use operator_book::Book;
+use plain_house::{Event, empty_lists_are_legal};
+use provider_account::Account;
+use std::alloc::{AllocError, Global};
+use std::marker::Model;
+
+mod order_entry;
+mod parties;
+mod put;
+mod takes;
+
+/// A book for each operator, an account for each provider, and the order of events, whatever events they are. What is said of
+/// them is said for each list that they keep, and such a list is legal.
+#[derive(Drop)]
+pub struct Ledgers {
+    config: Config,
+    books: Vec<Book>,
+    accounts: Vec<Account>,
+    order: Order,
+}
+
+impl Model for Ledgers {
+    ghost use Rattle.period_order.specs.Inner.Kept.{OneEach};
+    ghost use Rattle.period_order.specs.Ledgers.{PlainLedgers};
+    ghost use Rattle.period_order.specs.Resolved.{entries_of_accounts, entries_of_books};
+
+    ghost Value = { PlainLedgers };
+
+    ghost view = { λ ledgers. record {
+      config = ledgers.config;
+      books = entries_of_books ledgers.books.items;
+      accounts = entries_of_accounts ledgers.accounts.items;
+      order = ledgers.order.entries;
+    } };
+
+    ghost invariant = { λ ledgers. OneEach ledgers.config (entries_of_books ledgers.books.items) (entries_of_accounts ledgers.accounts.items) };
+}
+
+impl Ledgers {
+    /// The ledgers of no event.
+    ///
+    /// # Errors
+    ///
+    /// `AllocError` where memory is refused.
+    pub fn new(alloc: Global, config: Config) -> Result<Ledgers, AllocError>
+        ensures config { IfOk result (λ ledgers. ledgers.config ≡ config) }
+        ensures empty { IfOk result (λ ledgers. Keep ledgers []) }
+    {
+        empty_lists_are_legal();
+        let books = books::books(alloc, &config)?;
+        let accounts = books::accounts(alloc, &config)?;
+        Ok(Ledgers {
+            config,
+            books,
+            accounts,
+            order: Order::new(alloc),
+        })
+    }
+
+    /// Puts an event as it is given. False where its book or its account cannot take it.
+    ///
+    /// # Errors
+    ///
+    /// `AllocError` where memory is refused.
+    pub fn put(&mut self, event: &Event) -> Result<bool, AllocError>
+        ensures config { self.new.config ≡ self.old.config }
+        ensures put { IfOk result (λ is_put. is_put ≡ true → (events : List Event) → Keep self.old events →
+            IsLegal self.old.config (events ++ event.now ∷ []) → Keep self.new (events ++ event.now ∷ [])) }
+    {
+        let (books, accounts) = (&mut self.books, &mut self.accounts);
+        put::put(&self.config, books, accounts, &mut self.order, event)
+    }
+
+    /// Gives an admitted command its place in the order and puts its event; what is to be collected of the books is left.
+    ///
+    /// # Errors
+    ///
+    /// `AllocError` where memory is refused.
+    pub fn decide(&mut self, command: Command) -> Result<Decided, AllocError>
+        requires { IsAdmitted self.old.config command }
+        ensures config { self.new.config ≡ self.old.config }
+        ensures decided { IfOk result (λ decided. (events : List Event) → Keep self.old events → IsDecided self.old.config events command decided) }
+        ensures kept { IfOk result (λ decided. (events : List Event) → Keep self.old events → Keep self.new (events_after self.old.config events command)) }
+    {
+        let (books, accounts) = (&mut self.books, &mut self.accounts);
+        keep(&self.config, books, accounts, &mut self.order, command)
+    }
+
+    /// The event is the last one.
+    pub fn is_last(&self, event: &Event) -> bool
+        ensures { (events : List Event) → Keep self.now events → (result ≡ true) ↔ (slice_get events (length events - 1) ≡ Some event.now) }
+    {
+        let (books, accounts) = (self.books.as_slice(), self.accounts.as_slice());
+        is_last(books, accounts, &self.order, event)
+    }
+}
