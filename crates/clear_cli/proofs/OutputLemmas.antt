@@ -6,6 +6,7 @@ use Rattle.plain_house.specs.declared.event.Event.{Event}
 use Rattle.plain_house.specs.Entries.{book_entries}
 use Rattle.plain_house.specs.Obligations.{GoesOnFrom, obligations}
 use Rattle.clear_cli.specs.declared.schedule_text.WriteFault.{WriteFault}
+use Rattle.clear_cli.specs.declared.schedule_text.WriteFault.TheVariants.{NoMemory}
 use Rattle.clear_cli.specs.Folder.{AreLeft, AreWritten, FolderWords, IsFileLeft, IsFileWritten, Output}
 use Rattle.clear_cli.specs.Outputs.{statement_output, statements}
 
@@ -66,6 +67,11 @@ module _ {O V : Type 0} (words : FolderWords O V) where
           written = before;
           left = left;
         }
+
+-- the first of some files is not begun, where memory is refused
+pub none_begun : {O V X : Type 0} (words : FolderWords O V) (f : X → Output) (xs : List X) (folder : O) → (length xs ≡ 0 → ⊥) → AreLeft words (map f xs) folder folder NoMemory
+none_begun words f [] folder some = absurd (some refl)
+none_begun words f (x ∷ xs) folder some = left_first words (f x) (map f xs) folder folder NoMemory refl
 
 -- ---- periods
 

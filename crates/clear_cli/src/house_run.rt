@@ -62,7 +62,8 @@ fn split<N: Names>(places: Ended<N>, workers: Vec<(Pass<N>, WorkerEnd)>) -> Ende
 }
 
 // The events of a house, where it finishes with the passes.
-fn finish<N: Names>(
+fn finish<N: Names, R: Threads + Sync>(
+    rt: &R,
     alloc: Global,
     house: House<N>,
     passes: Vec<Pass<N>>,
@@ -74,7 +75,7 @@ fn finish<N: Names>(
     ensures { MatchResult result (λ events. IsFinished N.BookEntries.config (map (λ pass. pass.calls) passes.items) events.items)
         (λ fault. IsUnfinished N.BookEntries.config (map (λ pass. pass.calls) passes.items) fault) }
 {
-    match house.finish(alloc, passes) {
+    match house.finish(rt, alloc, passes) {
         Ok(ended) => {
             // The program ends behind this, and the system takes the memory back at once.
             mem::forget(ended.calls);
@@ -156,7 +157,7 @@ where
     ensures len { IfOk result (λ run. vec_len run.ends ≡ vec_len pairs) }
 {
     let Ended { passes, ends } = run_workers(rt, alloc, &house, passes, pairs)?;
-    let finished = finish(alloc, house, passes);
+    let finished = finish(rt, alloc, house, passes);
     Ok(HouseRun { ends, finished })
 }
 

@@ -1,9 +1,7 @@
 //! The files that are written of a house that has ended.
 
-ghost use Rattle.std.specs.Prelude.{◌≡◌, ◌++◌, IfErr, IfOk, OnOk, filter, map, not, string_bytes};
-ghost use Rattle.ocpi_types.specs.Config.{is_operator};
+ghost use Rattle.std.specs.Prelude.{◌≡◌, IfErr, IfOk, OnOk, map, string_bytes};
 ghost use Rattle.house_statements.specs.Statement.{statement_text};
-ghost use Rattle.netting_positions.specs.Netting.{parties};
 ghost use Rattle.netting_positions.specs.Statement.{statement_rows};
 ghost use Rattle.plain_house.specs.Entries.{book_entries, period_of};
 ghost use Rattle.plain_house.specs.Legal.{IsLegal};
@@ -14,54 +12,13 @@ ghost use Rattle.clear_cli.specs.Outputs.{order_output, outputs, statement_name,
 
 use crate::folder::{Folder, write_file};
 use crate::schedule_text::WriteFault;
-use house_statements::{statement_rows, write_order, write_statement};
+use house_statements::{write_order, write_statement};
+use netting_positions::{Obligation, parties_of, rows_of};
 use ocpi_types::{Config, Party};
-use plain_house::{Event, legal_lists_can_be_netted, period_after, split_first_period};
+use plain_house::{
+    Event, legal_lists_can_be_netted, obligations_in, period_of, split_first_period,
+};
 use std::alloc::{AllocError, Global};
-
-// How many periods are closed.
-fn periods_closed(events: &[Event]) -> u64
-    ensures { result ≡ period_of events.now }
-{
-    let mut periods = 0;
-    let mut rest = events;
-    while let Some((event, later)) = rest.split_first() {
-        periods = period_after(periods, event);
-        rest = later;
-    }
-    periods
-}
-
-fn add_operators(parties: &mut Vec<Party>, config: &Config) -> Result<(), AllocError>
-    ensures { OnOk result (parties.new.items ≡ parties.old.items ++ map (λ operator. operator.party) config.now.operators) }
-{
-    for operator in config.operators.as_slice() {
-        parties.push(operator.party)?;
-    }
-    Ok(())
-}
-
-fn add_providers(parties: &mut Vec<Party>, config: &Config) -> Result<(), AllocError>
-    ensures { OnOk result (parties.new.items ≡ parties.old.items
-        ++ filter (λ party. not (is_operator config.now party)) (map (λ provider. provider.party) config.now.providers)) }
-{
-    for provider in config.providers.as_slice() {
-        if !config.is_operator(&provider.party) {
-            parties.push(provider.party)?;
-        }
-    }
-    Ok(())
-}
-
-// The operators, and then the providers that are no operators.
-fn parties_of(alloc: Global, config: &Config) -> Result<Vec<Party>, AllocError>
-    ensures { IfOk result (λ found. found.items ≡ parties config.now) }
-{
-    let mut parties = Vec::new(alloc);
-    add_operators(&mut parties, config)?;
-    add_providers(&mut parties, config)?;
-    Ok(parties)
-}
 
 fn statement_name(alloc: Global, period: u64, party: &Party) -> Result<String, AllocError>
     ensures { IfOk result (λ name. string_bytes name ≡ statement_name period party.now) }
@@ -71,46 +28,75 @@ fn statement_name(alloc: Global, period: u64, party: &Party) -> Result<String, A
     format!(in alloc; "statement-{period}-{country_code}-{party_id}.csv")
 }
 
-// A party's statement of the first period of these events.
+// A party's statement of these obligations.
 fn statement(
     alloc: Global,
     config: &Config,
-    events: &[Event],
+    owed: &[Obligation],
     party: &Party,
 ) -> Result<Vec<u8>, AllocError>
-    requires { CanBeStated config.now (obligations 0 (book_entries events.now)) }
-    ensures { IfOk result (λ text. text.items ≡ statement_text (statement_rows party.now (obligations 0 (book_entries events.now)))) }
+    requires { CanBeStated config.now owed.now }
+    ensures { IfOk result (λ text. text.items ≡ statement_text (statement_rows party.now owed.now)) }
 {
-    let rows = statement_rows(alloc, config, events, 0, party)?;
+    let rows = rows_of(alloc, config, owed, party)?;
     write_statement(alloc, rows.as_slice())
 }
 
-// Writes a party's statement of a period, of which these are the events.
+// Writes a party's statement of a period in which these are the obligations.
 fn write_one<O: Folder>(
     alloc: Global,
     config: &Config,
-    events: &[Event],
+    owed: &[Obligation],
     folder: &mut O,
     period: u64,
     party: &Party,
 ) -> Result<(), WriteFault>
-    requires { CanBeStated config.now (obligations 0 (book_entries events.now)) }
+    requires { CanBeStated config.now owed.now }
     ensures ok { let words : FolderWords O O.File = record {
       makes = O.makes;
       refuses = O.refuses;
       takes = O.File.takes;
       failed = O.File.failed;
-    } in OnOk result (IsFileWritten words (statement_output (obligations 0 (book_entries events.now)) period party.now) folder.old folder.new) }
+    } in OnOk result (IsFileWritten words (statement_output owed.now period party.now) folder.old folder.new) }
     ensures err { let words : FolderWords O O.File = record {
       makes = O.makes;
       refuses = O.refuses;
       takes = O.File.takes;
       failed = O.File.failed;
-    } in IfErr result (λ fault. IsFileLeft words (statement_output (obligations 0 (book_entries events.now)) period party.now) folder.old folder.new fault) }
+    } in IfErr result (λ fault. IsFileLeft words (statement_output owed.now period party.now) folder.old folder.new fault) }
 {
     let name = statement_name(alloc, period, party)?;
-    let text = statement(alloc, config, events, party)?;
+    let text = statement(alloc, config, owed, party)?;
     write_file(folder, name.as_str(), text.as_slice())
+}
+
+// Writes the statements of a period in which these are the obligations.
+fn write_statements<O: Folder>(
+    alloc: Global,
+    config: &Config,
+    owed: &[Obligation],
+    folder: &mut O,
+    period: u64,
+    parties: &[Party],
+) -> Result<(), WriteFault>
+    requires { CanBeStated config.now owed.now }
+    ensures ok { let words : FolderWords O O.File = record {
+      makes = O.makes;
+      refuses = O.refuses;
+      takes = O.File.takes;
+      failed = O.File.failed;
+    } in OnOk result (AreWritten words (map (statement_output owed.now period) parties.now) folder.old folder.new) }
+    ensures err { let words : FolderWords O O.File = record {
+      makes = O.makes;
+      refuses = O.refuses;
+      takes = O.File.takes;
+      failed = O.File.failed;
+    } in IfErr result (λ fault. AreLeft words (map (statement_output owed.now period) parties.now) folder.old folder.new fault) }
+{
+    for party in parties {
+        write_one(alloc, config, owed, folder, period, party)?;
+    }
+    Ok(())
 }
 
 // Writes the statements of a period, of which these are the events.
@@ -136,10 +122,11 @@ fn write_period<O: Folder>(
       failed = O.File.failed;
     } in IfErr result (λ fault. AreLeft words (map (statement_output (obligations 0 (book_entries events.now)) period) parties.now) folder.old folder.new fault) }
 {
-    for party in parties {
-        write_one(alloc, config, events, folder, period, party)?;
+    if parties.is_empty() {
+        return Ok(());
     }
-    Ok(())
+    let owed = obligations_in(alloc, events, 0)?;
+    write_statements(alloc, config, owed.as_slice(), folder, period, parties)
 }
 
 // Writes the statements of so many periods.
@@ -221,7 +208,7 @@ pub fn write_outputs<O: Folder>(
     } in IfErr result (λ fault. AreLeft words (outputs config.now events.now) folder.old folder.new fault) }
 {
     let parties = parties_of(alloc, config)?;
-    let periods = periods_closed(events);
+    let periods = period_of(events);
     write_order_file(alloc, events, folder)?;
     write_periods(alloc, config, events, folder, parties.as_slice(), periods)?;
     Ok(periods)

@@ -17,4 +17,6 @@ pub mod PromiseLemmas
 pub mod RepeatedLemmas
 pub mod ReplayLemmas
 pub mod StandLemmas
+pub mod StretchLemmas
+pub mod TableLemmas
 pub mod TurnLemmas

@@ -10,7 +10,7 @@ use Rattle.plain_house.specs.declared.event.Event.{Event}
 use Rattle.plain_house.specs.House.{events_after}
 use Rattle.plain_house.specs.Laws.{RepliesTellEvents, adds_event}
 use Rattle.plain_house.specs.Legal.{CommandsKeepListsLegal, IsLegal}
-use Rattle.shared_house.specs.declared.certifying.turns.Turn.{Turn}
+use Rattle.shared_house.specs.declared.certifying.turn.Turn.{Turn}
 use Rattle.shared_house.specs.declared.made.Made.{Made}
 use Rattle.shared_house.specs.Points.{AreAdmitted, AreAllAdmitted}
 use Rattle.shared_house.specs.History.{BreaksFirst, IsOneHistory}
@@ -31,6 +31,36 @@ in_order_map f n (x ∷ xs) up i j d upto within =
 
 pub plain_at : (xs : List Turn) (i : ℕ) (x : Turn) → i < length xs → x ≡ get_or xs i x → plain_turn x ≡ get_or (map plain_turn xs) i (plain_turn x)
 plain_at xs i x within is = ap plain_turn is ∙ sym (get_or-map plain_turn xs i x (plain_turn x) within)
+
+-- ---- one turn more
+
+module _ (config : Config) (events : List Event) (turns : List PlainTurn) (i : ℕ) (turn : PlainTurn) (within : i < length turns) (is : turn ≡ get_or turns i turn) where
+  pub record Done (count : ℕ) (now : List Event) : Type 0 where
+    pub fit : AreFit config events (take (i + 1) turns) (count + added_at turn)
+    pub now_is : now ≡ take (count + added_at turn) events
+
+  pub turn_fit : RepliesTellEvents → CommandsKeepListsLegal → IsAdmitted config turn.made.command → (count : ℕ) (now : List Event) → AreFit config events (take i turns) count
+      → IsNext config events count turn now → Done count now
+  turn_fit tells keep admitted count now fit next = record {
+    fit = subst (λ (l : List PlainTurn). AreFit config events l (count + added_at turn)) (sym one_more)
+        (fit_more config events (take i turns) count (count + added_at turn) turn fit next.fit next.point_is refl within_events
+        (subst (IsLegal config) after (keep config (take count events) turn.made.command fit.legal admitted)));
+    now_is = next.now_is ∙ after;
+  }
+    where
+      behind : Follows tells config events turn.made
+      behind = follows tells config events turn.made next.fit.stands
+
+      one_more : take (i + 1) turns ≡ take i turns ++ turn ∷ []
+      one_more = take_more turns i turn within ∙ ap (λ (t : PlainTurn). take i turns ++ t ∷ []) (sym is)
+
+      within_events : count + added_at turn ≤ length events
+      within_events = omega (arith, next.point_is, behind.within)
+
+      after : events_after config (take count events) turn.made.command ≡ take (count + added_at turn) events
+      after =
+          ap (λ n. events_after config (take n events) turn.made.command) (sym next.point_is) ∙ behind.after_is
+          ∙ ap (λ n. take (n + added_at turn) events) next.point_is
 
 -- ---- the turns of all passes, of which so many are done
 
@@ -82,32 +112,9 @@ module _ (config : Config) (events : List Event) (passes : List (List Made)) (tu
         (so_far (take i turns) (turn ∷ drop (i + 1) turns) count fit (split_at turns i turn within is)) are.in_order number tears
 
     -- where it is done, it is one more
-    pub record Done (count : ℕ) (now : List Event) : Type 0 where
-      pub fit : AreFit config events (take (i + 1) turns) (count + added_at turn)
-      pub now_is : now ≡ take (count + added_at turn) events
-
     pub turn_done : RepliesTellEvents → CommandsKeepListsLegal → AreAllAdmitted config passes → (count : ℕ) (now : List Event) → AreFit config events (take i turns) count
-        → IsNext config events count turn now → Done count now
-    turn_done tells keep admitted count now fit next = record {
-      fit = subst (λ (l : List PlainTurn). AreFit config events l (count + added_at turn)) (sym one_more)
-          (fit_more config events (take i turns) count (count + added_at turn) turn fit next.fit next.point_is refl within_events
-          (subst (IsLegal config) after (keep config (take count events) turn.made.command fit.legal (turn_admitted admitted))));
-      now_is = next.now_is ∙ after;
-    }
-      where
-        behind : Follows tells config events turn.made
-        behind = follows tells config events turn.made next.fit.stands
-
-        one_more : take (i + 1) turns ≡ take i turns ++ turn ∷ []
-        one_more = take_more turns i turn within ∙ ap (λ (t : PlainTurn). take i turns ++ t ∷ []) (sym is)
-
-        within_events : count + added_at turn ≤ length events
-        within_events = omega (arith, next.point_is, behind.within)
-
-        after : events_after config (take count events) turn.made.command ≡ take (count + added_at turn) events
-        after =
-            ap (λ n. events_after config (take n events) turn.made.command) (sym next.point_is) ∙ behind.after_is
-            ∙ ap (λ n. take (n + added_at turn) events) next.point_is
+        → IsNext config events count turn now → Done config events turns i turn within is count now
+    turn_done tells keep admitted count now fit next = turn_fit config events turns i turn within is tells keep (turn_admitted admitted) count now fit next
 
 -- ---- the turns of a list of the program
 

@@ -15,7 +15,7 @@ use Rattle.shared_house.proofs.PointLemmas.{adds_stamped}
 -- ---- lists
 
 -- the last of a list with one more is that one
-last_pushed : {X : Type 0} (xs : List X) (x : X) → slice_get (xs ++ x ∷ []) (length (xs ++ x ∷ []) - 1) ≡ Some x
+pub last_pushed : {X : Type 0} (xs : List X) (x : X) → slice_get (xs ++ x ∷ []) (length (xs ++ x ∷ []) - 1) ≡ Some x
 last_pushed xs x =
     ap (slice_get (xs ++ x ∷ [])) (let n : length (xs ++ x ∷ []) - 1 ≡ length xs = omega (arith, length-append xs (x ∷ [])) in n) ∙ seam xs
   where
@@ -24,7 +24,7 @@ last_pushed xs x =
     seam (y ∷ ys) = seam ys
 
 -- the first elements and the next are one more of the first
-take_next : {X : Type 0} (n : ℕ) (xs : List X) (x : X) → slice_get xs n ≡ Some x → take n xs ++ x ∷ [] ≡ take (n + 1) xs
+pub take_next : {X : Type 0} (n : ℕ) (xs : List X) (x : X) → slice_get xs n ≡ Some x → take n xs ++ x ∷ [] ≡ take (n + 1) xs
 take_next {X} n xs x h = next n xs h ∙ ap (λ k. take k xs) (let e : suc n ≡ n + 1 = omega arith in e)
   where
     next : (n : ℕ) (xs : List X) → slice_get xs n ≡ Some x → take n xs ++ x ∷ [] ≡ take (suc n) xs

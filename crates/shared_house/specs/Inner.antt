@@ -2,6 +2,9 @@ pub mod Collecting
 pub mod HouseLaws
 pub mod Outcomes
 pub mod PassKeeps
+pub mod Ranks
+pub mod Stretches
+pub mod Tables
 pub mod Tallies
 pub mod Told
 pub mod Turns

@@ -14,9 +14,13 @@ use period_order::{OrderEntry, ResolveFault, resolve, resolving_is_unique, resol
 use plain_house::Event;
 use provider_account::Account;
 use std::alloc::{AllocError, Global};
+use std::thread::Threads;
 
 mod laws;
 mod replay;
+mod stretches;
+mod tables;
+mod turn;
 mod turns;
 
 pub use laws::{
@@ -44,7 +48,8 @@ impl From<AllocError> for CertifyFault {
 }
 
 // The first number that is torn, where the order fails at this entry.
-fn first_torn(
+fn first_torn<R: Threads + Sync>(
+    rt: &R,
     alloc: Global,
     config: &Config,
     order: &[OrderEntry],
@@ -65,7 +70,7 @@ fn first_torn(
         Err(ResolveFault::NoMemory) => return Err(AllocError),
         Err(ResolveFault::Torn { .. }) => unreachable!(),
     };
-    match first_break(alloc, config, events.as_slice(), passes)? {
+    match first_break(rt, alloc, config, events.as_slice(), passes)? {
         Some(number) if number < entry as u64 => Ok(number),
         _ => Ok(entry as u64),
     }
@@ -74,8 +79,10 @@ fn first_torn(
 /// The events that the order names in books and accounts, where they and the calls of all passes are one history.
 ///
 /// `Torn` with the least number at which an entry of the order names no event, or a call or an event of that number breaks the
-/// history. The calls are done once more on a house of their own, in the order of their points.
-pub fn certify(
+/// history. The calls are done once more on ledgers of their own, in the order of their points: stretches of them at once, each in
+/// a thread of its own where one can be made, and all in turn where that finds no history.
+pub fn certify<R: Threads + Sync>(
+    rt: &R,
     alloc: Global,
     config: &Config,
     order: &[OrderEntry],
@@ -91,13 +98,13 @@ pub fn certify(
 {
     resolving_is_unique();
     match resolve(alloc, order, books, accounts) {
-        Ok(events) => match first_break(alloc, config, events.as_slice(), passes)? {
+        Ok(events) => match first_break(rt, alloc, config, events.as_slice(), passes)? {
             None => Ok(events),
             Some(entry) => Err(CertifyFault::Torn { entry }),
         },
         Err(ResolveFault::NoMemory) => Err(CertifyFault::NoMemory),
         Err(ResolveFault::Torn { entry }) => {
-            let entry = first_torn(alloc, config, order, books, accounts, passes, entry)?;
+            let entry = first_torn(rt, alloc, config, order, books, accounts, passes, entry)?;
             Err(CertifyFault::Torn { entry })
         }
     }

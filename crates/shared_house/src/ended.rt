@@ -12,6 +12,7 @@ use crate::made::Made;
 use ocpi_types::Config;
 use plain_house::Event;
 use std::alloc::Global;
+use std::thread::Threads;
 
 /// The events of a house, and the calls of each of its passes with what they returned, the first one first.
 #[derive(Drop)]
@@ -22,7 +23,8 @@ pub struct Ended {
 
 impl Ended {
     /// The calls of all passes with the events that the order names, where they are one history.
-    pub(crate) fn certified(
+    pub(crate) fn certified<R: Threads + Sync>(
+        rt: &R,
         alloc: Global,
         config: &Config,
         gathered: Gathered,
@@ -41,6 +43,7 @@ impl Ended {
             calls,
         } = gathered;
         let certified = certify(
+            rt,
             alloc,
             config,
             entries.as_slice(),

@@ -12,6 +12,7 @@ use crate::house::House;
 use crate::ledgers::{Configured, Names, Part};
 use crate::pass::Pass;
 use std::alloc::{AllocError, Global};
+use std::thread::Threads;
 
 /// Why a house ends without its events.
 #[derive(Clone, Copy, PartialEq, Eq)]
@@ -49,7 +50,12 @@ fn finished(certified: Result<Ended, CertifyFault>) -> Result<Ended, FinishFault
 
 impl<N: Names> House<N> {
     // What is certified of the house and these passes.
-    fn certified(self, alloc: Global, passes: Vec<Pass<N>>) -> Result<Ended, CertifyFault>
+    fn certified<R: Threads + Sync>(
+        self,
+        rt: &R,
+        alloc: Global,
+        passes: Vec<Pass<N>>,
+    ) -> Result<Ended, CertifyFault>
         requires book_parts { (N.BookEntries.all ≡ N.BookEntries.parts) × (N.BookAmounts.all ≡ N.BookAmounts.parts) }
         requires account_parts { (N.AccountEntries.all ≡ N.AccountEntries.parts) × (N.AccountAmounts.all ≡ N.AccountAmounts.parts) }
         requires pass_parts { N.Events.all ≡ N.Events.parts }
@@ -63,7 +69,7 @@ impl<N: Names> House<N> {
             passes: _,
         } = self;
         let gathered = gather_locks(alloc, locks, passes)?;
-        Ended::certified(alloc, &config, gathered)
+        Ended::certified(rt, alloc, &config, gathered)
     }
 
     /// The events of the house and the calls of its passes, where they are one history. The house is gone then, and so it is
@@ -71,7 +77,12 @@ impl<N: Names> House<N> {
     ///
     /// `MissingPass` where fewer passes come back than were made, and only there; `Torn` with the least number at which an entry
     /// of the order names no event, or a call or an event of that number breaks the history.
-    pub fn finish(self, alloc: Global, passes: Vec<Pass<N>>) -> Result<Ended, FinishFault>
+    pub fn finish<R: Threads + Sync>(
+        self,
+        rt: &R,
+        alloc: Global,
+        passes: Vec<Pass<N>>,
+    ) -> Result<Ended, FinishFault>
         requires book_parts { (N.BookEntries.all ≡ N.BookEntries.parts) × (N.BookAmounts.all ≡ N.BookAmounts.parts) }
         requires account_parts { (N.AccountEntries.all ≡ N.AccountEntries.parts) × (N.AccountAmounts.all ≡ N.AccountAmounts.parts) }
         requires pass_parts { N.Events.all ≡ N.Events.parts }
@@ -83,6 +94,6 @@ impl<N: Names> House<N> {
         if passes.len() < self.passes {
             return Err(FinishFault::MissingPass);
         }
-        finished(self.certified(alloc, passes))
+        finished(self.certified(rt, alloc, passes))
     }
 }

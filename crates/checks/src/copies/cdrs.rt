@@ -1,20 +1,20 @@
-//! CDRs copied and compared.
+//! CDRs shared and compared.
 
 use ocpi_json::Room;
 use ocpi_json::objects::FromNodeIn;
-use ocpi_types::{Cdr, TryCopy, same_cdr};
+use ocpi_types::{Cdr, Shared, same_cdr};
 use std::alloc::Global;
 use std::str::Lines;
 
-fn read_cdr(alloc: Global, line: &str) -> Option<Cdr> {
+fn read_cdr(alloc: Global, line: &str) -> Option<Shared<Cdr>> {
     let mut room = Room::new(alloc);
     let read = room.read(line.as_bytes()).ok()?;
-    Cdr::from_node_in(alloc, &read.value()).ok()
+    Shared::from_node_in(alloc, &read.value()).ok()
 }
 
-fn copy_of(alloc: Global, line: &str) -> Option<Cdr> {
+fn copy_of(alloc: Global, line: &str) -> Option<Shared<Cdr>> {
     match read_cdr(alloc, line) {
-        Some(cdr) => cdr.copy(alloc).ok(),
+        Some(cdr) => cdr.share().ok(),
         None => None,
     }
 }

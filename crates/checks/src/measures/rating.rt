@@ -4,7 +4,7 @@ use super::asked::Asked;
 use cdr_rating::rate;
 use ocpi_json::Room;
 use ocpi_json::objects::FromNodeIn;
-use ocpi_types::{Cdr, Zone};
+use ocpi_types::{Cdr, Shared, Zone};
 use std::alloc::{AllocError, Global};
 use std::io;
 
@@ -38,11 +38,11 @@ pub(crate) fn cdr_text(alloc: Global, periods: usize) -> Result<String, AllocErr
 }
 
 /// That CDR.
-pub(crate) fn cdr(alloc: Global, periods: usize) -> Option<Cdr> {
+pub(crate) fn cdr(alloc: Global, periods: usize) -> Option<Shared<Cdr>> {
     let text = cdr_text(alloc, periods).ok()?;
     let mut room = Room::new(alloc);
     let line = room.read(text.as_bytes()).ok()?;
-    Cdr::from_node_in(alloc, &line.value()).ok()
+    Shared::from_node_in(alloc, &line.value()).ok()
 }
 
 /// What the CDR costs in ten-thousandths; 0 where it has no amount.

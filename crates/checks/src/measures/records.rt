@@ -3,9 +3,9 @@
 use super::asked::Asked;
 use super::rating::{cdr, rated_once};
 use exact_money::Amount;
-use ocpi_types::{Cdr, Shared, TryCopy, Zone};
+use ocpi_types::Zone;
 use re_rating::{Difference, Record, re_rate};
-use std::alloc::{AllocError, Global};
+use std::alloc::Global;
 use std::io;
 use std::thread::{Threads, available_parallelism};
 use std::time::{Duration, Instant};
@@ -19,22 +19,18 @@ const PERIODS: usize = 10;
 // One record of so many is booked at another amount than it costs.
 const AGREEING: u64 = 100;
 
-// So many records of one CDR.
-fn records_of(
-    alloc: Global,
-    cdr: &Cdr,
-    zone: &Zone,
-    count: u64,
-) -> Result<Vec<Record>, AllocError> {
-    let cost = rated_once(cdr, zone);
+// So many records of that CDR, each of which has it in a place of its own.
+fn records_of(alloc: Global, zone: &Zone, count: u64) -> Option<Vec<Record>> {
+    let first = cdr(alloc, PERIODS)?;
+    let cost = rated_once(&first, zone);
     let mut records = Vec::new(alloc);
     for place in 0..count {
+        let cdr = cdr(alloc, PERIODS)?;
         let booked = if place % AGREEING == 0 { 0 } else { cost };
         let booked = Amount::from_ten_thousandths(booked);
-        let cdr = Shared::new(alloc, cdr.copy(alloc)?)?;
-        records.push(Record { cdr, booked })?;
+        records.push(Record { cdr, booked }).ok()?;
     }
-    Ok(records)
+    Some(records)
 }
 
 // The places and the amounts of the differences, added.
@@ -84,9 +80,8 @@ pub(crate) fn work(
     if !asked.names_part("10") {
         return Ok(());
     }
-    let Some(cdr) = cdr(rt.alloc(), PERIODS) else {
+    let Some(records) = records_of(rt.alloc(), zone, asked.rounds_or(FEW)) else {
         return println!(rt; "re_rating: no CDR");
     };
-    let records = records_of(rt.alloc(), &cdr, zone, asked.rounds_or(FEW))?;
     re_rate_all(rt, threads, zone, records.as_slice())
 }

@@ -12,6 +12,7 @@ use plain_house::Answer;
 use shared_house::{CertifyFault, Gathered, Made, certify};
 use std::alloc::{AllocError, Global};
 use std::io;
+use std::thread::Threads;
 
 fn told(written: io::Result<()>) -> Result<(), Fault<'static>> {
     match written {
@@ -21,8 +22,9 @@ fn told(written: io::Result<()>) -> Result<(), Fault<'static>> {
 }
 
 // What is certified of the values with this order.
-fn tell_with_order(
+fn tell_with_order<R: Threads + Sync>(
     rt: &HostRuntime,
+    threads: &R,
     config: &Config,
     gathered: &Gathered,
     order: &[OrderEntry],
@@ -32,6 +34,7 @@ fn tell_with_order(
     requires { All (λ calls. AreAdmitted config.now calls.items) gathered.now.calls.items }
 {
     let certified = certify(
+        threads,
         rt.alloc(),
         config,
         order,
@@ -76,8 +79,9 @@ fn exchanged(
     Ok(entries)
 }
 
-fn tell_without(
+fn tell_without<R: Threads + Sync>(
     rt: &HostRuntime,
+    threads: &R,
     config: &Config,
     gathered: &Gathered,
 ) -> Result<(), Fault<'static>>
@@ -86,13 +90,15 @@ fn tell_without(
     let order = gathered.entries.as_slice();
     for number in 0..order.len() {
         let others = without(rt.alloc(), order, number)?;
-        tell_with_order(rt, config, gathered, others.as_slice(), "without", number)?;
+        let others = others.as_slice();
+        tell_with_order(rt, threads, config, gathered, others, "without", number)?;
     }
     Ok(())
 }
 
-fn tell_exchanged(
+fn tell_exchanged<R: Threads + Sync>(
     rt: &HostRuntime,
+    threads: &R,
     config: &Config,
     gathered: &Gathered,
 ) -> Result<(), Fault<'static>>
@@ -101,14 +107,8 @@ fn tell_exchanged(
     let order = gathered.entries.as_slice();
     for number in 1..order.len() {
         let entries = exchanged(rt.alloc(), order, number)?;
-        tell_with_order(
-            rt,
-            config,
-            gathered,
-            entries.as_slice(),
-            "exchanged",
-            number,
-        )?;
+        let entries = entries.as_slice();
+        tell_with_order(rt, threads, config, gathered, entries, "exchanged", number)?;
     }
     Ok(())
 }
@@ -147,7 +147,12 @@ fn all_with_more(alloc: Global, config: &Config, calls: Vec<Made>) -> Result<Vec
 }
 
 // Tells what is certified where each amount that was accepted is one ten-thousandth more.
-fn tell_amounts(rt: &HostRuntime, config: &Config, gathered: Gathered) -> Result<(), Fault<'static>>
+fn tell_amounts<R: Threads + Sync>(
+    rt: &HostRuntime,
+    threads: &R,
+    config: &Config,
+    gathered: Gathered,
+) -> Result<(), Fault<'static>>
     requires { All (λ calls. AreAdmitted config.now calls.items) gathered.calls.items }
 {
     let Gathered {
@@ -166,30 +171,37 @@ fn tell_amounts(rt: &HostRuntime, config: &Config, gathered: Gathered) -> Result
         accounts,
         calls: passes,
     };
-    tell_with_order(rt, config, &changed, entries.as_slice(), "other amounts", 0)
+    let entries = entries.as_slice();
+    tell_with_order(rt, threads, config, &changed, entries, "other amounts", 0)
 }
 
 // Tells what is certified of the values as they are, and with each change.
-fn tell_all(rt: &HostRuntime, config: &Config, gathered: Gathered) -> Result<(), Fault<'static>>
+fn tell_all<R: Threads + Sync>(
+    rt: &HostRuntime,
+    threads: &R,
+    config: &Config,
+    gathered: Gathered,
+) -> Result<(), Fault<'static>>
     requires { All (λ calls. AreAdmitted config.now calls.items) gathered.calls.items }
 {
     let order = gathered.entries.as_slice();
-    tell_with_order(rt, config, &gathered, order, "as they are", 0)?;
-    tell_without(rt, config, &gathered)?;
-    tell_exchanged(rt, config, &gathered)?;
-    tell_amounts(rt, config, gathered)
+    tell_with_order(rt, threads, config, &gathered, order, "as they are", 0)?;
+    tell_without(rt, threads, config, &gathered)?;
+    tell_exchanged(rt, threads, config, &gathered)?;
+    tell_amounts(rt, threads, config, gathered)
 }
 
 /// Tells what is certified of what was gathered of a house under the configuration, as it is and with each change.
-pub fn tell(
+pub fn tell<R: Threads + Sync>(
     rt: &HostRuntime,
+    threads: &R,
     config: &Config,
     gathered: Result<Gathered, AllocError>,
 ) -> Result<(), Fault<'static>>
     requires { IfOk gathered (λ gathered. All (λ calls. AreAdmitted config.now calls.items) gathered.calls.items) }
 {
     match gathered {
-        Ok(gathered) => tell_all(rt, config, gathered),
+        Ok(gathered) => tell_all(rt, threads, config, gathered),
         Err(AllocError) => Err(Fault::NoMemory),
     }
 }

@@ -4,6 +4,7 @@ ghost use Rattle.std.specs.Prelude.{◌≡◌, length};
 ghost use Rattle.shared_house.specs.Names.{IsLedgerOf};
 
 use super::changes;
+use super::ending::Ending;
 use super::performing::{Next, Work, perform};
 use crate::fault::Fault;
 use ocpi_types::{Config, TryCopy};
@@ -13,6 +14,37 @@ use std::alloc::AllocError;
 use std::marker::Brand;
 use std::sync::Wait;
 use std::thread::Threads;
+
+// Gathers what the house leaves behind, and tells what is certified of it.
+fn gather_and_tell<N: Names, R: Threads + Sync>(
+    rt: &HostRuntime,
+    threads: &R,
+    config: &Config,
+    house: House<N>,
+    passes: Vec<Pass<N>>,
+) -> Result<(), Fault<'static>>
+    requires config { config.now ≡ N.BookEntries.config }
+    requires book_parts { (N.BookEntries.all ≡ N.BookEntries.parts) × (N.BookAmounts.all ≡ N.BookAmounts.parts) }
+    requires account_parts { (N.AccountEntries.all ≡ N.AccountEntries.parts) × (N.AccountAmounts.all ≡ N.AccountAmounts.parts) }
+    requires pass_parts { N.Events.all ≡ N.Events.parts }
+{
+    changes::tell(rt, threads, config, gather(rt.alloc(), house, passes))
+}
+
+// Ends the house, and tells how.
+fn finish_and_tell<N: Names, R: Threads + Sync>(
+    rt: &HostRuntime,
+    threads: &R,
+    ending: Ending<'_>,
+    house: House<N>,
+    passes: Vec<Pass<N>>,
+) -> Result<(), Fault<'static>>
+    requires book_parts { (N.BookEntries.all ≡ N.BookEntries.parts) × (N.BookAmounts.all ≡ N.BookAmounts.parts) }
+    requires account_parts { (N.AccountEntries.all ≡ N.AccountEntries.parts) × (N.AccountAmounts.all ≡ N.AccountAmounts.parts) }
+    requires pass_parts { N.Events.all ≡ N.Events.parts }
+{
+    ending.tell(rt, &house.finish(threads, rt.alloc(), passes))
+}
 
 // Does the work by the house and its passes, and tells what becomes of them.
 fn perform_by<N: Names + Send + Sync, R: Threads + Wait + Sync, S: Source, W: Sink>(
@@ -37,8 +69,8 @@ where
     requires pass_parts { N.Events.all ≡ N.Events.parts }
 {
     match perform(rt, threads, &house, &mut passes, work, reader, writer) {
-        Ok(Next::Gather) => changes::tell(rt, config, gather(rt.alloc(), house, passes)),
-        Ok(Next::Finish(ending)) => ending.tell(rt, &house.finish(rt.alloc(), passes)),
+        Ok(Next::Gather) => gather_and_tell(rt, threads, config, house, passes),
+        Ok(Next::Finish(ending)) => finish_and_tell(rt, threads, ending, house, passes),
         Err(fault) => Err(fault),
     }
 }

@@ -8,8 +8,9 @@ use Rattle.plain_house.specs.House.{events_after}
 use Rattle.plain_house.specs.Legal.{IsLegal}
 use Rattle.plain_house.specs.Replies.{is_no_memory}
 use Rattle.shared_house.specs.declared.made.Made.{Made}
-use Rattle.shared_house.specs.declared.certifying.turns.Turn.{Turn}
+use Rattle.shared_house.specs.declared.certifying.turn.Turn.{Turn}
 use Rattle.shared_house.specs.Points.{owns, point_of_reply, seen_behind}
+use Rattle.shared_house.specs.Inner.Ranks.{rank_of}
 use Rattle.shared_house.specs.History.{Stands}
 
 -- a call that found memory, and what its pass has seen before it
@@ -36,9 +37,8 @@ point_at turn = point_of_reply turn.made.reply
 abbrev pub added_at : PlainTurn → ℕ
 added_at turn = if adds_event turn.made.reply then 1 else 0
 
--- calls of one point stand together, those that add nothing first
 abbrev pub rank : PlainTurn → ℕ
-rank turn = point_at turn + (point_at turn + added_at turn)
+rank turn = rank_of turn.made
 
 abbrev pub owns_at : ℕ → PlainTurn → Bool
 owns_at number turn = owns number turn.made

@@ -8,7 +8,9 @@ ghost use Rattle.shared_house.specs.Points.{AreAllAdmitted, point_of_reply};
 ghost use Rattle.shared_house.specs.History.{BreaksFirst, IsOneHistory, Stands, events_before};
 ghost use Rattle.shared_house.specs.Inner.Turns.{IsNext, Tears, plain_turn};
 
-use super::turns::{Turn, turns_in_order};
+use super::stretches::is_found_in_stretches;
+use super::turn::Turn;
+use super::turns::turns_in_order;
 use crate::made::Made;
 use ocpi_json::same::Same;
 use ocpi_types::{Config, TryCopy};
@@ -18,6 +20,7 @@ use plain_house::{
     is_out_of_memory, replies_tell_events,
 };
 use std::alloc::{AllocError, Global};
+use std::thread::Threads;
 
 // The event of this number is the last one of the house.
 fn is_last_at(house: &BookHouse, events: &[Event], number: u64) -> bool
@@ -120,7 +123,8 @@ fn first_break_by(
 }
 
 /// The first number at which the events and the calls of all passes break, or none where they are one history.
-pub fn first_break(
+pub fn first_break<R: Threads + Sync>(
+    rt: &R,
     alloc: Global,
     config: &Config,
     events: &[Event],
@@ -130,6 +134,9 @@ pub fn first_break(
     ensures history { IfOk result (λ torn. IfNone torn (IsOneHistory config.now events.now (map (λ calls. calls.items) passes.now))) }
     ensures torn { IfOk result (λ torn. IfSome torn (BreaksFirst config.now events.now (map (λ calls. calls.items) passes.now))) }
 {
+    if is_found_in_stretches(rt, alloc, config, events, passes)? {
+        return Ok(None);
+    }
     let mut house = BookHouse::new(alloc, config.copy(alloc)?)?;
     first_break_by(alloc, &mut house, events, passes)
 }

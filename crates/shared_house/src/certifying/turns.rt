@@ -5,24 +5,16 @@ ghost use Rattle.std.specs.List.Sorted.{IsNonDecreasingBy, IsPermutation};
 ghost use Rattle.std.specs.Ordering.{nat_cmp};
 ghost use Rattle.shared_house.specs.Inner.Turns.{plain_turn, rank, turns_from, turns_of};
 
+use super::turn::Turn;
 use crate::made::Made;
-use plain_house::{adds_event, is_out_of_memory};
+use plain_house::is_out_of_memory;
 use std::alloc::{AllocError, Global};
 use std::cmp::Ordering;
 
-/// A call that found memory, and the number of events that its pass has seen before it.
-#[derive(Clone, Copy)]
-pub struct Turn<'a> {
-    pub front: u128,
-    pub made: &'a Made,
-}
-
-// By their points, and those that add no event first.
 fn in_order(first: &Turn, second: &Turn) -> Ordering
     ensures { result ≡ nat_cmp (rank (plain_turn first.now)) (rank (plain_turn second.now)) }
 {
-    let by_point = first.made.point().cmp(&second.made.point());
-    by_point.then(adds_event(&first.made.reply).cmp(&adds_event(&second.made.reply)))
+    first.rank().cmp(&second.rank())
 }
 
 // The calls of one pass, behind the turns that are there.
@@ -32,7 +24,7 @@ fn add_turns<'a>(turns: &mut Vec<Turn<'a>>, calls: &'a [Made]) -> Result<(), All
     let mut front = 0;
     for made in calls {
         if !is_out_of_memory(&made.reply) {
-            turns.push(Turn { front, made })?;
+            turns.push(Turn::new(front, made))?;
             front = made.seen();
         }
     }

@@ -11,7 +11,7 @@ use crate::pass::Pass;
 use cdr_checks::{
     Authorize, Checked, Close, Command, ExposureOf, Find, Release, Settlement, StatementOf,
 };
-use ocpi_types::{Tariff, Token};
+use ocpi_types::{Shared, Tariff, Token};
 use plain_house::{Refused, Replied};
 use std::sync::Wait;
 
@@ -22,7 +22,7 @@ impl<N: Names> House<N> {
         rt: &R,
         pass: &mut Pass<N>,
         gate: &G,
-        tariff: Tariff,
+        tariff: Shared<Tariff>,
     ) -> Result<Replied, Refused>
         requires { IsAdmitted N.BookEntries.config (command.PutTariff tariff) }
         ensures { IsCall N.BookEntries.config (command.PutTariff tariff) pass.old pass.new result }

@@ -30,7 +30,7 @@ returns-in_err-write_periods-clause-err g c =
     let first = c.write_order_file.new.folder in
     let last = c.write_periods.new.folder in
     let rest : AreLeft words (statements events among (period_of events)) first last fault =
-    subst (λ (n : ℕ). AreLeft words (statements events among n) first last fault) c.periods_closed-periods.ensures
-    (subst (λ (ps : List Party). AreLeft words (statements events ps c.periods_closed-periods.result) first last fault) (c.as_slice.ensures.value ∙ c.in_ok-parties.ensures) c.in_err-write_periods.ensures.err) in
+    subst (λ (n : ℕ). AreLeft words (statements events among n) first last fault) c.period_of-periods.ensures.value
+    (subst (λ (ps : List Party). AreLeft words (statements events ps c.period_of-periods.result) first last fault) (c.as_slice.ensures.value ∙ c.in_ok-parties.ensures.parties) c.in_err-write_periods.ensures.err) in
     let left = left_behind words (order_output events ∷ []) (statements events among (period_of events)) c.args.folder.now first last fault (first, search rules, refl) rest in
     search rules

@@ -3,19 +3,11 @@ use Rattle.plain_house.specs.Entries.{book_entries}
 use Rattle.plain_house.specs.Obligations.{obligations}
 use Rattle.clear_cli.specs.Folder.{FolderWords}
 use Rattle.clear_cli.specs.Outputs.{statement_output}
-use Rattle.clear_cli.proofs.OutputLemmas.{left_at, one_more}
+use Rattle.clear_cli.proofs.OutputLemmas.{none_begun}
 use Rattle.clear_cli.proofs.outputs.write_period.Goals as goal
 
-pub loop-party-preserved : goal.loop-party-preserved
-loop-party-preserved g c =
+pub returns-in_err-owed-clause-err : goal.returns-in_err-owed-clause-err
+returns-in_err-owed-clause-err g c =
     let words : FolderWords _ _ = record { makes = g.O.Folder.makes; refuses = g.O.Folder.refuses; takes = g.O.File.Sink.takes; failed = g.O.File.Sink.failed } in
-    let more = one_more words (statement_output (obligations 0 (book_entries c.args.events.now)) c.args.period) c.args.parties.now c.loop-party.party-index _ c.party-item.result
-    c.args.folder.now c.loop-party.folder c.write_one.new.folder c.party-item.is in
-    search rules
-
-pub returns-in_err-write_one-clause-err : goal.returns-in_err-write_one-clause-err
-returns-in_err-write_one-clause-err g c =
-    let words : FolderWords _ _ = record { makes = g.O.Folder.makes; refuses = g.O.Folder.refuses; takes = g.O.File.Sink.takes; failed = g.O.File.Sink.failed } in
-    let left = left_at words (statement_output (obligations 0 (book_entries c.args.events.now)) c.args.period) c.args.parties.now c.loop-party.party-index _ c.party-item.result
-    c.args.folder.now c.loop-party.folder c.write_one.new.folder c.in_err-write_one.field-0.0 c.party-item.is (search rules) c.loop-party.invariant c.in_err-write_one.ensures.err in
+    let left = none_begun words (statement_output (obligations 0 (book_entries c.args.events.now)) c.args.period) c.args.parties.now c.args.folder.now (search rules) in
     search rules

@@ -7,7 +7,7 @@ use Rattle.shared_house.proofs.CertifiedLemmas.{torn_in_all}
 use Rattle.shared_house.proofs.certifying.certify.Goals as goal
 
 pub returns-in-Some-clause-torn : goal.returns-in-Some-clause-torn
-returns-in-Some-clause-torn c = λ entry is.
+returns-in-Some-clause-torn g c = λ entry is.
     let books = entries_of_books c.args.books.now in
     let accounts = entries_of_accounts c.args.accounts.now in
     let events : List Event = c.as_slice.result.now in

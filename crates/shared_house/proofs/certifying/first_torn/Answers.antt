@@ -11,12 +11,12 @@ use Rattle.shared_house.proofs.certifying.first_torn.Goals as goal
 use Rattle.shared_house.proofs.certifying.first_torn.Goals.{in_default-2, in_default}
 
 pub unreachable-requires : goal.unreachable-requires
-unreachable-requires c =
+unreachable-requires g c =
     part_is_whole c.resolving_is_whole.ensures (entries_of_books c.args.books.now) (entries_of_accounts c.args.accounts.now) c.args.order.now c.args.entry c.requires.fails c.in-Err-Torn.field-0-0
     (c.resolve.ensures.torn c.in-Err-Torn.field-0-0 (c.in-Err-Torn.is ∙ ap Err c.in-Err-Torn.field-0-is))
 
 pub returns-in-Some : goal.returns-in-Some
-returns-in-Some c =
+returns-in-Some g c =
     let config = c.args.config.now in
     let books = entries_of_books c.args.books.now in
     let accounts = entries_of_accounts c.args.accounts.now in
@@ -27,7 +27,7 @@ returns-in-Some c =
     torn_in_part c.resolving_is_unique.ensures config books accounts c.args.order.now _ events c.args.entry resolves c.in-Some.number c.if-number-entry.true first
 
 pub returns : goal.returns
-returns c =
+returns g c =
     let config = c.args.config.now in
     let books = entries_of_books c.args.books.now in
     let accounts = entries_of_accounts c.args.accounts.now in

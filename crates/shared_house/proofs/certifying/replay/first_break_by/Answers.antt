@@ -1,7 +1,7 @@
 use Rattle.std.proofs.Common.{◌≡◌, ◌+◌, ℕ, List, true, false, IfNone, IfSome, ap, refl, sym, ◌∙◌, subst, map, take, arith}
 use Rattle.ocpi_types.specs.declared.config.Config.{Config}
 use Rattle.cdr_checks.specs.Admission.{IsAdmitted}
-use Rattle.shared_house.specs.declared.certifying.turns.Turn.{Turn}
+use Rattle.shared_house.specs.declared.certifying.turn.Turn.{Turn}
 use Rattle.shared_house.specs.Inner.Turns.{AreFit, IsNext, PlainTurn, Tears, added_at, plain_turn}
 use Rattle.shared_house.proofs.FitLemmas.{none_fit}
 use Rattle.shared_house.proofs.ReplayLemmas.{all_done, all_plain, are_turns, counted, none_left, plain_at, turn_admitted, turn_breaks, turn_done, within_plain}

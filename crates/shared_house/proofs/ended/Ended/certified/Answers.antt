@@ -10,11 +10,13 @@ use Rattle.shared_house.specs.Points.{AreAllAdmitted}
 use Rattle.shared_house.proofs.ended.Ended.certified.Goals as goal
 
 pub certify-certified-requires : goal.certify-certified-requires
-certify-certified-requires c =
-    subst (λ (l : List (Vec Made Global)). AreAllAdmitted c.args.config.now (map (λ (pass : Vec Made Global). pass.items) l)) (sym c.as_slice-4.ensures.value) c.requires
+certify-certified-requires g c = (
+  c.type_bounds.sync-R,
+  subst (λ (l : List (Vec Made Global)). AreAllAdmitted c.args.config.now (map (λ (pass : Vec Made Global). pass.items) l)) (sym c.as_slice-4.ensures.value) c.requires,
+)
 
 pub returns-clause-torn : goal.returns-clause-torn
-returns-clause-torn c = λ entry is.
+returns-clause-torn g c = λ entry is.
     let same : c.in-Err.fault ≡ fault.Torn entry = cc in
     subst (λ (l : List (Vec Made Global)). IsTornFirst c.args.config.now (entries_of_books c.args.gathered.books.items) (entries_of_accounts c.args.gathered.accounts.items) c.args.gathered.entries.items (map (λ (pass : Vec Made Global). pass.items) l) entry) c.as_slice-4.ensures.value
     (subst (λ (l : List PlainAccount). IsTornFirst c.args.config.now (entries_of_books c.args.gathered.books.items) (entries_of_accounts l) c.args.gathered.entries.items (map (λ (pass : Vec Made Global). pass.items) c.as_slice-4.result.now) entry) c.as_slice-3.ensures.value

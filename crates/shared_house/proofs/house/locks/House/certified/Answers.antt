@@ -1,4 +1,4 @@
-use Rattle.std.proofs.Common.{map, sym, ◌∙◌, subst, Vec, Global}
+use Rattle.std.proofs.Common.{rules, map, sym, ◌∙◌, subst, Vec, Global}
 use Rattle.std.proofs.lemmas.List.Elements.{All-map}
 use Rattle.ocpi_types.specs.declared.config.Config.{Config}
 use Rattle.period_order.specs.Resolved.{entries_of_accounts, entries_of_books}
@@ -12,10 +12,11 @@ use Rattle.shared_house.proofs.StandLemmas.{if_ok}
 use Rattle.shared_house.proofs.house.locks.House.certified.Goals as goal
 
 pub certified-requires : goal.certified-requires
-certified-requires g c =
-    subst (λ (config : Config). AreAllAdmitted config (map (λ (pass : Vec Made Global). pass.items) c.in_ok-gathered.gathered.calls.items))
-    (sym c.args.self.configured)
-    (All-map (AreAdmitted g.N.BookEntries.Configured.config) (λ (pass : Vec Made Global). pass.items) c.in_ok-gathered.gathered.calls.items c.in_ok-gathered.ensures.admitted)
+certified-requires g c = (
+  search rules,
+  subst (λ (config : Config). AreAllAdmitted config (map (λ (pass : Vec Made Global). pass.items) c.in_ok-gathered.gathered.calls.items)) (sym c.args.self.configured)
+      (All-map (AreAdmitted g.N.BookEntries.Configured.config) (λ (pass : Vec Made Global). pass.items) c.in_ok-gathered.gathered.calls.items c.in_ok-gathered.ensures.admitted),
+)
 
 pub returns-clause-ok : goal.returns-clause-ok
 returns-clause-ok g c =

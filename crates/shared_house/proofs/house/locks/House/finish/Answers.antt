@@ -1,8 +1,6 @@
-use Rattle.std.proofs.Common.{◌≡◌, List, Result, Ok, IfOk, map, subst}
-use Rattle.shared_house.specs.Finished.{IsFinished}
+use Rattle.std.proofs.Common.{◌≡◌, Result, Ok, IfOk, subst}
 use Rattle.shared_house.specs.declared.certifying.CertifyFault.{CertifyFault}
 use Rattle.shared_house.specs.declared.ended.Ended.{Ended}
-use Rattle.shared_house.specs.declared.made.Made.{Made}
 use Rattle.shared_house.proofs.StandLemmas.{if_ok}
 use Rattle.shared_house.proofs.house.locks.House.finish.Goals as goal
 

@@ -1,0 +1,314 @@
+//! Stretches of a history, each checked by ledgers of its own.
+
+ghost use Rattle.std.specs.Prelude.{All, ◌≡◌, ◌≤◌, ◌++◌, true, List, length, map, take, IfOk, IfSome};
+ghost use Rattle.cdr_checks.specs.Admission.{IsAdmitted};
+ghost use Rattle.plain_house.specs.declared.event.Event.{Event};
+ghost use Rattle.plain_house.specs.House.{events_after};
+ghost use Rattle.plain_house.specs.Legal.{IsLegal};
+ghost use Rattle.period_order.specs.Ledgers.{Keep};
+ghost use Rattle.shared_house.specs.Points.{AreAllAdmitted, point_of_reply};
+ghost use Rattle.shared_house.specs.History.{IsOneHistory, Stands, events_before};
+ghost use Rattle.shared_house.specs.Inner.Stretches.{Agrees, IsStretchFit};
+ghost use Rattle.shared_house.specs.Inner.Tables.{HasRightTable};
+ghost use Rattle.shared_house.specs.Inner.Turns.{AreFit, IsNext, plain_turn};
+
+use super::tables::are_tables_right;
+use super::turn::Turn;
+use super::turns::turns_in_order;
+use crate::made::Made;
+use ocpi_json::same::Same;
+use ocpi_types::{Config, TryCopy};
+use period_order::{Decided, Ledgers, Outcome};
+use plain_house::{
+    Answer, Event, Refused, Replied, adds_event, closed_periods_stay, commands_keep_lists_legal,
+    empty_lists_are_legal, events_are_of_configured, legal_lists_begin_legally,
+    replies_tell_events, stamped,
+};
+use std::alloc::{AllocError, Global};
+use std::thread;
+use std::thread::{Threads, available_parallelism};
+
+/// Turns from one number to another, and the events that are to be theirs.
+#[derive(Clone, Copy)]
+pub struct Stretch {
+    pub start: usize,
+    pub end: usize,
+    pub from: u64,
+    pub until: u64,
+}
+
+// Puts events behind those that the ledgers keep. False where one cannot be put.
+fn put_all(ledgers: &mut Ledgers, events: &[Event]) -> Result<bool, AllocError>
+    ensures config { ledgers.new.config ≡ ledgers.old.config }
+    ensures put { IfOk result (λ are_put. are_put ≡ true → (before : List Event) → Keep ledgers.old before →
+        IsLegal ledgers.old.config (before ++ events.now) → Keep ledgers.new (before ++ events.now)) }
+{
+    legal_lists_begin_legally();
+    for event in events {
+        if !ledgers.put(event)? {
+            return Ok(false);
+        }
+    }
+    Ok(true)
+}
+
+// The reply is what the command came to, but for what is collected.
+fn agrees(decided: Decided, reply: &Result<Replied, Refused>) -> bool
+    ensures { result ≡ true → Agrees decided reply.now }
+{
+    match (decided.outcome, reply) {
+        (Outcome::Replied { reply: answer, .. }, _) => stamped(decided.point, answer).is_same(
+            reply,
+        ),
+        (
+            Outcome::Closed { period },
+            Ok(
+                Replied {
+                    at,
+                    answer: Answer::Closed { period: told, .. },
+                },
+            ),
+        ) => *at == decided.point && *told == period,
+        (
+            Outcome::Stated { .. },
+            Ok(
+                Replied {
+                    at,
+                    answer: Answer::Statement { .. },
+                },
+            ),
+        ) => *at == decided.point,
+        (Outcome::Closed { .. } | Outcome::Stated { .. }, _) => false,
+    }
+}
+
+// Does the command of a call on ledgers that keep the events before it, and tells whether the call stands there.
+fn stands(
+    alloc: Global,
+    ledgers: &mut Ledgers,
+    events: &[Event],
+    made: &Made,
+) -> Result<bool, AllocError>
+    requires admitted { IsAdmitted ledgers.old.config made.now.command }
+    requires within { point_of_reply made.now.reply ≤ length events.now }
+    requires table { HasRightTable ledgers.old.config events.now made.now }
+    ensures config { ledgers.new.config ≡ ledgers.old.config }
+    ensures stands { IfOk result (λ stands. stands ≡ true → Keep ledgers.old (events_before events.now made.now) → Stands ledgers.old.config events.now made.now) }
+    ensures kept { IfOk result (λ _. Keep ledgers.old (events_before events.now made.now) →
+        Keep ledgers.new (events_after ledgers.old.config (events_before events.now made.now) made.now.command)) }
+{
+    closed_periods_stay();
+    events_are_of_configured();
+    replies_tell_events();
+    let command = made.command.copy(alloc)?;
+    let decided = ledgers.decide(command)?;
+    if !agrees(decided, &made.reply) {
+        return Ok(false);
+    }
+    if !adds_event(&made.reply) {
+        return Ok(true);
+    }
+    match events.get(made.point() as usize) {
+        Some(event) => Ok(ledgers.is_last(event)),
+        None => Ok(false),
+    }
+}
+
+// Does the command of the next turn, where so many events are those of the turns before it, and tells whether it is fit.
+fn takes_turn(
+    alloc: Global,
+    ledgers: &mut Ledgers,
+    events: &[Event],
+    turn: &Turn,
+    count: u64,
+) -> Result<bool, AllocError>
+    requires admitted { IsAdmitted ledgers.old.config turn.now.made.now.command }
+    requires table { HasRightTable ledgers.old.config events.now turn.now.made.now }
+    ensures config { ledgers.new.config ≡ ledgers.old.config }
+    ensures within { IfOk result (λ takes. takes ≡ true → count ≤ length events.now) }
+    ensures next { IfOk result (λ takes. takes ≡ true → Keep ledgers.old (take count events.now) →
+        IsNext ledgers.old.config events.now count (plain_turn turn.now) (events_after ledgers.old.config (take count events.now) turn.now.made.now.command)) }
+    ensures kept { IfOk result (λ takes. takes ≡ true → Keep ledgers.old (take count events.now) →
+        Keep ledgers.new (events_after ledgers.old.config (take count events.now) turn.now.made.now.command)) }
+{
+    let point = turn.made.point();
+    if point != count || u128::from(point) < turn.front || events.len() < point as usize {
+        return Ok(false);
+    }
+    stands(alloc, ledgers, events, turn.made)
+}
+
+// The turns of a stretch are fit on ledgers that keep the events before it.
+fn are_fit(
+    alloc: Global,
+    ledgers: &mut Ledgers,
+    events: &[Event],
+    turns: &[Turn],
+    stretch: Stretch,
+) -> Result<bool, AllocError>
+    requires admitted { All (λ turn. IsAdmitted ledgers.old.config turn.made.now.command) turns.now }
+    requires tables { All (λ turn. HasRightTable ledgers.old.config events.now turn.made.now) turns.now }
+    requires within { (stretch.start ≤ stretch.end) × (stretch.end ≤ length turns.now) }
+    requires kept { IsLegal ledgers.old.config (take stretch.from events.now) → Keep ledgers.old (take stretch.from events.now) }
+    ensures { IfOk result (λ are. are ≡ true → IsStretchFit ledgers.old.config events.now (map plain_turn turns.now) stretch) }
+{
+    commands_keep_lists_legal();
+    replies_tell_events();
+    let mut count = stretch.from;
+    for number in stretch.start..stretch.end {
+        let turn = &turns[number];
+        if !takes_turn(alloc, ledgers, events, turn, count)? {
+            return Ok(false);
+        }
+        if adds_event(&turn.made.reply) {
+            count += 1;
+        }
+    }
+    Ok(count == stretch.until)
+}
+
+// The stretch, where its turns are fit. None too where it is none of the turns, or the events before it cannot be put.
+fn fit_stretch(
+    alloc: Global,
+    config: &Config,
+    events: &[Event],
+    turns: &[Turn],
+    stretch: Stretch,
+) -> Result<Option<Stretch>, AllocError>
+    requires admitted { All (λ turn. IsAdmitted config.now turn.made.now.command) turns.now }
+    requires tables { All (λ turn. HasRightTable config.now events.now turn.made.now) turns.now }
+    ensures { IfOk result (λ found. IfSome found (IsStretchFit config.now events.now (map plain_turn turns.now))) }
+{
+    empty_lists_are_legal();
+    if stretch.end < stretch.start
+        || turns.len() < stretch.end
+        || (events.len() as u64) < stretch.from
+    {
+        return Ok(None);
+    }
+    let mut ledgers = Ledgers::new(alloc, config.copy(alloc)?)?;
+    if !put_all(&mut ledgers, &events[..stretch.from as usize])? {
+        return Ok(None);
+    }
+    if are_fit(alloc, &mut ledgers, events, turns, stretch)? {
+        Ok(Some(stretch))
+    } else {
+        Ok(None)
+    }
+}
+
+// Whether all stretches are fit, and each begins where the one before it ends, from the first turn to the last.
+fn are_joined(
+    config: &Config,
+    events: &[Event],
+    turns: &[Turn],
+    found: &[Result<Option<Stretch>, AllocError>],
+) -> Result<bool, AllocError>
+    requires { All (λ stretch. IfOk stretch (λ stretch. IfSome stretch (IsStretchFit config.now events.now (map plain_turn turns.now)))) found.now }
+    ensures { IfOk result (λ are. are ≡ true → AreFit config.now events.now (map plain_turn turns.now) (length events.now)) }
+{
+    empty_lists_are_legal();
+    let _ = config;
+    let mut start = 0;
+    let mut from = 0;
+    for found in found {
+        match found {
+            Ok(Some(stretch)) if stretch.start == start && stretch.from == from => {
+                start = stretch.end;
+                from = stretch.until;
+            }
+            Ok(_) => return Ok(false),
+            Err(AllocError) => return Err(AllocError),
+        }
+    }
+    Ok(start == turns.len() && from == events.len() as u64)
+}
+
+// Thousandths of the turns that are left, which the next stretch takes: by how many come behind it. An event is put in some two
+// fifths of the time in which a call is done, so all stretches take as long.
+const SHARES: [usize; 8] = [1000, 625, 510, 460, 434, 420, 411, 407];
+
+// How many of so many turns the next stretch takes, where so many come behind it.
+fn share(turns: usize, behind: usize) -> usize
+    ensures { result ≤ turns }
+{
+    match SHARES.get(behind) {
+        Some(share) => ((turns as u128 * *share as u128 / 1000) as usize).min(turns),
+        None => 0,
+    }
+}
+
+fn stretches_of(
+    alloc: Global,
+    events: &[Event],
+    turns: &[Turn],
+    count: usize,
+) -> Result<Vec<Stretch>, AllocError> {
+    let mut stretches = Vec::new(alloc);
+    let mut start = 0;
+    let mut from = 0;
+    for behind in (0..count).rev() {
+        let end = start + share(turns.len() - start, behind);
+        let until = match turns.get(end) {
+            Some(turn) => turn.made.point(),
+            None => events.len() as u64,
+        };
+        stretches.push(Stretch {
+            start,
+            end,
+            from,
+            until,
+        })?;
+        start = end;
+        from = until;
+    }
+    Ok(stretches)
+}
+
+fn processors(rt: &impl Threads) -> usize {
+    match available_parallelism(rt) {
+        Ok(count) => count.get().min(SHARES.len()),
+        Err(_) => 1,
+    }
+}
+
+// The stretches that are fit, each found in a thread of its own where one can be made.
+fn fit_stretches<R: Threads + Sync>(
+    rt: &R,
+    alloc: Global,
+    config: &Config,
+    events: &[Event],
+    turns: &[Turn],
+) -> Result<Vec<Result<Option<Stretch>, AllocError>>, AllocError>
+    requires admitted { All (λ turn. IsAdmitted config.now turn.made.now.command) turns.now }
+    requires tables { All (λ turn. HasRightTable config.now events.now turn.made.now) turns.now }
+    ensures { IfOk result (λ found. All (λ stretch. IfOk stretch (λ stretch. IfSome stretch (IsStretchFit config.now events.now (map plain_turn turns.now)))) found.items) }
+{
+    let stretches = stretches_of(alloc, events, turns, processors(rt))?;
+    thread::map_indices(
+        rt,
+        alloc,
+        stretches.len(),
+        &|number| { fit_stretch(alloc, config, events, turns, stretches[number]) },
+    )
+}
+
+/// Whether the events and the calls of all passes are found to be one history, in stretches at once. False too where they are not one,
+/// and where it takes a check of all calls in turn to find out.
+pub fn is_found_in_stretches<R: Threads + Sync>(
+    rt: &R,
+    alloc: Global,
+    config: &Config,
+    events: &[Event],
+    passes: &[Vec<Made>],
+) -> Result<bool, AllocError>
+    requires { AreAllAdmitted config.now (map (λ calls. calls.items) passes.now) }
+    ensures { IfOk result (λ is. is ≡ true → IsOneHistory config.now events.now (map (λ calls. calls.items) passes.now)) }
+{
+    let turns = turns_in_order(alloc, passes)?;
+    if !are_tables_right(alloc, config, events, turns.as_slice())? {
+        return Ok(false);
+    }
+    let found = fit_stretches(rt, alloc, config, events, turns.as_slice())?;
+    are_joined(config, events, turns.as_slice(), found.as_slice())
+}
