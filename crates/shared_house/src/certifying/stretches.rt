@@ -224,8 +224,8 @@ fn are_joined(
     Ok(start == turns.len() && from == events.len() as u64)
 }
 
-// Thousandths of the turns that are left, which the next stretch takes: by how many come behind it. An event is put in some two
-// fifths of the time in which a call is done, so all stretches take as long.
+// Thousandths of the turns that are left, which the next stretch takes: by how many come behind it. All stretches would take as
+// long if an event were put in two fifths of the time of a call; it takes some two thirds, so the last stretch ends last.
 const SHARES: [usize; 8] = [1000, 625, 510, 460, 434, 420, 411, 407];
 
 // How many of so many turns the next stretch takes, where so many come behind it.
