@@ -18,7 +18,6 @@ use ocpi_json::sequence::Sequence;
 
 /// A charge detail record of an operator (OCPI 2.2.1, CDR object). One that is no Credit CDR has an id of up to 36 bytes and no
 /// volume or total energy below 0.
-#[derive(Drop)]
 pub struct Cdr {
     pub operator: Party,
     pub id: CiText<39>,
@@ -42,6 +41,29 @@ pub struct Cdr {
     pub ghost id_in_range: { (is_some credit || nat_le (length id) 36) ≡ true },
     pub ghost volumes_in_range: { (is_some credit || list_all has_volumes_in_range charging_periods) ≡ true },
     pub ghost energy_in_range: { (is_some credit || int_le (pos 0) total_energy) ≡ true },
+}
+
+// Not derived: what is derived is proved anew in each crate that drops one.
+impl Drop for Cdr {
+    fn drop(self) {
+        let Cdr {
+            operator: _,
+            id: _,
+            start_date_time: _,
+            end_date_time: _,
+            cdr_token: _,
+            auth_method: _,
+            authorization_reference: _,
+            currency: _,
+            tariffs: _,
+            charging_periods: _,
+            total_cost: _,
+            total_energy: _,
+            total_time: _,
+            credit: _,
+            last_updated: _,
+        } = self;
+    }
 }
 
 impl Cdr {

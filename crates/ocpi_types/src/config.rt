@@ -83,7 +83,6 @@ pub struct PairLimit {
 }
 
 /// The configuration of a house.
-#[derive(Drop)]
 pub struct Config {
     pub tolerance: Tolerance,
     pub currencies: Distinct<Currency, 16>,
@@ -94,4 +93,20 @@ pub struct Config {
     pub pair_limits: Distinct<PairLimit, 4096>,
     /// How many periods after its original's period a Credit CDR may come; none is no bound.
     pub credit_window: Option<AtMost<10_000>>,
+}
+
+// Not derived: what is derived is proved anew in each crate that drops one.
+impl Drop for Config {
+    fn drop(self) {
+        let Config {
+            tolerance: _,
+            currencies: _,
+            operators: _,
+            providers: _,
+            platforms: _,
+            limits: _,
+            pair_limits: _,
+            credit_window: _,
+        } = self;
+    }
 }

@@ -15,7 +15,6 @@ use ocpi_json::sequence::Sequence;
 use std::alloc::Global;
 
 /// A version of a tariff of an operator (OCPI 2.2.1, Tariff object).
-#[derive(Drop)]
 pub struct Tariff {
     pub operator: Party,
     pub id: CiText<36>,
@@ -26,6 +25,21 @@ pub struct Tariff {
     pub max_price: Option<Quantity>,
     pub elements: Sequence<Element>,
     pub last_updated: Timestamp,
+}
+
+// Not derived: what is derived is proved anew in each crate that drops one.
+impl Drop for Tariff {
+    fn drop(self) {
+        let Tariff {
+            operator: _,
+            id: _,
+            currency: _,
+            min_price: _,
+            max_price: _,
+            elements: _,
+            last_updated: _,
+        } = self;
+    }
 }
 
 #[tactic(auto, unfolding(crate::specs::Tariff::price_at))]

@@ -22,12 +22,23 @@ mod perform;
 mod table;
 
 /// A house that keeps a book for each operator, an account for each provider, and the order of events.
-#[derive(Drop)]
 pub struct BookHouse {
     config: Config,
     books: Vec<Book>,
     accounts: Vec<Account>,
     order: Order,
+}
+
+// Not derived: what is derived is proved anew in each crate that drops one.
+impl Drop for BookHouse {
+    fn drop(self) {
+        let BookHouse {
+            config: _,
+            books: _,
+            accounts: _,
+            order: _,
+        } = self;
+    }
 }
 
 impl Model for BookHouse {

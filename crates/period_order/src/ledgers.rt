@@ -27,12 +27,23 @@ mod takes;
 
 /// A book for each operator, an account for each provider, and the order of events, whatever events they are. What is said of
 /// them is said for each list that they keep, and such a list is legal.
-#[derive(Drop)]
 pub struct Ledgers {
     config: Config,
     books: Vec<Book>,
     accounts: Vec<Account>,
     order: Order,
+}
+
+// Not derived: what is derived is proved anew in each crate that drops one.
+impl Drop for Ledgers {
+    fn drop(self) {
+        let Ledgers {
+            config: _,
+            books: _,
+            accounts: _,
+            order: _,
+        } = self;
+    }
 }
 
 impl Model for Ledgers {

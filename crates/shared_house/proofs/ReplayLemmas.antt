@@ -3,7 +3,7 @@ use Rattle.std.proofs.Common.{◌≡◌, ℕ, ◌+◌, ◌<◌, ◌≤◌, List,
 use Rattle.std.proofs.lemmas.List.{append-nil, get_or-map, length-map, take-append-drop, take_all, take_more}
 use Rattle.std.proofs.lemmas.List.Elements.{All-contains, Contains-append_right}
 use Rattle.std.proofs.lemmas.List.Sorted.{Contains-permutation, IsPermutation-sym, sum_by-IsPermutation}
-use Rattle.std.specs.List.Sorted.{IsNonDecreasingBy, IsPermutation}
+use Rattle.std.specs.List.Sorted.{IsNonDecreasingBy}
 use Rattle.ocpi_types.specs.declared.config.Config.{Config}
 use Rattle.cdr_checks.specs.Admission.{IsAdmitted}
 use Rattle.plain_house.specs.declared.event.Event.{Event}
@@ -14,7 +14,7 @@ use Rattle.shared_house.specs.declared.certifying.turn.Turn.{Turn}
 use Rattle.shared_house.specs.declared.made.Made.{Made}
 use Rattle.shared_house.specs.Points.{AreAdmitted, AreAllAdmitted}
 use Rattle.shared_house.specs.History.{BreaksFirst, IsOneHistory}
-use Rattle.shared_house.specs.Inner.Turns.{AreFit, IsNext, PlainTurn, Tears, added_at, owns_at, plain_turn, rank, turns_of}
+use Rattle.shared_house.specs.Inner.Turns.{AreFit, AreTurns, IsNext, PlainTurn, Tears, added_at, owns_at, plain_turn, turns_of}
 use Rattle.shared_house.proofs.FitLemmas.{AreSoFar, fit_more, left_first, one_history, tears_first}
 use Rattle.shared_house.proofs.StandLemmas.{Follows, follows}
 use Rattle.shared_house.proofs.TurnLemmas.{contains_first, turn_came}
@@ -64,10 +64,6 @@ module _ (config : Config) (events : List Event) (turns : List PlainTurn) (i : �
 
 -- ---- the turns of all passes, of which so many are done
 
-pub record AreTurns (passes : List (List Made)) (turns : List PlainTurn) : Type 0 where
-  pub same : IsPermutation (turns_of passes) turns
-  pub in_order : IsNonDecreasingBy rank turns
-
 split_at : (turns : List PlainTurn) (i : ℕ) (turn : PlainTurn) → i < length turns → turn ≡ get_or turns i turn → turns ≡ take i turns ++ turn ∷ drop (i + 1) turns
 split_at turns i turn within is =
     sym (take-append-drop (i + 1) turns)
@@ -111,18 +107,7 @@ module _ (config : Config) (events : List Event) (passes : List (List Made)) (tu
         tears_first config events passes (take i turns) (drop (i + 1) turns) turns turn count
         (so_far (take i turns) (turn ∷ drop (i + 1) turns) count fit (split_at turns i turn within is)) are.in_order number tears
 
-    -- where it is done, it is one more
-    pub turn_done : RepliesTellEvents → CommandsKeepListsLegal → AreAllAdmitted config passes → (count : ℕ) (now : List Event) → AreFit config events (take i turns) count
-        → IsNext config events count turn now → Done config events turns i turn within is count now
-    turn_done tells keep admitted count now fit next = turn_fit config events turns i turn within is tells keep (turn_admitted admitted) count now fit next
-
 -- ---- the turns of a list of the program
-
-pub are_turns : (passes : List (List Made)) (xs ys : List Turn) → ys ≡ xs → IsPermutation (turns_of passes) (map plain_turn xs) → IsNonDecreasingBy (λ turn. rank (plain_turn turn)) xs
-    → AreTurns passes (map plain_turn ys)
-are_turns passes xs ys same permuted up =
-    subst (λ (l : List Turn). AreTurns passes (map plain_turn l)) (sym same)
-    (record { same = permuted; in_order = in_order_map plain_turn rank xs up })
 
 pub within_plain : (xs : List Turn) (i : ℕ) → i < length xs → i < length (map plain_turn xs)
 within_plain xs i within = omega (arith, within, length-map xs plain_turn)

@@ -1,5 +1,5 @@
 -- Whether a call stands, and the events behind it.
-use Rattle.std.proofs.Common.{◌≡◌, ◌↔◌, ℕ, ◌+◌, ◌-◌, ◌<◌, ◌≤◌, suc, zero, List, [], ◌∷◌, ◌++◌, Bool, true, false, refl, sym, ap, ◌∙◌, subst, arith, length, cond, take, slice_get, Option, Some, None, IfOk, IfSome, Result, Ok, Err, is_some, length-append}
+use Rattle.std.proofs.Common.{◌≡◌, ◌↔◌, ℕ, ◌+◌, ◌-◌, ◌<◌, ◌≤◌, suc, zero, List, [], ◌∷◌, ◌++◌, Bool, true, false, refl, sym, ap, ◌∙◌, subst, arith, length, cond, take, slice_get, Option, Some, None, IfNone, IfOk, IfSome, Result, Ok, Err, is_some, length-append}
 use Rattle.ocpi_types.specs.declared.config.Config.{Config}
 use Rattle.cdr_checks.specs.declared.request.Command.{Command}
 use Rattle.plain_house.specs.declared.event.Event.{Event}
@@ -118,3 +118,11 @@ answered config events old now made command reply old_is command_is does memory 
 pub if_ok : {X E : Type 0} (result : Result X E) (P Q : X → Type 0) → ((x : X) → P x → Q x) → IfOk result P → IfOk result Q
 if_ok (Ok x) P Q step is = step x is
 if_ok (Err e) P Q step is = tt
+
+pub if_some : {X : Type 0} (found : Option X) (P Q : X → Type 0) → ((x : X) → P x → Q x) → IfSome found P → IfSome found Q
+if_some (Some x) P Q step is = step x is
+if_some None P Q step is = tt
+
+pub if_none : {X : Type 0} (found : Option X) (P Q : Type 0) → (P → Q) → IfNone found P → IfNone found Q
+if_none (Some x) P Q step is = tt
+if_none None P Q step is = step is

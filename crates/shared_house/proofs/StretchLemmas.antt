@@ -1,5 +1,5 @@
 -- A call that ledgers find to stand.
-use Rattle.std.proofs.Common.{All, ◌≡◌, ℕ, zero, suc, map, ◌+◌, ◌-◌, ◌<◌, ◌≤◌, List, [], ◌∷◌, ◌++◌, true, false, refl, sym, ap, ap₂, ◌∙◌, subst, arith, append_assoc, get_or, length, take, drop, slice_get, Option, Some, None, IfSome, Result, Ok, is_some}
+use Rattle.std.proofs.Common.{All, ◌≡◌, ℕ, zero, suc, map, ◌+◌, ◌-◌, ◌<◌, ◌≤◌, List, [], ◌∷◌, ◌++◌, true, false, refl, sym, ap, ap₂, ◌∙◌, subst, arith, append_assoc, get_or, length, take, drop, slice_get, Option, Some, None, IfSome, Result, Ok, IfOk, is_some}
 use Rattle.std.proofs.lemmas.List.{take-append-drop, take_more}
 use Rattle.ocpi_types.specs.declared.config.Config.{Config}
 use Rattle.ocpi_types.specs.declared.refusal.Refusal.{Refusal}
@@ -35,9 +35,9 @@ use Rattle.shared_house.specs.Points.{AreAllAdmitted, point_of_reply}
 use Rattle.shared_house.specs.History.{Stands, events_before}
 use Rattle.shared_house.specs.Inner.Stretches.{Agrees, AgreesAt}
 use Rattle.shared_house.specs.Inner.Tables.{HasRightTable}
-use Rattle.shared_house.specs.Inner.Turns.{plain_turn}
-use Rattle.shared_house.proofs.ReplayLemmas.{AreTurns, plain_at, turn_admitted, within_plain}
-use Rattle.shared_house.proofs.StandLemmas.{last_pushed, same_option, stands_silent, take_next}
+use Rattle.shared_house.specs.Inner.Turns.{AreTurns, plain_turn}
+use Rattle.shared_house.proofs.ReplayLemmas.{plain_at, turn_admitted, within_plain}
+use Rattle.shared_house.proofs.StandLemmas.{if_ok, if_some, last_pushed, same_option, stands_silent, take_next}
 
 -- ---- periods
 
@@ -174,3 +174,9 @@ pub all_admitted : (config : Config) (events : List Event) (passes : List (List 
 all_admitted config events passes xs are admitted = λ k d within.
     let turn : Turn = get_or xs k d in
     turn_admitted config events passes (map plain_turn xs) are k (plain_turn turn) (within_plain xs k within) (plain_at xs k turn within (same_at xs k d turn within)) admitted
+
+-- ---- what is found of stretches
+
+pub all_more : {X E : Type 0} (P Q : X → Type 0) → ((x : X) → P x → Q x) → (found : List (Result (Option X) E))
+    → All (λ r. IfOk r (λ o. IfSome o P)) found → All (λ r. IfOk r (λ o. IfSome o Q)) found
+all_more P Q more found all = λ k d within. if_ok (get_or found k d) (λ o. IfSome o P) (λ o. IfSome o Q) (λ o. if_some o P Q more) (all k d within)

@@ -63,11 +63,7 @@ impl<N: Names> House<N> {
         ensures ok { IfOk result (λ ended. IsFinished N.BookEntries.config (map (λ pass. pass.calls) passes.items) ended.events.items) }
         ensures torn { (entry : ℕ) → result ≡ Err (certify_fault.Torn entry) → IsTornInEnd N.BookEntries.config (map (λ pass. pass.calls) passes.items) entry }
     {
-        let House {
-            config,
-            locks,
-            passes: _,
-        } = self;
+        let (config, locks) = self.into_parts();
         let gathered = gather_locks(alloc, locks, passes)?;
         Ended::certified(rt, alloc, &config, gathered)
     }

@@ -307,10 +307,6 @@ pub fn gather<N: Names>(
     ensures legal_books { IfOk result (λ all. All (λ book. IsLegalBook N.BookEntries.config book.entries) all.books.items) }
     ensures legal_accounts { IfOk result (λ all. All (λ account. IsLegalAccount N.BookEntries.config account.entries) all.accounts.items) }
 {
-    let House {
-        config: _,
-        locks,
-        passes: _,
-    } = house;
+    let (_, locks) = house.into_parts();
     gather_locks(alloc, locks, passes)
 }

@@ -1,6 +1,7 @@
 -- Calls of all passes in one list, and how far they have been gone through.
 use Rattle.std.specs.Prelude.{◌≡◌, ◌⊎◌, ◌≤◌, ◌<◌, ℕ, ◌+◌, nat_lt, Bool, List, [], ◌∷◌, Contains, count_by, length, take, if◌then◌else◌}
 use Rattle.std.specs.List.{flat_map}
+use Rattle.std.specs.List.Sorted.{IsNonDecreasingBy, IsPermutation}
 use Rattle.ocpi_types.specs.declared.config.Config.{Config}
 use Rattle.plain_house.specs.Laws.{adds_event}
 use Rattle.plain_house.specs.declared.event.Event.{Event}
@@ -42,6 +43,11 @@ rank turn = rank_of turn.made
 
 abbrev pub owns_at : ℕ → PlainTurn → Bool
 owns_at number turn = owns number turn.made
+
+-- the turns of these passes, in the order of their ranks
+pub record AreTurns (passes : List (List Made)) (turns : List PlainTurn) : Type 0 where
+  pub same : IsPermutation (turns_of passes) turns
+  pub in_order : IsNonDecreasingBy rank turns
 
 -- a call that is in its turn, and stands
 pub record IsFit (config : Config) (events : List Event) (turn : PlainTurn) : Type 0 where

@@ -1,16 +1,16 @@
 //! The calls done once more, in the order of their points, on a house of their own.
 
-ghost use Rattle.std.specs.Prelude.{◌≡◌, ◌≤◌, ◌-◌, ◌↔◌, true, [], length, map, slice_get, take, IfOk, IfNone, IfSome, Some};
+ghost use Rattle.std.specs.Prelude.{All, ◌≡◌, ◌≤◌, ◌-◌, ◌↔◌, true, List, [], length, map, slice_get, take, IfOk, IfNone, IfSome, Some};
 ghost use Rattle.cdr_checks.specs.Admission.{IsAdmitted};
 ghost use Rattle.plain_house.specs.declared.event.Event.{Event};
 ghost use Rattle.plain_house.specs.House.{events_after};
-ghost use Rattle.shared_house.specs.Points.{AreAllAdmitted, point_of_reply};
+ghost use Rattle.shared_house.specs.Points.{point_of_reply};
+ghost use Rattle.shared_house.specs.declared.made.Made.{Made};
 ghost use Rattle.shared_house.specs.History.{BreaksFirst, IsOneHistory, Stands, events_before};
-ghost use Rattle.shared_house.specs.Inner.Turns.{IsNext, Tears, plain_turn};
+ghost use Rattle.shared_house.specs.Inner.Turns.{AreTurns, IsNext, Tears, plain_turn};
 
 use super::stretches::is_found_in_stretches;
 use super::turn::Turn;
-use super::turns::turns_in_order;
 use crate::made::Made;
 use ocpi_json::same::Same;
 use ocpi_types::{Config, TryCopy};
@@ -96,19 +96,20 @@ fn first_break_by(
     alloc: Global,
     house: &mut BookHouse,
     events: &[Event],
-    passes: &[Vec<Made>],
+    turns: &[Turn],
 ) -> Result<Option<u64>, AllocError>
     requires empty { house.old.events ≡ [] }
-    requires admitted { AreAllAdmitted house.old.config (map (λ calls. calls.items) passes.now) }
-    ensures history { IfOk result (λ torn. IfNone torn (IsOneHistory house.old.config events.now (map (λ calls. calls.items) passes.now))) }
-    ensures torn { IfOk result (λ torn. IfSome torn (BreaksFirst house.old.config events.now (map (λ calls. calls.items) passes.now))) }
+    requires admitted { All (λ turn. IsAdmitted house.old.config turn.made.now.command) turns.now }
+    ensures history { IfOk result (λ torn. IfNone torn ((passes : List (List Made)) → AreTurns passes (map plain_turn turns.now) →
+        IsOneHistory house.old.config events.now passes)) }
+    ensures torn { IfOk result (λ torn. IfSome torn (λ number. (passes : List (List Made)) → AreTurns passes (map plain_turn turns.now) →
+        BreaksFirst house.old.config events.now passes number)) }
 {
     commands_keep_lists_legal();
     empty_lists_are_legal();
     replies_tell_events();
-    let turns = turns_in_order(alloc, passes)?;
     let mut count = 0;
-    for turn in &turns {
+    for turn in turns {
         if let Some(number) = take_turn(alloc, house, events, turn, count)? {
             return Ok(Some(number));
         }
@@ -122,21 +123,23 @@ fn first_break_by(
     Ok(None)
 }
 
-/// The first number at which the events and the calls of all passes break, or none where they are one history.
+/// The first number at which the events and the calls of passes break, which these turns are, or none where they are one history.
 pub fn first_break<R: Threads + Sync>(
     rt: &R,
     alloc: Global,
     config: &Config,
     events: &[Event],
-    passes: &[Vec<Made>],
+    turns: &[Turn],
 ) -> Result<Option<u64>, AllocError>
-    requires { AreAllAdmitted config.now (map (λ calls. calls.items) passes.now) }
-    ensures history { IfOk result (λ torn. IfNone torn (IsOneHistory config.now events.now (map (λ calls. calls.items) passes.now))) }
-    ensures torn { IfOk result (λ torn. IfSome torn (BreaksFirst config.now events.now (map (λ calls. calls.items) passes.now))) }
+    requires { All (λ turn. IsAdmitted config.now turn.made.now.command) turns.now }
+    ensures history { IfOk result (λ torn. IfNone torn ((passes : List (List Made)) → AreTurns passes (map plain_turn turns.now) →
+        IsOneHistory config.now events.now passes)) }
+    ensures torn { IfOk result (λ torn. IfSome torn (λ number. (passes : List (List Made)) → AreTurns passes (map plain_turn turns.now) →
+        BreaksFirst config.now events.now passes number)) }
 {
-    if is_found_in_stretches(rt, alloc, config, events, passes)? {
+    if is_found_in_stretches(rt, alloc, config, events, turns)? {
         return Ok(None);
     }
     let mut house = BookHouse::new(alloc, config.copy(alloc)?)?;
-    first_break_by(alloc, &mut house, events, passes)
+    first_break_by(alloc, &mut house, events, turns)
 }

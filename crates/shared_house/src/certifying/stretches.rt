@@ -1,20 +1,20 @@
 //! Stretches of a history, each checked by ledgers of its own.
 
-ghost use Rattle.std.specs.Prelude.{All, ◌≡◌, ◌≤◌, ◌++◌, true, List, length, map, take, IfOk, IfSome};
+ghost use Rattle.std.specs.Prelude.{All, ◌≡◌, ◌≤◌, ◌++◌, [], true, List, length, map, take, IfOk, IfSome};
+ghost use denote.Param.Send.{IsSync};
 ghost use Rattle.cdr_checks.specs.Admission.{IsAdmitted};
 ghost use Rattle.plain_house.specs.declared.event.Event.{Event};
 ghost use Rattle.plain_house.specs.House.{events_after};
 ghost use Rattle.plain_house.specs.Legal.{IsLegal};
 ghost use Rattle.period_order.specs.Ledgers.{Keep};
-ghost use Rattle.shared_house.specs.Points.{AreAllAdmitted, point_of_reply};
-ghost use Rattle.shared_house.specs.History.{IsOneHistory, Stands, events_before};
-ghost use Rattle.shared_house.specs.Inner.Stretches.{Agrees, IsStretchFit};
+ghost use Rattle.shared_house.specs.Points.{point_of_reply};
+ghost use Rattle.shared_house.specs.History.{Stands, events_before};
+ghost use Rattle.shared_house.specs.Inner.Stretches.{Agrees, AreFitByTables, IsFitByTables, IsStretchFit};
 ghost use Rattle.shared_house.specs.Inner.Tables.{HasRightTable};
 ghost use Rattle.shared_house.specs.Inner.Turns.{AreFit, IsNext, plain_turn};
 
 use super::tables::are_tables_right;
 use super::turn::Turn;
-use super::turns::turns_in_order;
 use crate::made::Made;
 use ocpi_json::same::Same;
 use ocpi_types::{Config, TryCopy};
@@ -82,7 +82,8 @@ fn agrees(decided: Decided, reply: &Result<Replied, Refused>) -> bool
     }
 }
 
-// Does the command of a call on ledgers that keep the events before it, and tells whether the call stands there.
+// Does the command of a call on ledgers that keep the events before it, and tells whether the call stands there if what it was told
+// of net positions or rows is right.
 fn stands(
     alloc: Global,
     ledgers: &mut Ledgers,
@@ -91,9 +92,9 @@ fn stands(
 ) -> Result<bool, AllocError>
     requires admitted { IsAdmitted ledgers.old.config made.now.command }
     requires within { point_of_reply made.now.reply ≤ length events.now }
-    requires table { HasRightTable ledgers.old.config events.now made.now }
     ensures config { ledgers.new.config ≡ ledgers.old.config }
-    ensures stands { IfOk result (λ stands. stands ≡ true → Keep ledgers.old (events_before events.now made.now) → Stands ledgers.old.config events.now made.now) }
+    ensures stands { IfOk result (λ stands. stands ≡ true → HasRightTable ledgers.old.config events.now made.now →
+        Keep ledgers.old (events_before events.now made.now) → Stands ledgers.old.config events.now made.now) }
     ensures kept { IfOk result (λ _. Keep ledgers.old (events_before events.now made.now) →
         Keep ledgers.new (events_after ledgers.old.config (events_before events.now made.now) made.now.command)) }
 {
@@ -123,10 +124,9 @@ fn takes_turn(
     count: u64,
 ) -> Result<bool, AllocError>
     requires admitted { IsAdmitted ledgers.old.config turn.now.made.now.command }
-    requires table { HasRightTable ledgers.old.config events.now turn.now.made.now }
     ensures config { ledgers.new.config ≡ ledgers.old.config }
     ensures within { IfOk result (λ takes. takes ≡ true → count ≤ length events.now) }
-    ensures next { IfOk result (λ takes. takes ≡ true → Keep ledgers.old (take count events.now) →
+    ensures next { IfOk result (λ takes. takes ≡ true → HasRightTable ledgers.old.config events.now turn.now.made.now → Keep ledgers.old (take count events.now) →
         IsNext ledgers.old.config events.now count (plain_turn turn.now) (events_after ledgers.old.config (take count events.now) turn.now.made.now.command)) }
     ensures kept { IfOk result (λ takes. takes ≡ true → Keep ledgers.old (take count events.now) →
         Keep ledgers.new (events_after ledgers.old.config (take count events.now) turn.now.made.now.command)) }
@@ -147,10 +147,9 @@ fn are_fit(
     stretch: Stretch,
 ) -> Result<bool, AllocError>
     requires admitted { All (λ turn. IsAdmitted ledgers.old.config turn.made.now.command) turns.now }
-    requires tables { All (λ turn. HasRightTable ledgers.old.config events.now turn.made.now) turns.now }
     requires within { (stretch.start ≤ stretch.end) × (stretch.end ≤ length turns.now) }
     requires kept { IsLegal ledgers.old.config (take stretch.from events.now) → Keep ledgers.old (take stretch.from events.now) }
-    ensures { IfOk result (λ are. are ≡ true → IsStretchFit ledgers.old.config events.now (map plain_turn turns.now) stretch) }
+    ensures { IfOk result (λ are. are ≡ true → IsFitByTables ledgers.old.config events.now turns.now stretch) }
 {
     commands_keep_lists_legal();
     replies_tell_events();
@@ -167,7 +166,28 @@ fn are_fit(
     Ok(count == stretch.until)
 }
 
-// The stretch, where its turns are fit. None too where it is none of the turns, or the events before it cannot be put.
+// The same on ledgers that keep no event yet. False too where the events before the stretch cannot be put.
+fn are_fit_behind(
+    alloc: Global,
+    ledgers: &mut Ledgers,
+    events: &[Event],
+    turns: &[Turn],
+    stretch: Stretch,
+) -> Result<bool, AllocError>
+    requires admitted { All (λ turn. IsAdmitted ledgers.old.config turn.made.now.command) turns.now }
+    requires within { (stretch.start ≤ stretch.end) × (stretch.end ≤ length turns.now) }
+    requires begins { stretch.from ≤ length events.now }
+    requires empty { Keep ledgers.old [] }
+    ensures { IfOk result (λ are. are ≡ true → IsFitByTables ledgers.old.config events.now turns.now stretch) }
+{
+    Ok(
+        put_all(ledgers, &events[..stretch.from as usize])?
+            && are_fit(alloc, ledgers, events, turns, stretch)?,
+    )
+}
+
+// The stretch, where its turns are fit if what calls were told of net positions and rows is right. None too where it is none of the
+// turns, or the events before it cannot be put.
 fn fit_stretch(
     alloc: Global,
     config: &Config,
@@ -175,11 +195,9 @@ fn fit_stretch(
     turns: &[Turn],
     stretch: Stretch,
 ) -> Result<Option<Stretch>, AllocError>
-    requires admitted { All (λ turn. IsAdmitted config.now turn.made.now.command) turns.now }
-    requires tables { All (λ turn. HasRightTable config.now events.now turn.made.now) turns.now }
-    ensures { IfOk result (λ found. IfSome found (IsStretchFit config.now events.now (map plain_turn turns.now))) }
+    requires { All (λ turn. IsAdmitted config.now turn.made.now.command) turns.now }
+    ensures { IfOk result (λ found. IfSome found (IsFitByTables config.now events.now turns.now)) }
 {
-    empty_lists_are_legal();
     if stretch.end < stretch.start
         || turns.len() < stretch.end
         || (events.len() as u64) < stretch.from
@@ -187,10 +205,7 @@ fn fit_stretch(
         return Ok(None);
     }
     let mut ledgers = Ledgers::new(alloc, config.copy(alloc)?)?;
-    if !put_all(&mut ledgers, &events[..stretch.from as usize])? {
-        return Ok(None);
-    }
-    if are_fit(alloc, &mut ledgers, events, turns, stretch)? {
+    if are_fit_behind(alloc, &mut ledgers, events, turns, stretch)? {
         Ok(Some(stretch))
     } else {
         Ok(None)
@@ -272,7 +287,8 @@ fn processors(rt: &impl Threads) -> usize {
     }
 }
 
-// The stretches that are fit, each found in a thread of its own where one can be made.
+// The stretches that are fit if what calls were told of net positions and rows is right, each found in a thread of its own where one
+// can be made.
 fn fit_stretches<R: Threads + Sync>(
     rt: &R,
     alloc: Global,
@@ -280,9 +296,8 @@ fn fit_stretches<R: Threads + Sync>(
     events: &[Event],
     turns: &[Turn],
 ) -> Result<Vec<Result<Option<Stretch>, AllocError>>, AllocError>
-    requires admitted { All (λ turn. IsAdmitted config.now turn.made.now.command) turns.now }
-    requires tables { All (λ turn. HasRightTable config.now events.now turn.made.now) turns.now }
-    ensures { IfOk result (λ found. All (λ stretch. IfOk stretch (λ stretch. IfSome stretch (IsStretchFit config.now events.now (map plain_turn turns.now)))) found.items) }
+    requires { All (λ turn. IsAdmitted config.now turn.made.now.command) turns.now }
+    ensures { IfOk result (λ found. AreFitByTables config.now events.now turns.now found.items) }
 {
     let stretches = stretches_of(alloc, events, turns, processors(rt))?;
     thread::map_indices(
@@ -293,22 +308,29 @@ fn fit_stretches<R: Threads + Sync>(
     )
 }
 
-/// Whether the events and the calls of all passes are found to be one history, in stretches at once. False too where they are not one,
-/// and where it takes a check of all calls in turn to find out.
+/// Whether all turns are found to be fit, in stretches at once. False too where they are not, and where it takes a check of all
+/// calls in turn to find out.
 pub fn is_found_in_stretches<R: Threads + Sync>(
     rt: &R,
     alloc: Global,
     config: &Config,
     events: &[Event],
-    passes: &[Vec<Made>],
+    turns: &[Turn],
 ) -> Result<bool, AllocError>
-    requires { AreAllAdmitted config.now (map (λ calls. calls.items) passes.now) }
-    ensures { IfOk result (λ is. is ≡ true → IsOneHistory config.now events.now (map (λ calls. calls.items) passes.now)) }
+    requires { All (λ turn. IsAdmitted config.now turn.made.now.command) turns.now }
+    ensures { IfOk result (λ is. is ≡ true → AreFit config.now events.now (map plain_turn turns.now) (length events.now)) }
 {
-    let turns = turns_in_order(alloc, passes)?;
-    if !are_tables_right(alloc, config, events, turns.as_slice())? {
+    let tables = || -> Result<bool, AllocError>
+        ensures { IfOk result (λ are. are ≡ true → All (λ turn. HasRightTable config.entry.now events.entry.now turn.made.now) turns.entry.now) }
+    { are_tables_right(alloc, config, events, turns) };
+    let stretches = || -> Result<Vec<Result<Option<Stretch>, AllocError>>, AllocError>
+        requires { IsSync R.row × All (λ turn. IsAdmitted config.now turn.made.now.command) turns.now }
+        ensures { IfOk result (λ found. AreFitByTables config.entry.now events.entry.now turns.entry.now found.items) }
+    { fit_stretches(rt, alloc, config, events, turns) };
+    let (are_right, found) = thread::join(rt, tables, stretches);
+    let found = found?;
+    if !are_right? {
         return Ok(false);
     }
-    let found = fit_stretches(rt, alloc, config, events, turns.as_slice())?;
-    are_joined(config, events, turns.as_slice(), found.as_slice())
+    are_joined(config, events, turns, found.as_slice())
 }

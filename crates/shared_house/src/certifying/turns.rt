@@ -1,9 +1,8 @@
 //! The calls of all passes, in the order of their points.
 
 ghost use Rattle.std.specs.Prelude.{◌≡◌, ◌++◌, map, IfOk, OnOk};
-ghost use Rattle.std.specs.List.Sorted.{IsNonDecreasingBy, IsPermutation};
 ghost use Rattle.std.specs.Ordering.{nat_cmp};
-ghost use Rattle.shared_house.specs.Inner.Turns.{plain_turn, rank, turns_from, turns_of};
+ghost use Rattle.shared_house.specs.Inner.Turns.{AreTurns, plain_turn, rank, turns_from, turns_of};
 
 use super::turn::Turn;
 use crate::made::Made;
@@ -46,8 +45,7 @@ pub fn turns_in_order<'a>(
     alloc: Global,
     passes: &'a [Vec<Made>],
 ) -> Result<Vec<Turn<'a>>, AllocError>
-    ensures same { IfOk result (λ turns. IsPermutation (turns_of (map (λ calls. calls.items) passes.now)) (map plain_turn turns.items)) }
-    ensures in_order { IfOk result (λ turns. IsNonDecreasingBy (λ turn. rank (plain_turn turn)) turns.items) }
+    ensures { IfOk result (λ turns. AreTurns (map (λ calls. calls.items) passes.now) (map plain_turn turns.items)) }
 {
     let mut turns = turns(alloc, passes)?;
     turns.sort_by(|first, second| in_order(first, second))?;

@@ -20,13 +20,23 @@ pub struct Locks<N: Names> {
 }
 
 /// A house that threads share.
-#[derive(Drop)]
 pub struct House<N: Names> {
     pub(crate) config: Config,
     pub(crate) locks: Locks<N>,
     pub(crate) passes: usize,
     ghost configured: { config ≡ N.BookEntries.config },
     ghost all_passes: { passes ≡ N.Events.all },
+}
+
+// Not derived: what is derived is proved anew in each crate that drops one.
+impl<N: Names> Drop for House<N> {
+    fn drop(self) {
+        let House {
+            config: _,
+            locks: _,
+            passes: _,
+        } = self;
+    }
 }
 
 impl<N: Names> House<N> {
@@ -37,5 +47,18 @@ impl<N: Names> House<N> {
         ensures { result.now ≡ N.BookEntries.config }
     {
         &self.config
+    }
+
+    // The configuration, and what stands under locks.
+    pub(crate) fn into_parts(self) -> (Config, Locks<N>)
+        ensures config { result.0 ≡ N.BookEntries.config }
+        ensures locks { result.1 ≡ self.locks }
+    {
+        let House {
+            config,
+            locks,
+            passes: _,
+        } = self;
+        (config, locks)
     }
 }

@@ -4,7 +4,7 @@ use Rattle.cdr_checks.specs.Admission.{IsAdmitted}
 use Rattle.shared_house.specs.declared.certifying.turn.Turn.{Turn}
 use Rattle.shared_house.specs.Inner.Turns.{AreFit, IsNext, PlainTurn, Tears, added_at, plain_turn}
 use Rattle.shared_house.proofs.FitLemmas.{none_fit}
-use Rattle.shared_house.proofs.ReplayLemmas.{all_done, all_plain, are_turns, counted, none_left, plain_at, turn_admitted, turn_breaks, turn_done, within_plain}
+use Rattle.shared_house.proofs.ReplayLemmas.{all_done, all_plain, counted, none_left, plain_at, turn_breaks, turn_fit, within_plain}
 use Rattle.shared_house.proofs.certifying.replay.first_break_by.Goals as goal
 use Rattle.shared_house.proofs.certifying.replay.first_break_by.Goals.{then-adds_event, else-adds_event}
 
@@ -17,25 +17,23 @@ loop-turn-init c = record {
 
 pub take_turn-requires-clause-admitted : goal.take_turn-requires-clause-admitted
 take_turn-requires-clause-admitted c =
-    let xs : List Turn = c.deref-turn-items.result.now in
     let turn : Turn = c.turn-item.result in
-    let are = are_turns _ c.in_ok-turns.turns.items xs c.deref-turn-items.ensures.value c.in_ok-turns.ensures.same c.in_ok-turns.ensures.in_order in
     subst (λ (config : Config). IsAdmitted config turn.made.now.command) (sym c.loop-turn.invariant.config)
-    (turn_admitted c.args.house.now.config c.args.events.now _ (map plain_turn xs) are c.loop-turn.turn-index (plain_turn turn) (within_plain xs c.loop-turn.turn-index c.loop-turn-test.true)
-    (plain_at xs c.loop-turn.turn-index turn c.loop-turn-test.true c.turn-item.is) c.requires.admitted)
+    (subst (λ (x : Turn). IsAdmitted c.args.house.now.config x.made.now.command) (sym c.turn-item.is) (c.requires.admitted c.loop-turn.turn-index turn c.loop-turn-test.true))
 
 pub loop-turn-preserved : goal.loop-turn-preserved
 loop-turn-preserved c =
-    let xs : List Turn = c.deref-turn-items.result.now in
+    let xs : List Turn = c.args.turns.now in
     let turn : Turn = c.turn-item.result in
     let config = c.args.house.now.config in
     let events = c.args.events.now in
     let count : ℕ = c.loop-turn.count in
-    let are = are_turns _ c.in_ok-turns.turns.items xs c.deref-turn-items.ensures.value c.in_ok-turns.ensures.same c.in_ok-turns.ensures.in_order in
+    let admitted : IsAdmitted config turn.made.now.command =
+    subst (λ (x : Turn). IsAdmitted config x.made.now.command) (sym c.turn-item.is) (c.requires.admitted c.loop-turn.turn-index turn c.loop-turn-test.true) in
     let said : IfNone c.in_ok-number.field-0 (IsNext c.loop-turn.house.config events count (plain_turn turn) c.take_turn.new.house.events) = c.in_ok-number.ensures.next in
     let next : IsNext c.loop-turn.house.config events count (plain_turn turn) c.take_turn.new.house.events = rw c.in_default.is at said in
-    let done = turn_done config events _ (map plain_turn xs) are c.loop-turn.turn-index (plain_turn turn) (within_plain xs c.loop-turn.turn-index c.loop-turn-test.true)
-    (plain_at xs c.loop-turn.turn-index turn c.loop-turn-test.true c.turn-item.is) c.replies_tell_events.ensures c.commands_keep_lists_legal.ensures c.requires.admitted count c.take_turn.new.house.events
+    let done = turn_fit config events (map plain_turn xs) c.loop-turn.turn-index (plain_turn turn) (within_plain xs c.loop-turn.turn-index c.loop-turn-test.true)
+    (plain_at xs c.loop-turn.turn-index turn c.loop-turn-test.true c.turn-item.is) c.replies_tell_events.ensures c.commands_keep_lists_legal.ensures admitted count c.take_turn.new.house.events
     c.loop-turn.invariant.fit (subst (λ (config : Config). IsNext config events count (plain_turn turn) c.take_turn.new.house.events) c.loop-turn.invariant.config next) in
     let more : c.if-adds_event.count ≡ count + added_at (plain_turn turn) =
     elim c.if-adds_event.branch [
@@ -49,28 +47,25 @@ loop-turn-preserved c =
     }
 
 pub returns-in-Some-clause-torn : goal.returns-in-Some-clause-torn
-returns-in-Some-clause-torn c =
-    let xs : List Turn = c.deref-turn-items.result.now in
+returns-in-Some-clause-torn c = λ passes are.
+    let xs : List Turn = c.args.turns.now in
     let turn : Turn = c.turn-item.result in
-    let are = are_turns _ c.in_ok-turns.turns.items xs c.deref-turn-items.ensures.value c.in_ok-turns.ensures.same c.in_ok-turns.ensures.in_order in
     let torn : IfSome c.in_ok-number.field-0 (Tears c.args.house.now.config c.args.events.now c.loop-turn.count (plain_turn turn)) =
     subst (λ (config : Config). IfSome c.in_ok-number.field-0 (Tears config c.args.events.now c.loop-turn.count (plain_turn turn))) c.loop-turn.invariant.config c.in_ok-number.ensures.torn in
-    turn_breaks c.args.house.now.config c.args.events.now _ (map plain_turn xs) are c.loop-turn.turn-index (plain_turn turn) (within_plain xs c.loop-turn.turn-index c.loop-turn-test.true)
+    turn_breaks c.args.house.now.config c.args.events.now passes (map plain_turn xs) are c.loop-turn.turn-index (plain_turn turn) (within_plain xs c.loop-turn.turn-index c.loop-turn-test.true)
     (plain_at xs c.loop-turn.turn-index turn c.loop-turn-test.true c.turn-item.is) c.loop-turn.count c.in-Some.number c.loop-turn.invariant.fit
     (rw c.in-Some.is at torn)
 
 pub returns-then-count-events-clause-torn : goal.returns-then-count-events-clause-torn
-returns-then-count-events-clause-torn c =
-    let xs : List Turn = c.deref-turn-items.result.now in
-    let are = are_turns _ c.in_ok-turns.turns.items xs c.deref-turn-items.ensures.value c.in_ok-turns.ensures.same c.in_ok-turns.ensures.in_order in
-    none_left c.args.house.now.config c.args.events.now _ (map plain_turn xs) are c.loop-turn.count
+returns-then-count-events-clause-torn c = λ passes are.
+    let xs : List Turn = c.args.turns.now in
+    none_left c.args.house.now.config c.args.events.now passes (map plain_turn xs) are c.loop-turn.count
     (subst (λ (l : List PlainTurn). AreFit c.args.house.now.config c.args.events.now l c.loop-turn.count) (all_plain xs c.loop-turn.turn-index c.loop-turn-test.false) c.loop-turn.invariant.fit)
     c.if-count-events.true
 
 pub returns-clause-history : goal.returns-clause-history
-returns-clause-history c =
-    let xs : List Turn = c.deref-turn-items.result.now in
-    let are = are_turns _ c.in_ok-turns.turns.items xs c.deref-turn-items.ensures.value c.in_ok-turns.ensures.same c.in_ok-turns.ensures.in_order in
-    all_done c.args.house.now.config c.args.events.now _ (map plain_turn xs) are c.loop-turn.count
+returns-clause-history c = λ passes are.
+    let xs : List Turn = c.args.turns.now in
+    all_done c.args.house.now.config c.args.events.now passes (map plain_turn xs) are c.loop-turn.count
     (subst (λ (l : List PlainTurn). AreFit c.args.house.now.config c.args.events.now l c.loop-turn.count) (all_plain xs c.loop-turn.turn-index c.loop-turn-test.false) c.loop-turn.invariant.fit)
     c.if-count-events.false

@@ -6,5 +6,5 @@ abbrev pub invariant-loop-turn : goal.invariant-loop-turn
 invariant-loop-turn l = record {
   config : l.house.config ≡ l.initial.house.config;
   events : l.house.events ≡ take l.count l.events;
-  fit : AreFit l.initial.house.config l.events (take l.turn-index (map plain_turn l.turn-items)) l.count;
+  fit : AreFit l.initial.house.config l.events (take l.turn-index (map plain_turn l.turns)) l.count;
 }

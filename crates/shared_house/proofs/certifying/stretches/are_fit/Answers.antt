@@ -4,6 +4,7 @@ use Rattle.cdr_checks.specs.Admission.{IsAdmitted}
 use Rattle.plain_house.specs.House.{events_after}
 use Rattle.period_order.specs.Ledgers.{Keep}
 use Rattle.shared_house.specs.declared.certifying.turn.Turn.{Turn}
+use Rattle.shared_house.specs.Inner.Tables.{HasRightTable}
 use Rattle.shared_house.specs.Inner.Turns.{AreFit, IsNext, added_at, plain_turn}
 use Rattle.shared_house.proofs.ReplayLemmas.{counted, plain_at, turn_fit, within_plain}
 use Rattle.shared_house.proofs.certifying.stretches.are_fit.Goals as goal
@@ -26,11 +27,13 @@ loop-number-preserved c =
     let admitted : IsAdmitted config turn.made.now.command = subst (λ (x : Turn). IsAdmitted config x.made.now.command) (sym c.index-turns-number.is) (c.requires.admitted number turn within) in
     record {
       config = c.takes_turn.ensures.config ∙ c.loop-number.invariant.config;
-      fit = λ begins.
-          let now = c.loop-number.invariant.fit begins in
+      fit = λ right begins.
+          let now = c.loop-number.invariant.fit right begins in
+          let right_here : HasRightTable config events turn.made.now = subst (λ (x : Turn). HasRightTable config events x.made.now) (sym c.index-turns-number.is) (right number turn within) in
           let next : IsNext config events count (plain_turn turn) (events_after config (take count events) turn.made.now.command) =
           subst (λ (own : Config). IsNext own events count (plain_turn turn) (events_after own (take count events) turn.made.now.command)) c.loop-number.invariant.config
-          (c.in_ok-takes_turn.ensures.next c.if-not-branch.false now.1) in
+          (c.in_ok-takes_turn.ensures.next c.if-not-branch.false
+          (subst (λ (own : Config). HasRightTable own events turn.made.now) (sym c.loop-number.invariant.config) right_here) now.1) in
           let done =
           turn_fit config events (map plain_turn xs) number (plain_turn turn) (within_plain xs number within) (plain_at xs number turn within c.index-turns-number.is)
           c.replies_tell_events.ensures c.commands_keep_lists_legal.ensures admitted count _ now.0 next in
@@ -43,8 +46,8 @@ loop-number-preserved c =
     }
 
 pub returns : goal.returns
-returns c = λ yes begins.
+returns c = λ yes right begins.
     let turns = map plain_turn c.args.turns.now in
     let at_end : c.loop-number.number ≡ c.args.stretch.end = omega (arith, c.loop-number-test.false, c.loop-number.auto.number-end c.requires.within.0) in
     subst (λ n. AreFit c.args.ledgers.now.config c.args.events.now (take n turns) c.args.stretch.until) at_end
-    (subst (AreFit c.args.ledgers.now.config c.args.events.now (take c.loop-number.number turns)) (eqb-true c.loop-number.count c.args.stretch.until yes) (c.loop-number.invariant.fit begins).0)
+    (subst (AreFit c.args.ledgers.now.config c.args.events.now (take c.loop-number.number turns)) (eqb-true c.loop-number.count c.args.stretch.until yes) (c.loop-number.invariant.fit right begins).0)

@@ -1,26 +1,16 @@
-use Rattle.std.proofs.Common.{◌≡◌, ◌≤◌, List, Vec, Global, true, arith, length, map}
-use Rattle.shared_house.specs.declared.certifying.turn.Turn.{Turn}
-use Rattle.shared_house.specs.declared.made.Made.{Made}
-use Rattle.shared_house.specs.History.{IsOneHistory}
-use Rattle.shared_house.specs.Inner.Turns.{AreFit, plain_turn}
-use Rattle.shared_house.proofs.ReplayLemmas.{all_done, are_turns}
-use Rattle.shared_house.proofs.StandLemmas.{if_ok}
-use Rattle.shared_house.proofs.StretchLemmas.{all_admitted}
+use Rattle.std.proofs.Common.{All, ◌≡◌, IfOk, true, map, sym, subst}
+use Rattle.shared_house.specs.Inner.Stretches.{AreFitByTables, IsFitByTables, IsStretchFit}
+use Rattle.shared_house.specs.Inner.Tables.{HasRightTable}
+use Rattle.shared_house.specs.Inner.Turns.{plain_turn}
+use Rattle.shared_house.proofs.StretchLemmas.{all_more}
 use Rattle.shared_house.proofs.certifying.stretches.is_found_in_stretches.Goals as goal
 
-pub fit_stretches-requires-clause-admitted : goal.fit_stretches-requires-clause-admitted
-fit_stretches-requires-clause-admitted g c κs within =
-    let xs : List Turn = c.as_slice-2.result.now in
-    all_admitted c.args.config.now c.args.events.now _ xs
-    (are_turns _ c.in_ok-turns.turns.items xs c.as_slice-2.ensures.value c.in_ok-turns.ensures.same c.in_ok-turns.ensures.in_order) c.requires
-
-pub returns : goal.returns
-returns g c =
+pub are_joined-requires : goal.are_joined-requires
+are_joined-requires g c =
     let config = c.args.config.now in
     let events = c.args.events.now in
-    let passes : List (List Made) = map (λ (calls : Vec Made Global). calls.items) c.args.passes.now in
-    let xs : List Turn = c.as_slice-3.result.now in
-    let are = are_turns passes c.in_ok-turns.turns.items xs c.as_slice-3.ensures.value c.in_ok-turns.ensures.same c.in_ok-turns.ensures.in_order in
-    let all : length events ≤ length events = omega arith in
-    if_ok c.are_joined.result (λ b. b ≡ true → AreFit config events (map plain_turn xs) (length events)) (λ b. b ≡ true → IsOneHistory config events passes)
-    (λ b fit yes. all_done config events passes (map plain_turn xs) are (length events) (fit yes) all) c.are_joined.ensures
+    let turns = c.args.turns.now in
+    let right : IfOk c.join-are_right.result.0 (λ are. are ≡ true → All (λ turn. HasRightTable config events turn.made.now) turns) = c.join-are_right.ensures.first in
+    let found : IfOk c.join-are_right.result.1 (λ found. AreFitByTables config events turns found.items) = c.join-are_right.ensures.second in
+    let fit : AreFitByTables config events turns c.as_slice.result.now = subst (AreFitByTables config events turns) (sym c.as_slice.ensures.value) (rw c.in_ok-found.was at found) in
+    all_more (IsFitByTables config events turns) (IsStretchFit config events (map plain_turn turns)) (λ stretch by_tables. by_tables ((rw c.in_ok-are_right.was at right) c.if-not-branch.false)) c.as_slice.result.now fit

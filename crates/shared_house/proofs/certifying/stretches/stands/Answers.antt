@@ -11,17 +11,17 @@ use Rattle.shared_house.proofs.StretchLemmas.{stands_with_next, stands_without}
 use Rattle.shared_house.proofs.certifying.stretches.stands.Goals as goal
 
 pub returns-then-not-adds_event-clause-stands : goal.returns-then-not-adds_event-clause-stands
-returns-then-not-adds_event-clause-stands c = λ yes kept.
+returns-then-not-adds_event-clause-stands c = λ yes right kept.
     let config = c.args.ledgers.now.config in
     let events = c.args.events.now in
     let made = c.args.made.now in
     let before : List Event = events_before events made in
     let decided = subst (λ (told : Command). IsDecided config before told c.in_ok-decided.decided) c.in_ok-command.ensures (c.in_ok-decided.ensures.decided before kept) in
     stands_without c.replies_tell_events.ensures c.closed_periods_stay.ensures c.events_are_of_configured.ensures config events made c.in_ok-decided.decided c.requires.admitted c.requires.within decided
-    (c.if-not-agrees.ensures refl) c.requires.table (sym c.if-not-adds_event.ensures)
+    (c.if-not-agrees.ensures refl) right (sym c.if-not-adds_event.ensures)
 
 pub returns-in-Some-clause-stands : goal.returns-in-Some-clause-stands
-returns-in-Some-clause-stands c = λ last kept.
+returns-in-Some-clause-stands c = λ last right kept.
     let config = c.args.ledgers.now.config in
     let events = c.args.events.now in
     let made = c.args.made.now in
@@ -34,4 +34,4 @@ returns-in-Some-clause-stands c = λ last kept.
     let is_next : slice_get events (point_of_reply made.reply) ≡ Some next =
     ap (slice_get events) (sym c.point.ensures) ∙ slice_get-get_or events c.point.result next (ltb-true _ _ (sym c.in-Some.ensures.lookup.0)) ∙ ap Some (sym c.in-Some.ensures.lookup.1) in
     stands_with_next c.replies_tell_events.ensures c.closed_periods_stay.ensures c.events_are_of_configured.ensures config events made c.in_ok-decided.decided c.requires.admitted c.requires.within decided
-    (c.if-not-agrees.ensures refl) c.requires.table (sym c.if-not-adds_event.ensures) next is_next is_last
+    (c.if-not-agrees.ensures refl) right (sym c.if-not-adds_event.ensures) next is_next is_last

@@ -3,6 +3,7 @@ use Rattle.plain_house.specs.House.{events_after}
 use Rattle.period_order.specs.Ledgers.{Keep}
 use Rattle.shared_house.specs.Points.{point_of_reply}
 use Rattle.shared_house.specs.History.{Stands, events_before}
+use Rattle.shared_house.specs.Inner.Tables.{HasRightTable}
 use Rattle.shared_house.specs.Inner.Turns.{IsNext, plain_turn}
 use Rattle.shared_house.proofs.StandLemmas.{if_ok}
 use Rattle.shared_house.proofs.certifying.stretches.takes_turn.Goals as goal
@@ -14,11 +15,11 @@ returns-clause-next c =
     let made = c.args.turn.now.made.now in
     let count : ℕ = c.args.count in
     let at : point_of_reply made.reply ≡ count = sym c.point-point.ensures ∙ c.if-point-count.false in
-    if_ok c.stands.result (λ b. b ≡ true → Keep ledgers (events_before events made) → Stands ledgers.config events made)
-    (λ b. b ≡ true → Keep ledgers (take count events) → IsNext ledgers.config events count (plain_turn c.args.turn.now) (events_after ledgers.config (take count events) made.command))
-    (λ b stands yes kept. record {
+    if_ok c.stands.result (λ b. b ≡ true → HasRightTable ledgers.config events made → Keep ledgers (events_before events made) → Stands ledgers.config events made)
+    (λ b. b ≡ true → HasRightTable ledgers.config events made → Keep ledgers (take count events) → IsNext ledgers.config events count (plain_turn c.args.turn.now) (events_after ledgers.config (take count events) made.command))
+    (λ b stands yes right kept. record {
       fit = record {
-        stands = stands yes (subst (λ n. Keep ledgers (take n events)) (sym at) kept);
+        stands = stands yes right (subst (λ n. Keep ledgers (take n events)) (sym at) kept);
         in_turn = omega (arith, c.if-from-turn.false, c.from.ensures, c.point-point.ensures);
       };
       point_is = at;

@@ -14,7 +14,7 @@ use Rattle.shared_house.proofs.house.locks.House.certified.Goals as goal
 pub certified-requires : goal.certified-requires
 certified-requires g c = (
   search rules,
-  subst (λ (config : Config). AreAllAdmitted config (map (λ (pass : Vec Made Global). pass.items) c.in_ok-gathered.gathered.calls.items)) (sym c.args.self.configured)
+  subst (λ (config : Config). AreAllAdmitted config (map (λ (pass : Vec Made Global). pass.items) c.in_ok-gathered.gathered.calls.items)) (sym c.into_parts-config.ensures.config)
       (All-map (AreAdmitted g.N.BookEntries.Configured.config) (λ (pass : Vec Made Global). pass.items) c.in_ok-gathered.gathered.calls.items c.in_ok-gathered.ensures.admitted),
 )
 
@@ -24,7 +24,7 @@ returns-clause-ok g c =
     let all = c.in_ok-gathered.ensures in
     let config = g.N.BookEntries.Configured.config in
     if_ok c.certified.result
-    (λ (ended : Ended). IsCertified c.args.self.config (entries_of_books left.books.items) (entries_of_accounts left.accounts.items) left.entries.items (map (λ (pass : Vec Made Global). pass.items) left.calls.items) ended.events.items)
+    (λ (ended : Ended). IsCertified c.into_parts-config.result.0 (entries_of_books left.books.items) (entries_of_accounts left.accounts.items) left.entries.items (map (λ (pass : Vec Made Global). pass.items) left.calls.items) ended.events.items)
     (λ (ended : Ended). IsFinished config _ ended.events.items)
     (λ ended is. record {
       books = entries_of_books left.books.items;
@@ -32,7 +32,7 @@ returns-clause-ok g c =
       order = left.entries.items;
       held = are_held config left.books.items left.accounts.items left.entries.items (sym left.books.ok.0 ∙ all.each.0) (sym left.accounts.ok.0 ∙ all.each.1) all.legal_books all.legal_accounts
           all.books all.accounts all.amounts;
-      certified = certified_alike c.args.self.config config left.books.items left.accounts.items left.entries.items _ _ c.args.self.configured all.calls ended.events.items is;
+      certified = certified_alike c.into_parts-config.result.0 config left.books.items left.accounts.items left.entries.items _ _ c.into_parts-config.ensures.config all.calls ended.events.items is;
     })
     c.certified.ensures.ok
 
@@ -47,5 +47,5 @@ returns-clause-torn g c = λ entry is.
       order = left.entries.items;
       held = are_held config left.books.items left.accounts.items left.entries.items (sym left.books.ok.0 ∙ all.each.0) (sym left.accounts.ok.0 ∙ all.each.1) all.legal_books all.legal_accounts
           all.books all.accounts all.amounts;
-      torn = torn_alike c.args.self.config config left.books.items left.accounts.items left.entries.items _ _ c.args.self.configured all.calls entry (c.certified.ensures.torn entry is);
+      torn = torn_alike c.into_parts-config.result.0 config left.books.items left.accounts.items left.entries.items _ _ c.into_parts-config.ensures.config all.calls entry (c.certified.ensures.torn entry is);
     }
