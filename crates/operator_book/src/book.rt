@@ -237,6 +237,15 @@ impl Book {
         add_providers(self, operator, period, providers, currencies, table);
     }
 
+    /// Takes memory for so many more entries at once, which `reserve` then does not have to take for each. It is room for none of
+    /// them: an entry needs its `reserve` all the same.
+    pub fn make_room(&mut self, entries: usize) -> Result<(), AllocError>
+        ensures { self.new ≡ self.old }
+    {
+        self.index.make_room(entries)?;
+        self.entries.reserve(entries)
+    }
+
     /// Makes room for one more entry. Where memory is refused, the book is as before.
     pub fn reserve(&mut self) -> Result<(), AllocError>
         ensures ok { OnOk result (self.new ≡ record { entries = self.old.entries; has_room = true }) }

@@ -1,6 +1,6 @@
 //! The CDRs and Credit CDRs of a list of entries, found by operator and id.
 
-ghost use Rattle.std.specs.Prelude.{◌≡◌, ◌<◌, [], ◌∷◌, ◌++◌, List, option_map, OnOk};
+ghost use Rattle.std.specs.Prelude.{◌≡◌, ◌<◌, ◌≤◌, [], ◌∷◌, ◌++◌, List, option_map, OnOk};
 ghost use Rattle.std.specs.Option.{option_to_list};
 ghost use Rattle.indexmap.specs.IndexMap.{spare};
 ghost use Rattle.operator_book.specs.Inner.Ids.{FindsCdrs};
@@ -51,13 +51,13 @@ impl Ids {
         }
     }
 
-    /// Makes room for one more.
-    pub fn reserve(&mut self) -> Result<(), AllocError>
+    /// Makes room for so many more.
+    pub fn reserve(&mut self, cdrs: usize) -> Result<(), AllocError>
         ensures places { (entries : List Entry) → FindsCdrs self.old entries → FindsCdrs self.new entries }
-        ensures room { OnOk result (0 < spare self.new.places.firsts) }
+        ensures room { OnOk result (cdrs ≤ spare self.new.places.firsts) }
         ensures kept { 0 < spare self.old.places.firsts → 0 < spare self.new.places.firsts }
     {
-        self.places.reserve()
+        self.places.reserve(cdrs)
     }
 
     /// The CDR or Credit CDR of that operator and id.

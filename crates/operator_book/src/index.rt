@@ -35,13 +35,21 @@ impl Index {
         }
     }
 
+    /// Makes room to find so many more CDRs and Credit CDRs by their ids.
+    pub fn make_room(&mut self, cdrs: usize) -> Result<(), AllocError>
+        ensures index { (entries : List Entry) → IsIndexOf self.old entries → IsIndexOf self.new entries }
+        ensures kept { HasRoom self.old → HasRoom self.new }
+    {
+        self.ids.reserve(cdrs)
+    }
+
     /// Makes room for one more entry.
     pub fn reserve(&mut self) -> Result<(), AllocError>
         ensures index { (entries : List Entry) → IsIndexOf self.old entries → IsIndexOf self.new entries }
         ensures room { OnOk result (HasRoom self.new) }
         ensures kept { HasRoom self.old → HasRoom self.new }
     {
-        self.ids.reserve()?;
+        self.ids.reserve(1)?;
         self.versions.reserve()?;
         self.credited.reserve()?;
         self.counts.reserve()?;

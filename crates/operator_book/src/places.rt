@@ -1,6 +1,6 @@
 //! The places at which keys stand first in a list.
 
-ghost use Rattle.std.specs.Prelude.{◌≡◌, ◌<◌, None, OnOk};
+ghost use Rattle.std.specs.Prelude.{◌≡◌, ◌<◌, ◌≤◌, None, OnOk};
 ghost use Rattle.indexmap.specs.IndexMap.{get, spare};
 ghost use Rattle.operator_book.specs.Inner.FirstPlaces.{AddsPlace};
 
@@ -22,13 +22,13 @@ impl<K: Eq + Hash + Copy + Drop> Places<K> {
         }
     }
 
-    /// Makes room for one more key.
-    pub fn reserve(&mut self) -> Result<(), AllocError>
+    /// Makes room for so many more keys.
+    pub fn reserve(&mut self, keys: usize) -> Result<(), AllocError>
         ensures firsts { self.new.firsts.entries ≡ self.old.firsts.entries }
-        ensures room { OnOk result (0 < spare self.new.firsts) }
+        ensures room { OnOk result (keys ≤ spare self.new.firsts) }
         ensures kept { 0 < spare self.old.firsts → 0 < spare self.new.firsts }
     {
-        self.firsts.reserve(1)
+        self.firsts.reserve(keys)
     }
 
     pub fn get(&self, key: &K) -> Option<usize>

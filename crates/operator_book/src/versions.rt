@@ -54,7 +54,7 @@ impl Versions {
         ensures room { OnOk result (0 < spare self.new.places.firsts) }
         ensures kept { 0 < spare self.old.places.firsts → 0 < spare self.new.places.firsts }
     {
-        self.places.reserve()
+        self.places.reserve(1)
     }
 
     /// The stored version of that operator, id and moment.

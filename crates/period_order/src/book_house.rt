@@ -61,8 +61,8 @@ impl BookHouse {
         ensures { IfOk result (λ house. house ≡ record { config = config; events = [] }) }
     {
         empty_lists_are_legal();
-        let books = books::books(alloc, &config)?;
-        let accounts = books::accounts(alloc, &config)?;
+        let books = books::books(alloc, &config, &[])?;
+        let accounts = books::accounts(alloc, &config, &[])?;
         Ok(BookHouse {
             config,
             books,

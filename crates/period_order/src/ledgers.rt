@@ -64,18 +64,23 @@ impl Model for Ledgers {
 }
 
 impl Ledgers {
-    /// The ledgers of no event.
+    /// The ledgers of no event, with room for as many entries as these books and accounts have, each for its number.
     ///
     /// # Errors
     ///
     /// `AllocError` where memory is refused.
-    pub fn new(alloc: Global, config: Config) -> Result<Ledgers, AllocError>
+    pub fn with_room(
+        alloc: Global,
+        config: Config,
+        books: &[Book],
+        accounts: &[Account],
+    ) -> Result<Ledgers, AllocError>
         ensures config { IfOk result (λ ledgers. ledgers.config ≡ config) }
         ensures empty { IfOk result (λ ledgers. Keep ledgers []) }
     {
         empty_lists_are_legal();
-        let books = books::books(alloc, &config)?;
-        let accounts = books::accounts(alloc, &config)?;
+        let books = books::books(alloc, &config, books)?;
+        let accounts = books::accounts(alloc, &config, accounts)?;
         Ok(Ledgers {
             config,
             books,

@@ -95,6 +95,19 @@ impl Account {
             .is_settled(self.entries.as_slice(), settlement)
     }
 
+    /// Takes memory for so many more entries at once, which `reserve` then does not have to take for each. It is room for none of
+    /// them: an entry needs its `reserve` all the same.
+    ///
+    /// # Errors
+    ///
+    /// `AllocError` where memory is refused.
+    pub fn make_room(&mut self, entries: usize) -> Result<(), AllocError>
+        ensures { self.new ≡ self.old }
+    {
+        self.parts.make_room(entries)?;
+        self.entries.reserve(entries)
+    }
+
     /// Makes room for one more entry.
     ///
     /// # Errors

@@ -35,13 +35,13 @@ impl ChargePlaces {
         }
     }
 
-    /// Room for one more charge.
-    pub(crate) fn reserve(&mut self) -> Result<(), AllocError>
+    /// Room for so many more charges.
+    pub(crate) fn reserve(&mut self, charges: usize) -> Result<(), AllocError>
         ensures unchanged { self.new.places.entries ≡ self.old.places.entries }
-        ensures ok { OnOk result (0 < spare self.new.places) }
+        ensures ok { OnOk result (charges ≤ spare self.new.places) }
         ensures room { spare self.old.places ≤ spare self.new.places }
     {
-        self.places.reserve(1)
+        self.places.reserve(charges)
     }
 
     /// The charge of the CDR before which as many came.

@@ -147,6 +147,14 @@ impl Debts {
         self.owed.amount(&period.debts(Some(period.period), &None))
     }
 
+    /// Room to find so many more charges.
+    pub(crate) fn make_room(&mut self, charges: usize) -> Result<(), AllocError>
+        ensures kept { (entries : List AccountEntry) → KnowsDebts self.old entries → KnowsDebts self.new entries }
+        ensures room_kept { HasRoomForDebts self.old → HasRoomForDebts self.new }
+    {
+        self.charged.reserve(charges)
+    }
+
     /// Room for what one more entry needs.
     pub(crate) fn reserve(&mut self) -> Result<(), AllocError>
         ensures room { OnOk result (HasRoomForDebts self.new) }
@@ -155,7 +163,7 @@ impl Debts {
     {
         self.owed.reserve()?;
         self.ended.reserve()?;
-        self.charged.reserve()?;
+        self.charged.reserve(1)?;
         self.operators.reserve(1)
     }
 

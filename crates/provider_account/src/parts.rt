@@ -62,6 +62,14 @@ impl Parts {
         self.holds.held_with(scope, charge) + self.debts.owed_with(entries, scope, charge)
     }
 
+    /// Room to find so many more charges.
+    pub(crate) fn make_room(&mut self, charges: usize) -> Result<(), AllocError>
+        ensures more { HasRoom self.old → HasRoom self.new }
+        ensures kept { (entries : List AccountEntry) → Knows self.old entries → Knows self.new entries }
+    {
+        self.debts.make_room(charges)
+    }
+
     /// Room for what one more entry needs.
     pub(crate) fn reserve(&mut self) -> Result<(), AllocError>
         ensures room { OnOk result (HasRoom self.new) }

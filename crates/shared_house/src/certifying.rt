@@ -77,7 +77,7 @@ fn first_torn<R: Threads + Sync>(
         Err(ResolveFault::NoMemory) => return Err(AllocError),
         Err(ResolveFault::Torn { .. }) => unreachable!(),
     };
-    match first_break(rt, alloc, config, events.as_slice(), turns)? {
+    match first_break(rt, alloc, config, books, accounts, events.as_slice(), turns)? {
         Some(number) if number < entry as u64 => Ok(number),
         _ => Ok(entry as u64),
     }
@@ -136,10 +136,12 @@ pub fn certify<R: Threads + Sync>(
     let turns = turns?;
     let turns = turns.as_slice();
     match events {
-        Ok(events) => match first_break(rt, alloc, config, events.as_slice(), turns)? {
-            None => Ok(events),
-            Some(entry) => Err(CertifyFault::Torn { entry }),
-        },
+        Ok(events) => {
+            match first_break(rt, alloc, config, books, accounts, events.as_slice(), turns)? {
+                None => Ok(events),
+                Some(entry) => Err(CertifyFault::Torn { entry }),
+            }
+        }
         Err(ResolveFault::NoMemory) => Err(CertifyFault::NoMemory),
         Err(ResolveFault::Torn { entry }) => {
             let entry = first_torn(rt, alloc, config, order, books, accounts, turns, entry)?;

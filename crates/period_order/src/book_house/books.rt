@@ -10,24 +10,46 @@ use operator_book::Book;
 use provider_account::Account;
 use std::alloc::{AllocError, Global};
 
-/// An empty book for each operator.
-pub fn books(alloc: Global, config: &Config) -> Result<Vec<Book>, AllocError>
+fn entries_of_book(books: &[Book], number: usize) -> usize {
+    match books.get(number) {
+        Some(book) => book.entries().len(),
+        None => 0,
+    }
+}
+
+fn entries_of_account(accounts: &[Account], number: usize) -> usize {
+    match accounts.get(number) {
+        Some(account) => account.entries().len(),
+        None => 0,
+    }
+}
+
+/// An empty book for each operator, with room for as many entries as the other book of its number has.
+pub fn books(alloc: Global, config: &Config, others: &[Book]) -> Result<Vec<Book>, AllocError>
     ensures { IfOk result (λ books. entries_of_books books.items ≡ map (λ operator. []) config.now.operators) }
 {
     let mut books = Vec::new(alloc);
     for _operator in config.operators.as_slice() {
-        books.push(Book::new(alloc))?;
+        let mut book = Book::new(alloc);
+        book.make_room(entries_of_book(others, books.len()))?;
+        books.push(book)?;
     }
     Ok(books)
 }
 
-/// An empty account for each provider.
-pub fn accounts(alloc: Global, config: &Config) -> Result<Vec<Account>, AllocError>
+/// An empty account for each provider, with room for as many entries as the other account of its number has.
+pub fn accounts(
+    alloc: Global,
+    config: &Config,
+    others: &[Account],
+) -> Result<Vec<Account>, AllocError>
     ensures { IfOk result (λ accounts. entries_of_accounts accounts.items ≡ map (λ provider. []) config.now.providers) }
 {
     let mut accounts = Vec::new(alloc);
     for _provider in config.providers.as_slice() {
-        accounts.push(Account::new(alloc))?;
+        let mut account = Account::new(alloc);
+        account.make_room(entries_of_account(others, accounts.len()))?;
+        accounts.push(account)?;
     }
     Ok(accounts)
 }

@@ -14,11 +14,13 @@ use super::turn::Turn;
 use crate::made::Made;
 use ocpi_json::same::Same;
 use ocpi_types::{Config, TryCopy};
+use operator_book::Book;
 use period_order::BookHouse;
 use plain_house::{
     Event, Sequential, adds_event, commands_keep_lists_legal, empty_lists_are_legal,
     is_out_of_memory, replies_tell_events,
 };
+use provider_account::Account;
 use std::alloc::{AllocError, Global};
 use std::thread::Threads;
 
@@ -124,10 +126,13 @@ fn first_break_by(
 }
 
 /// The first number at which the events and the calls of passes break, which these turns are, or none where they are one history.
+/// Books and accounts tell how much room ledgers need.
 pub fn first_break<R: Threads + Sync>(
     rt: &R,
     alloc: Global,
     config: &Config,
+    books: &[Book],
+    accounts: &[Account],
     events: &[Event],
     turns: &[Turn],
 ) -> Result<Option<u64>, AllocError>
@@ -137,7 +142,7 @@ pub fn first_break<R: Threads + Sync>(
     ensures torn { IfOk result (λ torn. IfSome torn (λ number. (passes : List (List Made)) → AreTurns passes (map plain_turn turns.now) →
         BreaksFirst config.now events.now passes number)) }
 {
-    if is_found_in_stretches(rt, alloc, config, events, turns)? {
+    if is_found_in_stretches(rt, alloc, config, books, accounts, events, turns)? {
         return Ok(None);
     }
     let mut house = BookHouse::new(alloc, config.copy(alloc)?)?;

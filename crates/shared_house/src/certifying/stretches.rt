@@ -18,12 +18,14 @@ use super::turn::Turn;
 use crate::made::Made;
 use ocpi_json::same::Same;
 use ocpi_types::{Config, TryCopy};
+use operator_book::Book;
 use period_order::{Decided, Ledgers, Outcome};
 use plain_house::{
     Answer, Event, Refused, Replied, adds_event, closed_periods_stay, commands_keep_lists_legal,
     empty_lists_are_legal, events_are_of_configured, legal_lists_begin_legally,
     replies_tell_events, stamped,
 };
+use provider_account::Account;
 use std::alloc::{AllocError, Global};
 use std::thread;
 use std::thread::{Threads, available_parallelism};
@@ -187,10 +189,12 @@ fn are_fit_behind(
 }
 
 // The stretch, where its turns are fit if what calls were told of net positions and rows is right. None too where it is none of the
-// turns, or the events before it cannot be put.
+// turns, or the events before it cannot be put. Its ledgers have room for as many entries as the books and accounts have.
 fn fit_stretch(
     alloc: Global,
     config: &Config,
+    books: &[Book],
+    accounts: &[Account],
     events: &[Event],
     turns: &[Turn],
     stretch: Stretch,
@@ -204,7 +208,7 @@ fn fit_stretch(
     {
         return Ok(None);
     }
-    let mut ledgers = Ledgers::new(alloc, config.copy(alloc)?)?;
+    let mut ledgers = Ledgers::with_room(alloc, config.copy(alloc)?, books, accounts)?;
     if are_fit_behind(alloc, &mut ledgers, events, turns, stretch)? {
         Ok(Some(stretch))
     } else {
@@ -293,6 +297,8 @@ fn fit_stretches<R: Threads + Sync>(
     rt: &R,
     alloc: Global,
     config: &Config,
+    books: &[Book],
+    accounts: &[Account],
     events: &[Event],
     turns: &[Turn],
 ) -> Result<Vec<Result<Option<Stretch>, AllocError>>, AllocError>
@@ -304,7 +310,17 @@ fn fit_stretches<R: Threads + Sync>(
         rt,
         alloc,
         stretches.len(),
-        &|number| { fit_stretch(alloc, config, events, turns, stretches[number]) },
+        &|number| {
+            fit_stretch(
+                alloc,
+                config,
+                books,
+                accounts,
+                events,
+                turns,
+                stretches[number],
+            )
+        },
     )
 }
 
@@ -314,6 +330,8 @@ pub fn is_found_in_stretches<R: Threads + Sync>(
     rt: &R,
     alloc: Global,
     config: &Config,
+    books: &[Book],
+    accounts: &[Account],
     events: &[Event],
     turns: &[Turn],
 ) -> Result<bool, AllocError>
@@ -326,7 +344,7 @@ pub fn is_found_in_stretches<R: Threads + Sync>(
     let stretches = || -> Result<Vec<Result<Option<Stretch>, AllocError>>, AllocError>
         requires { IsSync R.row × All (λ turn. IsAdmitted config.now turn.made.now.command) turns.now }
         ensures { IfOk result (λ found. AreFitByTables config.entry.now events.entry.now turns.entry.now found.items) }
-    { fit_stretches(rt, alloc, config, events, turns) };
+    { fit_stretches(rt, alloc, config, books, accounts, events, turns) };
     let (are_right, found) = thread::join(rt, tables, stretches);
     let found = found?;
     if !are_right? {
