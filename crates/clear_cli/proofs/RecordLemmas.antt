@@ -2,7 +2,7 @@
 use Rattle.std.proofs.Common.{◌≡◌, ℕ, zero, suc, ◌+◌, ◌<◌, ◌≤◌, ◌==◌, Bool, true, false, if◌then◌else◌, List, [], ◌∷◌, ◌++◌, length, take, map, get_or, slice_index_or, slice_set, pos, refl, sym, ap, ap₂, ◌∙◌, arith, append-nil}
 use Rattle.std.proofs.lemmas.Bool.Decides.{nat_tests}
 use Rattle.std.proofs.lemmas.Grind.{flat_map-append}
-use Rattle.std.proofs.lemmas.List.{length-map}
+use Rattle.std.proofs.lemmas.List.{length-map, take_more}
 use Rattle.ocpi_types.specs.declared.cdr.Cdr.{Cdr}
 use Rattle.ocpi_types.specs.declared.config.Config.{Config}
 use Rattle.ocpi_types.specs.declared.config.Operator.{Operator}
@@ -73,7 +73,7 @@ module _ (config : Config) (before : List Event) (cdr : Cdr) (cost : ℕ) where
       (still config before this k (other k (λ equal. omega (arith, is, equal))))
       (one_more (suc k) n operators (omega (arith, is)))
 
-pub one_event : (config : Config) (before : List Event) (e : Event) (operators : List Operator) →
+one_event : (config : Config) (before : List Event) (e : Event) (operators : List Operator) →
     with_event config e (record_lists config before 0 operators) ≡ record_lists config (before ++ e ∷ []) 0 operators
 one_event config before (event.Tariff tariff) operators = unchanged config before (event.Tariff tariff) 0 operators (λ m more. refl)
 one_event config before (event.Token token) operators = unchanged config before (event.Token token) 0 operators (λ m more. refl)
@@ -83,6 +83,13 @@ one_event config before (event.Cdr cdr cost) operators = one_more config before 
 one_event config before (event.Credit cdr amount) operators = unchanged config before (event.Credit cdr amount) 0 operators (λ m more. refl)
 one_event config before (event.Settled settlement) operators = unchanged config before (event.Settled settlement) 0 operators (λ m more. refl)
 one_event config before (event.Closed period) operators = unchanged config before (event.Closed period) 0 operators (λ m more. refl)
+
+pub one_event_more : (config : Config) (events : List Event) (place : ℕ) (d e : Event) → e ≡ get_or events place d → place < length events →
+    with_event config e (record_lists config (take place events) 0 config.operators) ≡ record_lists config (take (place + 1) events) 0 config.operators
+one_event_more config events place d e is within =
+    one_event config (take place events) e config.operators
+    ∙ ap (λ (l : List Event). record_lists config l 0 config.operators)
+    (ap (λ (x : Event). take place events ++ x ∷ []) is ∙ sym (take_more events place d within))
 
 -- ---- the count
 

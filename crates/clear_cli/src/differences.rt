@@ -35,13 +35,14 @@ fn add_record(lists: &mut Vec<Vec<Record>>, number: usize, record: Record) -> Re
 }
 
 // The record of an event that is a CDR and no Credit CDR.
-fn add_event(config: &Config, lists: &mut Vec<Vec<Record>>, event: Event) -> Result<(), AllocError>
-    ensures { OnOk result (map (λ list. list.items) lists.new.items ≡ with_event config.now event (map (λ list. list.items) lists.old.items)) }
+fn add_event(config: &Config, lists: &mut Vec<Vec<Record>>, event: &Event) -> Result<(), AllocError>
+    ensures { OnOk result (map (λ list. list.items) lists.new.items ≡ with_event config.now event.now (map (λ list. list.items) lists.old.items)) }
 {
     match event {
         Event::Cdr { cdr, cost } => {
             let number = operator_number(config, &cdr.operator);
-            let booked = BookedAmount::of_cost(cost).amount();
+            let booked = BookedAmount::of_cost(*cost).amount();
+            let cdr = cdr.share()?;
             add_record(lists, number, Record { cdr, booked })
         }
         _ => Ok(()),
@@ -52,9 +53,9 @@ fn add_event(config: &Config, lists: &mut Vec<Vec<Record>>, event: Event) -> Res
 fn lists_of(
     alloc: Global,
     config: &Config,
-    events: Vec<Event>,
+    events: &[Event],
 ) -> Result<Vec<Vec<Record>>, AllocError>
-    ensures { IfOk result (λ lists. map (λ list. list.items) lists.items ≡ record_lists config.now events.items 0 config.now.operators) }
+    ensures { IfOk result (λ lists. map (λ list. list.items) lists.items ≡ record_lists config.now events.now 0 config.now.operators) }
 {
     let mut lists = empty_lists(alloc, config.operators.as_slice().len())?;
     for event in events {
@@ -88,9 +89,9 @@ pub fn difference_count<R: Threads + Sync>(
     rt: &R,
     alloc: Global,
     config: &Config,
-    events: Vec<Event>,
+    events: &[Event],
 ) -> Result<u128, AllocError>
-    ensures { IfOk result (λ count. count ≡ difference_count config.now events.items) }
+    ensures { IfOk result (λ count. count ≡ difference_count config.now events.now) }
 {
     let lists = lists_of(alloc, config, events)?;
     let count = count_in(rt, alloc, config.operators.as_slice(), lists.as_slice())?;

@@ -1,15 +1,18 @@
 //! The command `run`.
 
 ghost use Rattle.std.specs.Prelude.{◌≡◌, ◌↔◌, ◌⊎◌, ◌≤◌, ℕ, [], List, true, IfErr, IfOk, MatchResult, length, map, string_bytes, vec_len};
+ghost use denote.Param.Send.{IsSync};
 ghost use Rattle.plain_house.specs.Entries.{period_of};
 ghost use Rattle.plain_house.specs.Legal.{IsLegal};
 ghost use Rattle.shared_house.specs.declared.made.Made.{Made};
 ghost use Rattle.shared_house.specs.Finished.{IsFinished};
 ghost use Rattle.clear_cli.specs.Fault.{AreTold, exit_status, fault_text};
-ghost use Rattle.clear_cli.specs.Folder.{FolderWords};
+ghost use Rattle.clear_cli.specs.Differences.{difference_count};
+ghost use Rattle.clear_cli.specs.Folder.{AreLeft, AreWritten, FolderWords};
 ghost use Rattle.clear_cli.specs.HouseRun.{IsUnfinished};
 ghost use Rattle.clear_cli.specs.Inner.Running.{HasNotBegun, HasWorked, RunsUnder};
-ghost use Rattle.clear_cli.specs.Run.{Fails, IsDone, IsEnded, IsLeftOpen, IsLineLeft, IsLineWritten, Run, RunWords, counts_of, counts_text, worker_line, worker_lines, worker_text};
+ghost use Rattle.clear_cli.specs.Outputs.{outputs};
+ghost use Rattle.clear_cli.specs.Run.{Fails, IsDone, IsEnded, IsLeftOpen, IsLineLeft, IsLineWritten, Run, RunWords, counts_text, worker_line, worker_lines, worker_text};
 
 use crate::differences::difference_count;
 use crate::fault::{Fault, tell, tell_of_file};
@@ -17,6 +20,7 @@ use crate::folder::Folder;
 use crate::house_run::{HouseRun, run_house};
 use crate::opening::{Named, Opened, open};
 use crate::outputs::write_outputs;
+use crate::schedule_text::WriteFault;
 use crate::script::read_config;
 use ocpi_types::{Config, TryCopy};
 use plain_house::Event;
@@ -26,6 +30,7 @@ use shared_house::FinishFault;
 use std::alloc::{AllocError, Global};
 use std::sync::Wait;
 use std::thread::Threads;
+use std::{mem, thread};
 
 // Why a worker failed, whose file has this path.
 fn worker_fault<'a>(path: &'a str, fault: ScriptFault) -> Fault<'a>
@@ -90,24 +95,41 @@ fn write_text<W: Sink>(writer: &mut W, text: &str) -> Result<(), Fault<'static>>
     }
 }
 
-// Rates the CDRs of the events again, and writes the last line.
-fn write_counts<R: Threads + Sync, W: Sink>(
+// Rates the CDRs of the events again and, at once, writes the files of the house. What came of each.
+fn rate_and_write<R: Threads + Sync, O: Folder>(
     rt: &R,
     alloc: Global,
     config: &Config,
-    events: Vec<Event>,
-    periods: u64,
-    writer: &mut W,
-) -> Result<(), Fault<'static>>
-    requires { periods ≡ period_of events.items }
-    ensures written { MatchResult result (λ _. IsLineWritten W.takes W.failed (counts_of config.now events.items) writer.old writer.new)
-        (λ fault. IsLineLeft W.takes W.failed (counts_of config.now events.items) writer.old writer.new fault) }
-    ensures status { IfErr result (λ fault. exit_status fault ≡ 1) }
+    events: &[Event],
+    folder: &mut O,
+) -> (Result<u128, AllocError>, Result<u64, WriteFault>)
+    requires { IsLegal config.now events.now }
+    ensures rated { IfOk result.0 (λ count. count ≡ difference_count config.now events.now) }
+    ensures periods { IfOk result.1 (λ periods. periods ≡ period_of events.now) }
+    ensures written { let words : FolderWords O O.File = record {
+      makes = O.makes;
+      refuses = O.refuses;
+      takes = O.File.takes;
+      failed = O.File.failed;
+    } in MatchResult result.1 (λ _. AreWritten words (outputs config.now events.now) folder.old folder.new)
+        (λ fault. AreLeft words (outputs config.now events.now) folder.old folder.new fault) }
 {
-    let count = events.len();
-    let differences = difference_count(rt, alloc, config, events)?;
-    let text = counts_text(alloc, count, periods, differences)?;
-    write_text(writer, text.as_str())
+    let mut rate = || -> Result<u128, AllocError>
+        requires { IsSync R.row }
+        ensures { IfOk result (λ count. count ≡ difference_count config.entry.now events.entry.now) }
+    { difference_count(rt, alloc, config, events) };
+    let mut write = || -> Result<u64, WriteFault>
+        requires { IsLegal config.now events.now }
+        ensures periods { IfOk result (λ periods. periods ≡ period_of events.entry.now) }
+        ensures written { let words : FolderWords O O.File = record {
+          makes = O.makes;
+          refuses = O.refuses;
+          takes = O.File.takes;
+          failed = O.File.failed;
+        } in MatchResult result (λ _. AreWritten words (outputs config.entry.now events.entry.now) folder.entry.now folder.exit.now)
+            (λ fault. AreLeft words (outputs config.entry.now events.entry.now) folder.entry.now folder.exit.now fault) }
+    { write_outputs(alloc, config, events, folder) };
+    thread::join_mut(rt, &mut rate, &mut write)
 }
 
 // Writes the files of a house that finished, and the last line.
@@ -115,23 +137,25 @@ fn write_end<R: Threads + Sync, O: Folder, W: Sink>(
     rt: &R,
     alloc: Global,
     config: &Config,
-    events: Vec<Event>,
+    events: &[Event],
     folder: &mut O,
     writer: &mut W,
 ) -> Result<(), Fault<'static>>
-    requires { IsLegal config.now events.items }
+    requires { IsLegal config.now events.now }
     ensures ended { let words : FolderWords O O.File = record {
       makes = O.makes;
       refuses = O.refuses;
       takes = O.File.takes;
       failed = O.File.failed;
-    } in (calls : List (List Made)) → IsFinished config.now calls events.items →
+    } in (calls : List (List Made)) → IsFinished config.now calls events.now →
         MatchResult result (λ _. IsEnded words W.takes W.failed config.now calls folder.old folder.new writer.old writer.new)
         (λ fault. IsLeftOpen words W.takes W.failed config.now calls folder.old folder.new writer.old writer.new fault) }
     ensures status { IfErr result (λ fault. exit_status fault ≡ 1) }
 {
-    let periods = write_outputs(alloc, config, events.as_slice(), folder)?;
-    write_counts(rt, alloc, config, events, periods, writer)
+    let (differences, written) = rate_and_write(rt, alloc, config, events, folder);
+    let periods = written?;
+    let text = counts_text(alloc, events.len(), periods, differences?)?;
+    write_text(writer, text.as_str())
 }
 
 // Writes the files and the last line, where the house finished.
@@ -156,7 +180,12 @@ fn end_house<R: Threads + Sync, O: Folder, W: Sink>(
     ensures status { IfErr result (λ fault. exit_status fault ≡ 1) }
 {
     match finished {
-        Ok(events) => write_end(rt, alloc, config, events, folder, writer),
+        Ok(events) => {
+            let ended = write_end(rt, alloc, config, events.as_slice(), folder, writer);
+            // The program ends behind this, and the system takes the memory back at once.
+            mem::forget(events);
+            ended
+        }
         Err(fault) => Err(Fault::from(fault)),
     }
 }
