@@ -1,7 +1,0 @@
-use Rattle.std.proofs.Common.{◌≡◌, ◌++◌, take}
-use Rattle.balances.specs.Inner.Narrowed.{rows_of_currency}
-use Rattle.balances.proofs.balances.add_currency.Given as goal
-
-abbrev pub invariant-loop-operator : goal.invariant-loop-operator
-invariant-loop-operator l =
-    l.rows.items ≡ l.fn.rows.items ++ rows_of_currency l.period l.currency (take l.operator-index l.listed.operators.items) l.listed.providers.items l.bookings

@@ -1,7 +1,0 @@
-use Rattle.std.proofs.Common.{◌≡◌, ◌++◌, take}
-use Rattle.balances.specs.Inner.Narrowed.{rows_of_operator}
-use Rattle.balances.proofs.balances.add_operator.Given as goal
-
-abbrev pub invariant-loop-provider : goal.invariant-loop-provider
-invariant-loop-provider l =
-    l.rows.items ≡ l.fn.rows.items ++ rows_of_operator l.period l.currency l.operator (take l.provider-index l.listed.providers.items) l.bookings

@@ -1,7 +1,0 @@
-use Rattle.std.proofs.Common.{◌≡◌, ◌++◌, take}
-use Rattle.balances.specs.Inner.Narrowed.{rows_of_period}
-use Rattle.balances.proofs.balances.add_period.Given as goal
-
-abbrev pub invariant-loop-currency : goal.invariant-loop-currency
-invariant-loop-currency l =
-    l.rows.items ≡ l.fn.rows.items ++ rows_of_period l.period (take l.currency-index l.listed.currencies.items) l.listed.operators.items l.listed.providers.items l.bookings

@@ -1,0 +1,3 @@
+pub mod balances
+pub mod ended_house
+pub mod explain_lines

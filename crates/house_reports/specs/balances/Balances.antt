@@ -1,0 +1,73 @@
+-- What each provider owes each operator, period by period and currency by currency.
+use Rattle.std.specs.Prelude.{ℕ, zero, suc, ◌==◌, ℤ, ◌-ℤ◌, List, [], ◌∷◌, ◌++◌, Bool, ◌&&◌, filter, flat_map, map}
+use Rattle.ocpi_types.specs.Config.{as_configured}
+use Rattle.ocpi_types.specs.Currency.{same_currency}
+use Rattle.ocpi_types.specs.Party.{same_party}
+use Rattle.ocpi_types.specs.declared.config.Config.{Config}
+use Rattle.ocpi_types.specs.declared.party.Party.{Party}
+use Rattle.netting_positions.specs.Netting.{total}
+use Rattle.plain_house.specs.declared.event.Event.{Event}
+use Rattle.plain_house.specs.Entries.{period_of}
+use Rattle.house_reports.specs.balances.Bookings.{bookings}
+use Rattle.house_reports.specs.declared.balances.booking.Booking.{Booking}
+use Rattle.house_reports.specs.declared.balances.row.Place.{Place}
+use Rattle.house_reports.specs.declared.balances.row.Row.{Row}
+
+-- ---- sums
+
+-- CDRs less Credit CDRs
+abbrev pub owed : List Booking → ℤ
+owed bookings = total (map (λ booking. booking.amount) bookings)
+
+-- what of it settlements ended
+abbrev pub settled : List Booking → ℤ
+settled bookings = owed (filter (λ booking. booking.is_settled) bookings)
+
+abbrev pub sums_of : Place → List Booking → Row
+sums_of place bookings = record {
+  place = place;
+  owed = owed bookings;
+  settled = settled bookings;
+  outstanding = owed bookings -ℤ settled bookings;
+}
+
+-- ---- rows
+
+-- no row where nothing is booked
+abbrev pub row_of : Place → List Booking → List Row
+row_of place [] = []
+row_of place (booking ∷ more) = sums_of place (booking ∷ more) ∷ []
+
+abbrev pub is_of : Place → Booking → Bool
+is_of place booking =
+    (booking.period == place.period) && same_currency booking.currency place.currency
+    && same_party booking.operator place.operator && same_party booking.provider place.provider
+
+-- the row of what is booked of the place
+abbrev pub row_at : List Booking → Place → List Row
+row_at bookings place = row_of place (filter (is_of place) bookings)
+
+abbrev pub operators : Config → List Party
+operators config = map (λ operator. operator.party) config.operators
+
+-- a party that is an operator too is spelled as the operator
+abbrev pub providers : Config → List Party
+providers config = map (λ provider. as_configured config provider.party) config.providers
+
+abbrev pub place_of : ℕ → List ℕ → Party → Party → Place
+place_of period currency operator provider =
+    record { period = period; currency = currency; operator = operator; provider = provider }
+
+-- by currency, operator and provider, each in the order of the configuration
+abbrev pub places_in : Config → ℕ → List Place
+places_in config period =
+    flat_map (λ currency. flat_map (λ operator. map (place_of period currency operator) (providers config)) (operators config)) config.currencies
+
+-- those of so many periods, from 0
+abbrev pub places : Config → ℕ → List Place
+places config zero = []
+places config (suc period) = places config period ++ places_in config period
+
+-- a row for each place of which something is booked, up to the current period
+abbrev pub rows : Config → List Event → List Row
+rows config events = flat_map (row_at (bookings events)) (places config (suc (period_of events)))

@@ -1,0 +1,158 @@
+//! Rows of what providers owe operators.
+
+ghost use Rattle.std.specs.Prelude.{◌≡◌, ◌≤◌, ◌<◌, ◌^◌, ◌-ℤ◌, unsigned_abs, IfOk};
+ghost use Rattle.std.specs.Option.{option_to_list};
+ghost use Rattle.house_reports.specs.balances.Balances.{owed, row_of, settled, sums_of};
+ghost use Rattle.house_reports.specs.balances.Inner.Narrowed.{of_currency, of_operator, of_period, of_provider, size};
+
+use super::booking::Booking;
+use exact_money::Amount;
+use ocpi_types::{Currency, Party};
+use std::alloc::{AllocError, Global};
+
+/// Where something is booked.
+#[derive(Clone, Copy)]
+pub struct Place {
+    pub period: u64,
+    pub currency: Currency,
+    pub operator: Party,
+    pub provider: Party,
+}
+
+/// What is booked of a place: of an operator and a provider, in a period and a currency.
+#[derive(Clone, Copy)]
+pub struct Row {
+    pub place: Place,
+    /// CDRs less Credit CDRs.
+    pub owed: Amount,
+    /// What of it a settlement ended.
+    pub settled: Amount,
+    /// Owed less settled.
+    pub outstanding: Amount,
+}
+
+// CDRs less Credit CDRs.
+fn owed(bookings: &[Booking]) -> i128
+    requires { size bookings.now < 2 ^ 63 }
+    ensures value { result ≡ owed bookings.now }
+    ensures bound { unsigned_abs result ≤ size bookings.now }
+{
+    let mut total = 0;
+    let mut rest = bookings;
+    while let Some((booking, later)) = rest.split_first() {
+        total += i128::from(booking.amount.amount().ten_thousandths());
+        rest = later;
+    }
+    total
+}
+
+// What of it settlements ended.
+fn settled(bookings: &[Booking]) -> i128
+    requires { size bookings.now < 2 ^ 63 }
+    ensures value { result ≡ settled bookings.now }
+    ensures bound { unsigned_abs result ≤ size bookings.now }
+{
+    let mut total = 0;
+    let mut rest = bookings;
+    while let Some((booking, later)) = rest.split_first() {
+        if booking.is_settled {
+            total += i128::from(booking.amount.amount().ten_thousandths());
+        }
+        rest = later;
+    }
+    total
+}
+
+fn amount_of(sum: i128) -> Amount
+    requires { unsigned_abs sum < 2 ^ 63 }
+    ensures { result ≡ sum }
+{
+    Amount::from_ten_thousandths(sum as i64)
+}
+
+fn left_of(owed: i128, settled: i128) -> Amount
+    requires owed { unsigned_abs owed < 2 ^ 63 }
+    requires settled { unsigned_abs settled < 2 ^ 63 }
+    requires left { unsigned_abs (owed -ℤ settled) < 2 ^ 63 }
+    ensures { result ≡ owed -ℤ settled }
+{
+    amount_of(owed - settled)
+}
+
+#[tactic(auto, using(crate::proofs::balances::SizeLemmas::open_small))]
+fn sums_of(place: Place, bookings: &[Booking]) -> Row
+    requires { size bookings.now < 2 ^ 63 }
+    ensures { result ≡ sums_of place bookings.now }
+{
+    let owed = owed(bookings);
+    let settled = settled(bookings);
+    Row {
+        place,
+        owed: amount_of(owed),
+        settled: amount_of(settled),
+        outstanding: left_of(owed, settled),
+    }
+}
+
+/// The row of what is booked of one place, if anything is.
+pub fn row_of(place: Place, bookings: &[Booking]) -> Option<Row>
+    requires { size bookings.now < 2 ^ 63 }
+    ensures { option_to_list result ≡ row_of place bookings.now }
+{
+    match bookings.split_first() {
+        Some(_) => Some(sums_of(place, bookings)),
+        None => None,
+    }
+}
+
+pub fn of_period(
+    alloc: Global,
+    bookings: &[Booking],
+    period: u64,
+) -> Result<Vec<Booking>, AllocError>
+    ensures { IfOk result (λ found. found.items ≡ of_period period bookings.now) }
+{
+    let found = bookings.iter().copied();
+    found
+        .filter(|booking| booking.period == period)
+        .collect(alloc)
+}
+
+pub fn of_currency(
+    alloc: Global,
+    bookings: &[Booking],
+    currency: &Currency,
+) -> Result<Vec<Booking>, AllocError>
+    ensures { IfOk result (λ found. found.items ≡ of_currency currency.now bookings.now) }
+{
+    let found = bookings.iter().copied();
+    found
+        .filter(|booking| booking.currency.is(currency))
+        .collect(alloc)
+}
+
+pub fn of_operator(
+    alloc: Global,
+    bookings: &[Booking],
+    operator: &Party,
+) -> Result<Vec<Booking>, AllocError>
+    ensures { IfOk result (λ found. found.items ≡ of_operator operator.now bookings.now) }
+{
+    let found = bookings.iter().copied();
+    found
+        .filter(|booking| booking.operator.is(operator))
+        .collect(alloc)
+}
+
+pub fn of_provider(
+    alloc: Global,
+    bookings: &[Booking],
+    provider: &Party,
+) -> Result<Vec<Booking>, AllocError>
+    ensures { IfOk result (λ found. found.items ≡ of_provider provider.now bookings.now) }
+{
+    let found = bookings.iter().copied();
+    found
+        .filter(|booking| booking.provider.is(provider))
+        .collect(alloc)
+}

@@ -1,0 +1,143 @@
+ghost use Rattle.std.specs.Prelude.{◌≡◌, ◌≢◌, [], IfErr, IfOk};
+ghost use Rattle.house_reports.specs.ended_house.Ended.{HasRead, IsStopped, Reading};
+
+use super::counted::CountedHouse;
+use super::fault::Fault;
+use ocpi_types::{Config, TryCopy};
+use period_order::BookHouse;
+use plain_house::{Event, empty_lists_are_legal};
+use request_lines::{Device, ScriptFault, Source, run_script, scripts_keep_lists_legal};
+use std::alloc::{AllocError, Global};
+use std::io;
+use std::marker::Model;
+
+/// What a house of books has after its last line.
+#[derive(Drop)]
+pub struct EndedHouse {
+    config: Config,
+    events: Vec<Event>,
+    refused: u128,
+}
+
+impl Model for EndedHouse {
+    ghost use Rattle.plain_house.specs.Legal.{IsLegal};
+    ghost use Rattle.plain_house.specs.State.{State};
+
+    ghost Value = { State };
+
+    ghost view = { λ ended. record { config = ended.config; events = ended.events.items } };
+
+    ghost invariant = { λ ended. IsLegal ended.config ended.events.items };
+}
+
+fn counted_house(alloc: Global, config: &Config) -> Result<CountedHouse, AllocError>
+    ensures { IfOk result (λ counted. (counted.house.config ≡ config.now) × (counted.house.events ≡ [])) }
+{
+    let house = BookHouse::new(alloc, config.copy(alloc)?)?;
+    Ok(CountedHouse { house, accepted: 0 })
+}
+
+/// What lines leave behind.
+#[derive(Drop)]
+struct Left {
+    events: Vec<Event>,
+    refused: u128,
+}
+
+fn answer_lines<R: Source>(
+    alloc: Global,
+    config: &Config,
+    reader: &mut R,
+    counted: &mut CountedHouse,
+) -> Result<Left, ScriptFault>
+    requires config { counted.old.house.config ≡ config.now }
+    requires empty { counted.old.house.events ≡ [] }
+    ensures events { let reading : Reading R = record { gives = R.gives; at_end = R.at_end; failed = R.failed; reader = reader.old; reader' = reader.new } in
+        IfOk result (λ left. HasRead reading config.now left.events.items) }
+    ensures fault { let reading : Reading R = record { gives = R.gives; at_end = R.at_end; failed = R.failed; reader = reader.old; reader' = reader.new } in
+        IfErr result (λ fault. fault ≢ ScriptFault.NoMemory → IsStopped reading config.now fault) }
+{
+    let mut writer = Device::new(io::sink());
+    let count = run_script(alloc, reader, &mut writer, config, counted)?;
+    let Ok(events) = counted.house.events(alloc) else {
+        return Err(ScriptFault::NoMemory);
+    };
+    let refused = count.lines.saturating_sub(counted.accepted);
+    Ok(Left { events, refused })
+}
+
+fn left_by<R: Source>(alloc: Global, config: &Config, reader: &mut R) -> Result<Left, ScriptFault>
+    ensures events { let reading : Reading R = record { gives = R.gives; at_end = R.at_end; failed = R.failed; reader = reader.old; reader' = reader.new } in
+        IfOk result (λ left. HasRead reading config.now left.events.items) }
+    ensures fault { let reading : Reading R = record { gives = R.gives; at_end = R.at_end; failed = R.failed; reader = reader.old; reader' = reader.new } in
+        IfErr result (λ fault. fault ≢ ScriptFault.NoMemory → IsStopped reading config.now fault) }
+{
+    let Ok(mut counted) = counted_house(alloc, config) else {
+        return Err(ScriptFault::NoMemory);
+    };
+    answer_lines(alloc, config, reader, &mut counted)
+}
+
+impl EndedHouse {
+    ghost use Rattle.std.specs.Prelude.{◌≡◌, ◌≢◌, Ok, IfErr, IfOk};
+    ghost use Rattle.ocpi_types.specs.ConfigText.{config_of};
+    ghost use Rattle.plain_house.specs.Legal.{IsLegal};
+    ghost use Rattle.house_reports.specs.ended_house.Ended.{HasRead, IsFaultOf, IsStopped, Reading};
+
+    /// A house of this configuration, after the lines of the reader. Their answers are not written.
+    pub fn of_lines<R: Source>(
+        alloc: Global,
+        config: Config,
+        reader: &mut R,
+    ) -> Result<EndedHouse, ScriptFault>
+        ensures config { IfOk result (λ ended. ended.config ≡ config) }
+        ensures events { let reading : Reading R = record { gives = R.gives; at_end = R.at_end; failed = R.failed; reader = reader.old; reader' = reader.new } in
+            IfOk result (λ ended. HasRead reading config ended.events) }
+        ensures fault { let reading : Reading R = record { gives = R.gives; at_end = R.at_end; failed = R.failed; reader = reader.old; reader' = reader.new } in
+            IfErr result (λ fault. fault ≢ ScriptFault.NoMemory → IsStopped reading config fault) }
+    {
+        empty_lists_are_legal();
+        scripts_keep_lists_legal();
+        let Left { events, refused } = left_by(alloc, &config, reader)?;
+        Ok(EndedHouse {
+            config,
+            events,
+            refused,
+        })
+    }
+
+    /// A house of the configuration in this file, after the lines of the reader.
+    pub fn of_file<R: Source>(
+        alloc: Global,
+        file: &[u8],
+        reader: &mut R,
+    ) -> Result<EndedHouse, Fault<'static>>
+        ensures config { IfOk result (λ ended. config_of file.now ≡ Ok ended.config) }
+        ensures events { let reading : Reading R = record { gives = R.gives; at_end = R.at_end; failed = R.failed; reader = reader.old; reader' = reader.new } in
+            IfOk result (λ ended. HasRead reading ended.config ended.events) }
+        ensures fault { let reading : Reading R = record { gives = R.gives; at_end = R.at_end; failed = R.failed; reader = reader.old; reader' = reader.new } in
+            IfErr result (λ fault. fault ≢ Fault.NoMemory → IsFaultOf reading (config_of file.now) fault) }
+    {
+        let config = Config::read(alloc, file)?;
+        Ok(EndedHouse::of_lines(alloc, config, reader)?)
+    }
+
+    pub fn config(&self) -> &Config
+        ensures { result.now ≡ self.now.config }
+    {
+        &self.config
+    }
+
+    /// The events, the first one first.
+    pub fn events(&self) -> &[Event]
+        ensures value { result.now ≡ self.now.events }
+        ensures legal { IsLegal self.now.config result.now }
+    {
+        self.events.as_slice()
+    }
+
+    /// How many lines were refused.
+    pub fn refused(&self) -> u128 {
+        self.refused
+    }
+}

@@ -1,0 +1,36 @@
+//! Of each line that a house turns down, where it is at fault and why: a table of comma-separated values.
+
+ghost use Rattle.std.specs.Prelude.{◌≡◌, ◌↔◌, false};
+
+mod added;
+mod asked;
+mod explainer;
+mod explaining;
+mod happened;
+mod line;
+mod place;
+mod row;
+mod table;
+mod telling;
+mod turned_down;
+
+use crate::ended_house::Fault;
+use house_program::{only_word, read_config};
+use request_lines::Device;
+use table::explain;
+
+// The exit status, by whether a line is turned down.
+fn status(is_any_turned_down: bool) -> u8
+    ensures { (result ≡ 0) ↔ (is_any_turned_down ≡ false) }
+{
+    if is_any_turned_down { 3 } else { 0 }
+}
+
+/// Prints it of the lines of standard input, and gives the exit status.
+pub fn perform<'a>(rt: &HostRuntime, words: &'a [String]) -> Result<u8, Fault<'a>> {
+    let file = read_config(rt, only_word(words)?)?;
+    let mut reader = Device::new(rt.stdin());
+    let mut writer = Device::new(rt.stdout());
+    let is_any_turned_down = explain(rt.alloc(), file.as_slice(), &mut reader, &mut writer)?;
+    Ok(status(is_any_turned_down))
+}

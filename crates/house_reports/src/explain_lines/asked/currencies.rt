@@ -1,0 +1,101 @@
+//! The currency of a request that is wrong.
+
+ghost use Rattle.std.specs.Prelude.{◌≡◌, not, position};
+ghost use Rattle.ocpi_types.specs.Currency.{same_currency};
+ghost use Rattle.house_reports.specs.explain_lines.Currencies.{asked_currency, of_another_currency, wrong_currency};
+
+use crate::explain_lines::place::Place;
+use crate::explain_lines::telling::{Cause, Told, Value};
+use cdr_checks::Ask;
+use ocpi_json::name::Name;
+use ocpi_types::{Cdr, Config, Currency};
+
+/// Which currency of a request is wrong.
+#[derive(Clone, Copy)]
+pub enum WrongCurrency {
+    /// The request's own currency, which is not configured.
+    Asked,
+    /// That of the embedded tariff of this number, which is not the CDR's.
+    OfTariff(usize),
+}
+
+fn asked_currency(ask: &Ask) -> Option<Currency>
+    ensures { result ≡ asked_currency ask.now }
+{
+    match ask {
+        Ask::PutTariff(tariff) => Some(tariff.currency),
+        Ask::Authorize(asked) => Some(asked.currency),
+        Ask::Post(cdr) => Some(cdr.currency),
+        Ask::Settle(asked) => Some(asked.currency),
+        Ask::Exposure(asked) => Some(asked.currency),
+        Ask::PutToken(_) | Ask::Release(_) | Ask::Close(_) | Ask::Find(_) | Ask::Statement(_) => {
+            None
+        }
+    }
+}
+
+// The first tariff of the CDR that has another currency.
+fn of_another_currency(cdr: &Cdr) -> Option<usize>
+    ensures { result ≡ position (λ tariff. not (same_currency tariff.currency cdr.now.currency)) cdr.now.tariffs }
+{
+    cdr.tariffs
+        .as_slice()
+        .iter()
+        .position(|tariff| !tariff.currency.is(&cdr.currency))
+}
+
+// The same, where the CDR is no Credit CDR.
+fn other_than_its_own(cdr: &Cdr) -> Option<WrongCurrency>
+    ensures { result ≡ of_another_currency cdr.now }
+{
+    if cdr.is_credit() {
+        return None;
+    }
+    Some(WrongCurrency::OfTariff(of_another_currency(cdr)?))
+}
+
+/// The currency of the request that is not configured, or else the first tariff of its CDR that has another one.
+pub fn wrong_currency(config: &Config, ask: &Ask) -> Option<WrongCurrency>
+    ensures { result ≡ wrong_currency config.now ask.now }
+{
+    let currency = asked_currency(ask)?;
+    if !config.has_currency(&currency) {
+        return Some(WrongCurrency::Asked);
+    }
+    match ask {
+        Ask::Post(cdr) => other_than_its_own(cdr),
+        _ => None,
+    }
+}
+
+// Where the request's object stands that has the currency.
+fn holder(ask: &Ask) -> Place {
+    match ask {
+        Ask::PutTariff(_) => Place::at(Name::Tariff),
+        Ask::Post(_) => Place::at(Name::Cdr),
+        _ => Place::nowhere(),
+    }
+}
+
+fn of_tariff(ask: &Ask, number: usize) -> Option<Told> {
+    let Ask::Post(cdr) = ask else {
+        return None;
+    };
+    let found = cdr.tariffs.as_slice().get(number)?.currency;
+    let tariff = Place::at(Name::Cdr).then(Name::Tariffs, Some(number));
+    let place = tariff.then(Name::Currency, None);
+    let told = Told::new(place, Cause::NotCurrencyOfCdr, Value::Currency(found));
+    Some(told.against(Value::Currency(cdr.currency)))
+}
+
+/// Which currency is wrong.
+pub fn told(config: &Config, ask: &Ask) -> Option<Told> {
+    let own = asked_currency(ask)?;
+    match wrong_currency(config, ask)? {
+        WrongCurrency::OfTariff(number) => of_tariff(ask, number),
+        WrongCurrency::Asked => {
+            let place = holder(ask).then(Name::Currency, None);
+            Some(Told::new(place, Cause::NotConfigured, Value::Currency(own)))
+        }
+    }
+}

@@ -1,0 +1,79 @@
+//! Which moment of a CDR comes before the one in front of it.
+
+ghost use Rattle.std.specs.Prelude.{◌≡◌};
+ghost use Rattle.house_reports.specs.explain_lines.Dates.{out_of_order};
+
+use crate::explain_lines::place::Place;
+use crate::explain_lines::telling::{Cause, Told, Value};
+use cdr_checks::Ask;
+use jiff::Timestamp;
+use ocpi_json::name::Name;
+use ocpi_types::Cdr;
+
+/// The first moment of a CDR that is before the one in front of it: the session's start, the starts of the charging periods,
+/// the session's end.
+#[derive(Clone, Copy)]
+pub enum OutOfOrder {
+    /// The start of the charging period of this number, from 0.
+    Period(usize),
+    /// The session's end.
+    End,
+}
+
+/// The first moment that is before the one in front of it.
+pub fn out_of_order(cdr: &Cdr) -> Option<OutOfOrder>
+    ensures { result ≡ out_of_order 0 cdr.now.start_date_time.nanosecond cdr.now.charging_periods cdr.now.end_date_time.nanosecond }
+{
+    let mut latest = cdr.start_date_time;
+    let mut number = 0;
+    let mut rest = cdr.charging_periods.as_slice();
+    while let Some((period, later)) = rest.split_first() {
+        let start = period.start_date_time;
+        if start < latest {
+            return Some(OutOfOrder::Period(number));
+        }
+        latest = start;
+        number += 1;
+        rest = later;
+    }
+    if cdr.end_date_time < latest {
+        Some(OutOfOrder::End)
+    } else {
+        None
+    }
+}
+
+// The moment in front of the start of the period of that number, or in front of the end where there is none.
+fn in_front(cdr: &Cdr, number: usize) -> Timestamp {
+    let before = number.saturating_sub(1);
+    match cdr.charging_periods.as_slice().get(before) {
+        Some(period) if 0 < number => period.start_date_time,
+        _ => cdr.start_date_time,
+    }
+}
+
+fn before(place: Place, found: Timestamp, against: Timestamp) -> Told {
+    let told = Told::new(place, Cause::BeforeItsFront, Value::Moment(found));
+    told.against(Value::Moment(against))
+}
+
+/// Which date is before which.
+pub fn told(ask: &Ask) -> Option<Told> {
+    let Ask::Post(cdr) = ask else {
+        return None;
+    };
+    let periods = cdr.charging_periods.as_slice();
+    let of_cdr = Place::at(Name::Cdr);
+    match out_of_order(cdr)? {
+        OutOfOrder::Period(number) => {
+            let period = of_cdr.then(Name::ChargingPeriods, Some(number));
+            let found = periods.get(number)?.start_date_time;
+            let place = period.then(Name::StartDateTime, None);
+            Some(before(place, found, in_front(cdr, number)))
+        }
+        OutOfOrder::End => {
+            let place = of_cdr.then(Name::EndDateTime, None);
+            Some(before(place, cdr.end_date_time, in_front(cdr, periods.len())))
+        }
+    }
+}

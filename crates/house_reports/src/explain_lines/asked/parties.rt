@@ -1,0 +1,104 @@
+//! The party of a request that is not configured.
+
+ghost use Rattle.std.specs.Prelude.{◌≡◌};
+ghost use Rattle.house_reports.specs.explain_lines.Parties.{named_parties, unknown_party};
+
+use crate::explain_lines::place::Place;
+use crate::explain_lines::telling::{Cause, Told, Value};
+use cdr_checks::Ask;
+use ocpi_json::name::Name;
+use ocpi_types::{Config, Party};
+
+/// The parties that a request names, each where it names one as such.
+#[derive(Clone, Copy)]
+pub struct NamedParties {
+    pub operator: Option<Party>,
+    pub provider: Option<Party>,
+    /// An operator or a provider.
+    pub either: Option<Party>,
+}
+
+/// A party that is not configured as what the request names it.
+#[derive(Clone, Copy)]
+pub enum UnknownParty {
+    Operator(Party),
+    Provider(Party),
+    /// It is neither an operator nor a provider.
+    Either(Party),
+}
+
+fn named(operator: Option<Party>, provider: Option<Party>, either: Option<Party>) -> NamedParties
+    ensures { result ≡ record { operator = operator; provider = provider; either = either } }
+{
+    NamedParties {
+        operator,
+        provider,
+        either,
+    }
+}
+
+/// The parties that a request names.
+fn named_parties(ask: &Ask) -> NamedParties
+    ensures { result ≡ named_parties ask.now }
+{
+    match ask {
+        Ask::PutTariff(tariff) => named(Some(tariff.operator), None, None),
+        Ask::PutToken(token) => named(None, Some(token.provider), None),
+        Ask::Authorize(asked) => named(Some(asked.operator), Some(asked.provider), None),
+        Ask::Release(asked) => named(Some(asked.operator), Some(asked.provider), None),
+        Ask::Post(cdr) => named(Some(cdr.operator), Some(cdr.cdr_token.provider), None),
+        Ask::Close(_) => named(None, None, None),
+        Ask::Settle(asked) => named(None, Some(asked.provider), None),
+        Ask::Exposure(asked) => named(None, Some(asked.provider), None),
+        Ask::Find(asked) => named(Some(asked.operator), None, None),
+        Ask::Statement(asked) => named(None, None, Some(asked.party)),
+    }
+}
+
+/// The first of the parties that is not configured as what it is named, the operator before the provider.
+pub fn unknown_party(config: &Config, named: &NamedParties) -> Option<UnknownParty>
+    ensures { result ≡ unknown_party config.now named.now }
+{
+    match (named.operator, named.provider, named.either) {
+        (Some(operator), _, _) if !config.is_operator(&operator) => {
+            Some(UnknownParty::Operator(operator))
+        }
+        (_, Some(provider), _) if !config.is_provider(&provider) => {
+            Some(UnknownParty::Provider(provider))
+        }
+        (_, _, Some(party)) if !config.is_party(&party) => Some(UnknownParty::Either(party)),
+        _ => None,
+    }
+}
+
+// Where the request names that party.
+fn place(ask: &Ask, unknown: &UnknownParty) -> Place {
+    match (ask, unknown) {
+        (Ask::PutTariff(_), _) => Place::at(Name::Tariff),
+        (Ask::PutToken(_), _) => Place::at(Name::Token),
+        (Ask::Post(_), UnknownParty::Provider(_)) => {
+            Place::at(Name::Cdr).then(Name::CdrToken, None)
+        }
+        (Ask::Post(_), _) => Place::at(Name::Cdr),
+        (_, UnknownParty::Operator(_)) => Place::at(Name::Operator),
+        (_, UnknownParty::Provider(_)) => Place::at(Name::Provider),
+        (_, UnknownParty::Either(_)) => Place::at(Name::Party),
+    }
+}
+
+/// Which party is not configured.
+pub fn told(config: &Config, ask: &Ask) -> Option<Told> {
+    let unknown = unknown_party(config, &named_parties(ask))?;
+    let place = place(ask, &unknown);
+    match &unknown {
+        UnknownParty::Operator(party) => {
+            Some(Told::new(place, Cause::NoOperator, Value::Party(*party)))
+        }
+        UnknownParty::Provider(party) => {
+            Some(Told::new(place, Cause::NoProvider, Value::Party(*party)))
+        }
+        UnknownParty::Either(party) => {
+            Some(Told::new(place, Cause::NotConfigured, Value::Party(*party)))
+        }
+    }
+}

@@ -1,0 +1,73 @@
+//! The right that a platform has not.
+
+ghost use Rattle.std.specs.Prelude.{◌≡◌};
+ghost use Rattle.house_reports.specs.explain_lines.Rights.{acting_party, missing_right};
+
+use crate::explain_lines::place::Place;
+use crate::explain_lines::telling::{Cause, Told, Value};
+use cdr_checks::{Ask, Request};
+use ocpi_json::ci_text::CiText;
+use ocpi_json::name::Name;
+use ocpi_types::{Config, Party};
+
+/// Why a platform may not send a request.
+#[derive(Clone, Copy)]
+pub enum MissingRight {
+    /// No platform of its name is configured.
+    Unknown,
+    /// The request is a hub's, and it is none.
+    Hub,
+    /// It does not act for this party.
+    ActFor(Party),
+}
+
+/// The party for which the sender of a request has to act; none where it has to be a hub.
+fn acting_party(ask: &Ask) -> Option<Party>
+    ensures { result ≡ acting_party ask.now }
+{
+    match ask {
+        Ask::PutTariff(tariff) => Some(tariff.operator),
+        Ask::PutToken(token) => Some(token.provider),
+        Ask::Authorize(asked) => Some(asked.operator),
+        Ask::Release(asked) => Some(asked.operator),
+        Ask::Post(cdr) => Some(cdr.operator),
+        Ask::Close(_) | Ask::Settle(_) => None,
+        Ask::Exposure(asked) => Some(asked.provider),
+        Ask::Find(asked) => Some(asked.operator),
+        Ask::Statement(asked) => Some(asked.party),
+    }
+}
+
+/// The right that the platform has not, by the party for which it has to act.
+pub fn missing_right(
+    config: &Config,
+    platform: &CiText<36>,
+    party: Option<Party>,
+) -> Option<MissingRight>
+    ensures { result ≡ missing_right config.now platform.now party }
+{
+    if config.platform(platform).is_none() {
+        return Some(MissingRight::Unknown);
+    }
+    match party {
+        None if config.is_hub(platform) => None,
+        None => Some(MissingRight::Hub),
+        Some(party) if config.may_act_for(platform, &party) => None,
+        Some(party) => Some(MissingRight::ActFor(party)),
+    }
+}
+
+/// Whose right is missing.
+pub fn told(config: &Config, request: &Request) -> Option<Told> {
+    let missing = missing_right(config, &request.platform, acting_party(&request.ask))?;
+    let place = Place::at(Name::Platform);
+    let platform = Value::Reference(request.platform);
+    match missing {
+        MissingRight::Unknown => Some(Told::new(place, Cause::NotConfigured, platform)),
+        MissingRight::Hub => Some(Told::new(place, Cause::NoHub, platform)),
+        MissingRight::ActFor(party) => {
+            let told = Told::new(place, Cause::ActsNotForParty, platform);
+            Some(told.against(Value::Party(party)))
+        }
+    }
+}

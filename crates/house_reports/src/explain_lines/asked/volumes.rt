@@ -1,0 +1,96 @@
+//! The volumes and the cost of a CDR.
+
+ghost use Rattle.std.specs.Prelude.{◌≡◌, position};
+ghost use Rattle.std.specs.List.{list_any};
+ghost use Rattle.cdr_checks.specs.CdrConditions.{is_reservation};
+
+use crate::explain_lines::place::Place;
+use crate::explain_lines::telling::{Cause, Told, Value};
+use cdr_rating::energy_of;
+use exact_money::Amount;
+use ocpi_json::name::Name;
+use ocpi_types::{Cdr, ChargingPeriod, Dimension, DimensionKind};
+
+/// The largest amount at which a CDR is booked, in ten-thousandths.
+const MOST: i64 = 1_000_000_000_000;
+
+fn is_reservation(dimension: &Dimension) -> bool
+    ensures { result ≡ is_reservation dimension.now }
+{
+    match dimension.kind {
+        DimensionKind::ReservationTime => 0 < dimension.volume.get(),
+        DimensionKind::Energy
+        | DimensionKind::ParkingTime
+        | DimensionKind::Time
+        | DimensionKind::Other(_) => false,
+    }
+}
+
+/// The first volume of reservation time above 0.
+pub fn reserved_volume(dimensions: &[Dimension]) -> Option<usize>
+    ensures { result ≡ position is_reservation dimensions.now }
+{
+    dimensions
+        .iter()
+        .position(|dimension| is_reservation(dimension))
+}
+
+fn reserves(period: &ChargingPeriod) -> bool
+    ensures { result ≡ list_any is_reservation period.now.dimensions }
+{
+    let dimensions = period.dimensions.as_slice();
+    dimensions.iter().any(|dimension| is_reservation(dimension))
+}
+
+/// The first charging period with reservation time.
+pub fn reserving_period(periods: &[ChargingPeriod]) -> Option<usize>
+    ensures { result ≡ position (λ period. list_any is_reservation period.dimensions) periods.now }
+{
+    periods.iter().position(|period| reserves(period))
+}
+
+/// Which volume is of reservation time.
+pub fn reserved(cdr: &Cdr) -> Option<Told> {
+    let periods = cdr.charging_periods.as_slice();
+    let number = reserving_period(periods)?;
+    let dimensions = periods.get(number)?.dimensions.as_slice();
+    let volume = reserved_volume(dimensions)?;
+    let found = dimensions.get(volume)?.volume;
+    let period = Place::at(Name::Cdr).then(Name::ChargingPeriods, Some(number));
+    let place = period.then(Name::Dimensions, Some(volume));
+    let place = place.then(Name::Volume, None);
+    Some(Told::new(place, Cause::Reserved, Value::Decimal(found)))
+}
+
+/// How far the total energy is from that of the charging periods.
+pub fn energy(cdr: &Cdr) -> Told {
+    let place = Place::at(Name::Cdr).then(Name::TotalEnergy, None);
+    let told = Told::new(
+        place,
+        Cause::NotSumOfEnergy,
+        Value::Decimal(cdr.total_energy),
+    );
+    told.against(Value::Energy(energy_of(cdr)))
+}
+
+/// The CDR is rated at too much.
+pub fn too_large() -> Told {
+    let told = Told::new(Place::at(Name::Cdr), Cause::RatedTooHigh, Value::Nothing);
+    told.against(Value::Amount(Amount::from_ten_thousandths(MOST)))
+}
+
+/// The place of a CDR's declared cost.
+pub fn cost_place() -> Place {
+    let cost = Place::at(Name::Cdr).then(Name::TotalCost, None);
+    cost.then(Name::ExclVat, None)
+}
+
+/// How the declared cost and the rated one differ.
+pub fn mismatch(cdr: &Cdr, rated: Amount) -> Told {
+    let told = Told::new(
+        cost_place(),
+        Cause::FarFromRated,
+        Value::Decimal(cdr.total_cost),
+    );
+    told.against(Value::Amount(rated))
+}

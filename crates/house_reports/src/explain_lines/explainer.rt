@@ -1,0 +1,123 @@
+//! A house that answers lines, of which those that are turned down are explained.
+
+ghost use Rattle.std.specs.Prelude.{◌≡◌};
+
+use crate::explain_lines::added::keep_added;
+use crate::explain_lines::explaining::of_line;
+use crate::explain_lines::row::row;
+use crate::explain_lines::turned_down::turned_down;
+use ocpi_json::Room;
+use ocpi_types::{Config, TryCopy};
+use period_order::BookHouse;
+use plain_house::{Event, Refused, Replied, is_out_of_memory, out_of_memory, replies_tell_events};
+use request_lines::{Answerer, reply_to};
+use std::alloc::{AllocError, Global};
+
+/// A house that answers lines.
+#[derive(Drop)]
+pub struct Explainer<'c> {
+    config: &'c Config,
+    house: BookHouse,
+    /// The events of the house.
+    events: Vec<Event>,
+    /// Where each line is read.
+    room: Room,
+    /// How many lines are answered.
+    lines: u128,
+    /// One of them is turned down.
+    pub is_any_turned_down: bool,
+    ghost same: { house.config ≡ config.now },
+}
+
+impl<'c> Explainer<'c> {
+    ghost use Rattle.std.specs.Prelude.{◌≡◌, [], false, true, IfOk, OnOk};
+    ghost use Rattle.request_lines.specs.Script.{after, reply_in};
+    ghost use Rattle.plain_house.specs.Replies.{is_no_memory};
+    ghost use Rattle.house_reports.specs.explain_lines.Table.{IsRow};
+
+    /// A new house of this configuration.
+    pub fn new(alloc: Global, config: &'c Config) -> Result<Explainer<'c>, AllocError>
+        ensures config { IfOk result (λ explainer. explainer.config.now ≡ config.now) }
+        ensures empty { IfOk result (λ explainer. (explainer.house.events ≡ []) × (explainer.events.items ≡ [])) }
+        ensures none { IfOk result (λ explainer. (explainer.lines ≡ 0) × (explainer.is_any_turned_down ≡ false)) }
+    {
+        let house = BookHouse::new(alloc, config.copy(alloc)?)?;
+        Ok(Explainer {
+            config,
+            house,
+            events: Vec::new(alloc),
+            room: Room::new(alloc),
+            lines: 0,
+            is_any_turned_down: false,
+        })
+    }
+
+    // The reply of the house to a line. Where memory runs out, the house is as it was or as after the line.
+    fn reply(&mut self, alloc: Global, line: &[u8]) -> Result<Replied, Refused>
+        ensures rest { (self.new.config.now ≡ self.old.config.now) × (self.new.lines ≡ self.old.lines)
+            × (self.new.is_any_turned_down ≡ self.old.is_any_turned_down) }
+        ensures reply { is_no_memory result ≡ false → result ≡ reply_in self.old.config.now self.old.house.events line.now }
+        ensures house { is_no_memory result ≡ false → self.new.house.events ≡ after self.old.config.now self.old.house.events line.now }
+        ensures events { is_no_memory result ≡ false → self.old.events.items ≡ self.old.house.events → self.new.events.items ≡ self.new.house.events }
+    {
+        replies_tell_events();
+        let reply = reply_to(alloc, &mut self.room, self.config, &mut self.house, line);
+        match keep_added(alloc, &self.house, &reply, &mut self.events) {
+            Ok(()) => reply,
+            Err(AllocError) => Err(out_of_memory()),
+        }
+    }
+
+    // The row of the line that was answered last, and was refused so.
+    fn row(
+        &mut self,
+        alloc: Global,
+        line: &[u8],
+        reply: &Result<Replied, Refused>,
+        refusal: &'static str,
+    ) -> Result<Vec<u8>, AllocError>
+        ensures rest { (self.new.config.now ≡ self.old.config.now) × (self.new.house ≡ self.old.house)
+            × (self.new.events.items ≡ self.old.events.items) × (self.new.lines ≡ self.old.lines) }
+        ensures any { self.new.is_any_turned_down ≡ true }
+        ensures row { IfOk result (λ text. IsRow self.old.lines refusal.now text.items) }
+    {
+        self.is_any_turned_down = true;
+        let told = of_line(
+            alloc,
+            &mut self.room,
+            self.config,
+            self.events.as_slice(),
+            line,
+            reply,
+        )?;
+        let _found = told.found;
+        row(alloc, self.lines, refusal, &told)
+    }
+}
+
+impl Answerer for Explainer<'_> {
+    ghost use Rattle.std.specs.Prelude.{⊤};
+    ghost use Rattle.house_reports.specs.explain_lines.Inner.Standing.{standing};
+    ghost use Rattle.house_reports.specs.explain_lines.Inner.Telling.{Tells, tells_none, tells_more};
+
+    ghost rule = { record {
+      answers = λ a lines text b. Tells (standing a) (standing b) lines text;
+      gives_up = λ a line b. ⊤;
+    } };
+
+    ghost answers_none = { λ a. tells_none (standing a) };
+
+    ghost answers_more = { λ a b c ls ms t u h k. tells_more (standing a) (standing b) (standing c) ls ms t u h k };
+
+    fn answer(&mut self, alloc: Global, line: &[u8]) -> Result<Vec<u8>, AllocError> {
+        self.lines = self.lines.saturating_add(1);
+        let reply = self.reply(alloc, line);
+        if is_out_of_memory(&reply) {
+            return Err(AllocError);
+        }
+        match turned_down(&reply) {
+            Some(refusal) => self.row(alloc, line, &reply, refusal),
+            None => Ok(Vec::new(alloc)),
+        }
+    }
+}

@@ -1,0 +1,47 @@
+//! What has reached its limit.
+
+use crate::explain_lines::place::Place;
+use crate::explain_lines::telling::{Cause, Told, Value};
+use cdr_checks::Ask;
+use ocpi_types::{Config, Party, Store};
+
+// Whose book it is.
+fn operator_of(ask: &Ask) -> Option<Party> {
+    match ask {
+        Ask::PutTariff(tariff) => Some(tariff.operator),
+        Ask::Post(cdr) => Some(cdr.operator),
+        _ => None,
+    }
+}
+
+// Whose account it is.
+fn provider_of(ask: &Ask) -> Option<Party> {
+    match ask {
+        Ask::PutToken(token) => Some(token.provider),
+        Ask::Authorize(asked) => Some(asked.provider),
+        Ask::Release(asked) => Some(asked.provider),
+        Ask::Post(cdr) => Some(cdr.cdr_token.provider),
+        Ask::Settle(asked) => Some(asked.provider),
+        _ => None,
+    }
+}
+
+fn of_party(party: Option<Party>) -> Value {
+    match party {
+        Some(party) => Value::Party(party),
+        None => Value::Nothing,
+    }
+}
+
+/// Whose store is full, and what its limit is.
+pub fn full(config: &Config, ask: &Ask, what: Store) -> Told {
+    let limits = &config.limits;
+    let (limit, found) = match what {
+        Store::Cdrs => (limits.cdrs.get(), of_party(operator_of(ask))),
+        Store::Tariffs => (limits.tariffs.get(), of_party(operator_of(ask))),
+        Store::Account => (limits.entries.get(), of_party(provider_of(ask))),
+        Store::Order => (limits.order.get(), Value::Nothing),
+        Store::Periods => (limits.periods.get(), Value::Nothing),
+    };
+    Told::new(Place::nowhere(), Cause::Full(what), found).against(Value::Number(limit))
+}

@@ -1,0 +1,63 @@
+//! The token that an operator asks to authorise.
+
+ghost use Rattle.std.specs.Prelude.{◌≡◌, position};
+ghost use Rattle.house_reports.specs.explain_lines.Tokens.{puts};
+
+use crate::explain_lines::place::Place;
+use crate::explain_lines::telling::{Cause, Told, Value};
+use cdr_checks::Authorize;
+use ocpi_json::name::Name;
+use ocpi_types::TokenKind;
+use plain_house::Event;
+
+fn puts(event: &Event, asked: &Authorize) -> bool
+    ensures { result ≡ puts asked.now event.now }
+{
+    match event {
+        Event::Token(token) => token.provider.is(&asked.provider) && token.uid == asked.uid,
+        _ => false,
+    }
+}
+
+/// The first event that puts a token of the provider and the uid that are asked for, of whatever type.
+pub fn put_at(events: &[Event], asked: &Authorize) -> Option<usize>
+    ensures { result ≡ position (puts asked.now) events.now }
+{
+    events.iter().position(|event| puts(event, asked))
+}
+
+// The type of the token that the event puts.
+fn kind_at(events: &[Event], at: usize) -> Option<TokenKind> {
+    match events.get(at)? {
+        Event::Token(token) => Some(token.kind),
+        _ => None,
+    }
+}
+
+/// Why the provider has no such token.
+pub fn unknown(events: &[Event], asked: &Authorize) -> Option<Told> {
+    match put_at(events, asked) {
+        Some(at) => {
+            let found = Value::Kind(asked.kind);
+            let told = Told::new(Place::at(Name::Type), Cause::OfAnotherType, found);
+            Some(
+                told.against(Value::Kind(kind_at(events, at)?))
+                    .by_event(Some(at)),
+            )
+        }
+        None => Some(Told::new(
+            Place::at(Name::Uid),
+            Cause::TokenNotPut,
+            Value::Reference(asked.uid),
+        )),
+    }
+}
+
+/// The token is not valid.
+pub fn blocked(asked: &Authorize) -> Told {
+    Told::new(
+        Place::at(Name::Uid),
+        Cause::TokenNotValid,
+        Value::Reference(asked.uid),
+    )
+}

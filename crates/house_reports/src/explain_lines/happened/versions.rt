@@ -1,0 +1,94 @@
+//! The tariff versions that are stored.
+
+ghost use Rattle.std.specs.Prelude.{◌≡◌, not, position};
+ghost use Rattle.std.specs.List.{list_any};
+ghost use Rattle.house_reports.specs.explain_lines.Versions.{registers, stores};
+
+use crate::explain_lines::happened::differences::differing_in_tariff;
+use crate::explain_lines::place::Place;
+use crate::explain_lines::telling::{Cause, Told, Value};
+use ocpi_json::name::Name;
+use ocpi_types::{Cdr, Party, Tariff, same_tariff};
+use plain_house::Event;
+
+fn stores(event: &Event, tariff: &Tariff) -> bool
+    ensures { result ≡ stores tariff.now event.now }
+{
+    match event {
+        Event::Tariff(stored) => {
+            stored.operator.is(&tariff.operator)
+                && stored.id == tariff.id
+                && stored.last_updated.as_nanosecond() == tariff.last_updated.as_nanosecond()
+        }
+        _ => false,
+    }
+}
+
+/// The first event that stores a version of the tariff's operator, id and moment.
+pub fn stored_at(events: &[Event], tariff: &Tariff) -> Option<usize>
+    ensures { result ≡ position (stores tariff.now) events.now }
+{
+    events.iter().position(|event| stores(event, tariff))
+}
+
+fn registers(event: &Event, operator: &Party, tariff: &Tariff) -> bool
+    ensures { result ≡ registers operator.now tariff.now event.now }
+{
+    match event {
+        Event::Tariff(stored) => stored.operator.is(operator) && same_tariff(stored, tariff),
+        _ => false,
+    }
+}
+
+fn is_registered(events: &[Event], operator: &Party, tariff: &Tariff) -> bool
+    ensures { result ≡ list_any (registers operator.now tariff.now) events.now }
+{
+    events
+        .iter()
+        .any(|event| registers(event, operator, tariff))
+}
+
+/// The first tariff of the CDR that is no stored version of its operator with the same content.
+pub fn unregistered(events: &[Event], cdr: &Cdr) -> Option<usize>
+    ensures { result ≡ position (λ tariff. not (list_any (registers cdr.now.operator tariff) events.now)) cdr.now.tariffs }
+{
+    cdr.tariffs
+        .as_slice()
+        .iter()
+        .position(|tariff| !is_registered(events, &cdr.operator, tariff))
+}
+
+/// The member in which a version that is stored differs from the tariff at this place.
+pub fn conflict(events: &[Event], place: Place, tariff: &Tariff) -> Option<Told> {
+    let at = stored_at(events, tariff)?;
+    let Event::Tariff(stored) = events.get(at)? else {
+        return None;
+    };
+    let place = place.then(differing_in_tariff(tariff, stored), None);
+    let told = Told::new(place, Cause::StoredOtherwise, Value::Nothing);
+    Some(told.by_event(Some(at)))
+}
+
+fn why_unregistered(events: &[Event], place: Place, operator: Party, tariff: &Tariff) -> Told {
+    if !tariff.operator.is(&operator) {
+        let found = Value::Party(tariff.operator);
+        let told = Told::new(place, Cause::OfAnotherOperator, found);
+        return told.against(Value::Party(operator));
+    }
+    match conflict(events, place, tariff) {
+        Some(told) => told,
+        None => Told::new(
+            place.then(Name::LastUpdated, None),
+            Cause::NotStored,
+            Value::Moment(tariff.last_updated),
+        ),
+    }
+}
+
+/// Which tariff of a CDR is not registered.
+pub fn not_registered(events: &[Event], cdr: &Cdr) -> Option<Told> {
+    let number = unregistered(events, cdr)?;
+    let tariff = cdr.tariffs.as_slice().get(number)?;
+    let place = Place::at(Name::Cdr).then(Name::Tariffs, Some(number));
+    Some(why_unregistered(events, place, cdr.operator, tariff))
+}

@@ -1,0 +1,34 @@
+//! Where a line stops being JSON.
+
+use crate::explain_lines::place::Place;
+use crate::explain_lines::telling::{Cause, Told, Value};
+use json::{Reader, Scratch};
+use std::alloc::{AllocError, Global};
+use std::str;
+
+/// How deep arrays and objects may nest.
+const MAX_DEPTH: usize = 127;
+
+fn begins_character(byte: &u8) -> bool {
+    *byte < 0x80 || 0xc0 <= *byte
+}
+
+// How many bytes are read when the reader stops: it stands at what is no JSON, or behind a mark that cannot stand there.
+fn read_bytes(alloc: Global, text: &str) -> Result<usize, AllocError> {
+    let mut scratch = Scratch::new(alloc);
+    let mut reader = Reader::new(text, &mut scratch)?;
+    let _ = reader.skip_value(MAX_DEPTH);
+    Ok(reader.offset())
+}
+
+/// The column at which a line that is no JSON stops being so, in characters.
+pub fn told(alloc: Global, line: &[u8]) -> Result<Told, AllocError> {
+    let (read, cause) = match str::from_utf8(line) {
+        Ok(text) => (read_bytes(alloc, text)?, Cause::NoJson),
+        Err(error) => (error.valid_up_to(), Cause::NoUtf8),
+    };
+    let before = &line[..read.min(line.len())];
+    let column = before.iter().filter(|byte| begins_character(byte)).count();
+    let place = Place::column(column.saturating_add(1));
+    Ok(Told::new(place, cause, Value::Nothing))
+}

@@ -1,0 +1,240 @@
+//! What is told of a line: where it is at fault, why, and by which values.
+
+use crate::explain_lines::place::Place;
+use exact_money::{Amount, Millionths};
+use jiff::Timestamp;
+use ocpi_json::ci_text::CiText;
+use ocpi_types::{Currency, Party, Store, TokenKind};
+use std::fmt;
+
+/// Why a reference is that of no open hold.
+#[derive(Clone, Copy)]
+pub enum NoHold {
+    NeverGiven,
+    GivenToAnother,
+    ReleasedAlready,
+    UsedUp,
+}
+
+/// Why a period cannot be closed, settled or stated.
+#[derive(Clone, Copy)]
+pub enum PeriodCause {
+    ClosedAlready,
+    NotCurrentYet,
+    NotClosedYet,
+    SettledAlready,
+}
+
+/// Why a line is turned down.
+#[derive(Clone, Copy)]
+pub enum Cause {
+    NoJson,
+    NoUtf8,
+    Missing,
+    Unfit,
+    NoOperator,
+    NoProvider,
+    NotConfigured,
+    NoHub,
+    ActsNotForParty,
+    NotCurrencyOfCdr,
+    BeforeItsFront,
+    IdOfNoTariff,
+    NotSupported,
+    Reserved,
+    NotSumOfEnergy,
+    RatedTooHigh,
+    FarFromRated,
+    StoredOtherwise,
+    BookedOtherwise,
+    OfAnotherOperator,
+    NotStored,
+    TokenNotPut,
+    OfAnotherType,
+    TokenNotValid,
+    AboveOwnLimit,
+    AbovePairLimit,
+    HoldAboveALimit,
+    NoHold(NoHold),
+    IdOfNoCdr,
+    IdOfCredit,
+    CreditedAlready,
+    BeforeTheWindow,
+    NotProviderOfCdr,
+    AboveZero,
+    FarFromNegated,
+    Period(PeriodCause),
+    Full(Store),
+    /// Nothing is found beside the refusal.
+    Untold,
+}
+
+fn words_of_hold(why: NoHold) -> &'static str {
+    match why {
+        NoHold::NeverGiven => "never given",
+        NoHold::GivenToAnother => "given to another operator",
+        NoHold::ReleasedAlready => "released already",
+        NoHold::UsedUp => "used up by a CDR",
+    }
+}
+
+fn words_of_period(why: PeriodCause) -> &'static str {
+    match why {
+        PeriodCause::ClosedAlready => "closed already",
+        PeriodCause::NotCurrentYet => "not the current one yet",
+        PeriodCause::NotClosedYet => "not closed yet",
+        PeriodCause::SettledAlready => "settled already",
+    }
+}
+
+fn words_of_full(what: Store) -> &'static str {
+    match what {
+        Store::Cdrs => "limits.cdrs reached",
+        Store::Tariffs => "limits.tariffs reached",
+        Store::Account => "limits.entries reached",
+        Store::Order => "limits.order reached",
+        Store::Periods => "limits.periods reached",
+    }
+}
+
+impl Cause {
+    /// The cause in words.
+    pub fn words(self) -> &'static str {
+        match self {
+            Cause::NoJson => "no JSON",
+            Cause::NoUtf8 => "no UTF-8",
+            Cause::Missing => "missing",
+            Cause::Unfit => "of a wrong kind or out of bounds",
+            Cause::NoOperator => "configured as no operator",
+            Cause::NoProvider => "configured as no provider",
+            Cause::NotConfigured => "not configured",
+            Cause::NoHub => "no hub",
+            Cause::ActsNotForParty => "does not act for the party",
+            Cause::NotCurrencyOfCdr => "not the currency of the CDR",
+            Cause::BeforeItsFront => "before the moment in front of it",
+            Cause::IdOfNoTariff => "id of no tariff of the CDR",
+            Cause::NotSupported => "bounds on current and power are not supported",
+            Cause::Reserved => "time of reservation",
+            Cause::NotSumOfEnergy => "not the sum of ENERGY",
+            Cause::RatedTooHigh => "rated above the largest amount",
+            Cause::FarFromRated => "farther from the rated cost than the tolerance",
+            Cause::StoredOtherwise => "stored with another one",
+            Cause::BookedOtherwise => "booked with another one",
+            Cause::OfAnotherOperator => "of another operator",
+            Cause::NotStored => "version that is not stored",
+            Cause::TokenNotPut => "token that is not put",
+            Cause::OfAnotherType => "put as of another type",
+            Cause::TokenNotValid => "token that is not valid",
+            Cause::AboveOwnLimit => "above the provider's limit",
+            Cause::AbovePairLimit => "above the limit with the operator",
+            Cause::HoldAboveALimit => "hold above a limit",
+            Cause::NoHold(why) => words_of_hold(why),
+            Cause::IdOfNoCdr => "id of no CDR of the operator",
+            Cause::IdOfCredit => "id of a Credit CDR",
+            Cause::CreditedAlready => "credited already",
+            Cause::BeforeTheWindow => "of a period before the credit window",
+            Cause::NotProviderOfCdr => "not the provider of the CDR",
+            Cause::AboveZero => "above 0",
+            Cause::FarFromNegated => "farther from the negated amount than the tolerance",
+            Cause::Period(why) => words_of_period(why),
+            Cause::Full(what) => words_of_full(what),
+            Cause::Untold => "",
+        }
+    }
+}
+
+/// A value of a line, or one that it is held against.
+#[derive(Clone, Copy)]
+pub enum Value {
+    Nothing,
+    Id(CiText<39>),
+    Reference(CiText<36>),
+    Party(Party),
+    Currency(Currency),
+    Kind(TokenKind),
+    Moment(Timestamp),
+    Number(u64),
+    Amount(Amount),
+    Decimal(Millionths),
+    /// A sum of energy in millionths of a kWh.
+    Energy(u128),
+}
+
+fn word(kind: TokenKind) -> &'static str {
+    match kind {
+        TokenKind::AdHocUser => "AD_HOC_USER",
+        TokenKind::AppUser => "APP_USER",
+        TokenKind::Other => "OTHER",
+        TokenKind::Rfid => "RFID",
+    }
+}
+
+/// Amounts with four decimals, volumes and declared costs with six.
+impl fmt::Display for Value {
+    fn fmt<W: fmt::Write>(&self, f: &mut fmt::Formatter<W>) -> fmt::Result {
+        match self {
+            Value::Nothing => Ok(()),
+            Value::Id(id) => f.write_str(id.as_str()),
+            Value::Reference(reference) => f.write_str(reference.as_str()),
+            Value::Party(party) => write!(f, "{party}"),
+            Value::Currency(currency) => f.write_str(currency.as_str()),
+            Value::Kind(kind) => f.write_str(word(*kind)),
+            Value::Moment(moment) => write!(f, "{moment}"),
+            Value::Number(number) => write!(f, "{number}"),
+            Value::Amount(amount) => write!(f, "{amount}"),
+            Value::Decimal(value) => write_decimal(
+                f,
+                value.get() < 0,
+                u128::from(value.get().unsigned_abs()),
+            ),
+            Value::Energy(millionths) => write_decimal(f, false, *millionths),
+        }
+    }
+}
+
+fn write_decimal<W: fmt::Write>(
+    f: &mut fmt::Formatter<W>,
+    is_negative: bool,
+    millionths: u128,
+) -> fmt::Result {
+    let sign = if is_negative { "-" } else { "" };
+    let whole = millionths / 1_000_000;
+    let decimals = millionths % 1_000_000;
+    write!(f, "{sign}{whole}.{decimals:06}")
+}
+
+/// What is told of a line that is turned down.
+#[derive(Clone, Copy)]
+pub struct Told {
+    pub place: Place,
+    pub cause: Cause,
+    /// What the line has there.
+    pub found: Value,
+    /// What it is held against.
+    pub against: Value,
+    /// The number of the event by which the house knows otherwise, from 0.
+    pub event: Option<usize>,
+}
+
+impl Told {
+    /// A place, a cause, and what the line has there.
+    pub fn new(place: Place, cause: Cause, found: Value) -> Told {
+        Told {
+            place,
+            cause,
+            found,
+            against: Value::Nothing,
+            event: None,
+        }
+    }
+
+    /// The same, with what it is held against.
+    pub fn against(self, against: Value) -> Told {
+        Told { against, ..self }
+    }
+
+    /// The same, with the number of an event.
+    pub fn by_event(self, event: Option<usize>) -> Told {
+        Told { event, ..self }
+    }
+}

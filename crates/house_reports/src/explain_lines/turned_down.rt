@@ -1,0 +1,36 @@
+//! The replies that turn a line down.
+
+ghost use Rattle.std.specs.Prelude.{◌≡◌, option_map};
+ghost use Rattle.house_reports.specs.explain_lines.TurnedDown.{turned_down, turned_down_by};
+
+use plain_house::{Answer, Refused, Replied};
+
+fn turned_down_by(answer: &Answer) -> Option<&'static str>
+    ensures { option_map (λ name. name.now) result ≡ turned_down_by answer.now }
+{
+    match answer {
+        Answer::Blocked => Some("BLOCKED"),
+        Answer::NoCredit => Some("NO_CREDIT"),
+        Answer::Stored
+        | Answer::Unchanged
+        | Answer::Allowed { .. }
+        | Answer::Released { .. }
+        | Answer::Accepted { .. }
+        | Answer::Repeated { .. }
+        | Answer::Closed { .. }
+        | Answer::Settled { .. }
+        | Answer::Exposure { .. }
+        | Answer::Found { .. }
+        | Answer::Statement { .. } => None,
+    }
+}
+
+/// The name on the answer line of a reply that turns its line down.
+pub fn turned_down(reply: &Result<Replied, Refused>) -> Option<&'static str>
+    ensures { option_map (λ name. name.now) result ≡ turned_down reply.now }
+{
+    match reply {
+        Ok(replied) => turned_down_by(&replied.answer),
+        Err(refused) => Some(refused.refusal.name()),
+    }
+}
