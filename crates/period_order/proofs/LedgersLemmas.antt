@@ -29,13 +29,13 @@ use Rattle.period_order.specs.Resolved.{entries_of_accounts, entries_of_books}
 use Rattle.period_order.proofs.PerformLemmas.{account_size_is, book_size_is}
 
 -- the last event of a legal list is given on those before it
-last_given : (config : Config) (events : List Event) (e : Event) → IsLegal config (events ++ e ∷ []) → IsGiven config events e
+pub last_given : (config : Config) (events : List Event) (e : Event) → IsLegal config (events ++ e ∷ []) → IsGiven config events e
 unfolding IsLegal
 last_given config events e legal = legal events e [] refl
 
 -- ---- the parties of an event are those of its command
 
-same_operator : (told : Command) (e : Event) → IsOfCommand told e → operator_of_command told ≡ operator_of_event e
+pub same_operator : (told : Command) (e : Event) → IsOfCommand told e → operator_of_command told ≡ operator_of_event e
 same_operator told (event.Tariff tariff) own = own.0
 same_operator told (event.Token token) own = own.0
 same_operator told (event.Authorised hold) own = own.0
@@ -45,7 +45,7 @@ same_operator told (event.Credit cdr amount) own = own.0
 same_operator told (event.Settled settlement) own = own.0
 same_operator told (event.Closed period) own = own.0
 
-same_provider : (told : Command) (e : Event) → IsOfCommand told e → provider_of_command told ≡ provider_of_event e
+pub same_provider : (told : Command) (e : Event) → IsOfCommand told e → provider_of_command told ≡ provider_of_event e
 same_provider told (event.Tariff tariff) own = own.1
 same_provider told (event.Token token) own = own.1
 same_provider told (event.Authorised hold) own = own.1

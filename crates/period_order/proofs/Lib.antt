@@ -4,6 +4,7 @@ pub mod DecidesLemmas
 pub mod DuesLemmas
 pub mod EachLemmas
 pub mod EntriesLemmas
+pub mod GivesLemmas
 pub mod HouseLemmas
 pub mod KeptLemmas
 pub mod LawLemmas

@@ -89,7 +89,8 @@ impl Ledgers {
         })
     }
 
-    /// Puts an event as it is given. False where its book or its account cannot take it.
+    /// Puts an event as it is given. False where its book or its account cannot take it, as no event is with which a list that
+    /// they keep stays legal.
     ///
     /// # Errors
     ///
@@ -98,6 +99,8 @@ impl Ledgers {
         ensures config { self.new.config ≡ self.old.config }
         ensures put { IfOk result (λ is_put. is_put ≡ true → (events : List Event) → Keep self.old events →
             IsLegal self.old.config (events ++ event.now ∷ []) → Keep self.new (events ++ event.now ∷ [])) }
+        ensures legal { IfOk result (λ is_put. (events : List Event) → Keep self.old events →
+            IsLegal self.old.config (events ++ event.now ∷ []) → is_put ≡ true) }
     {
         let (books, accounts) = (&mut self.books, &mut self.accounts);
         put::put(&self.config, books, accounts, &mut self.order, event)

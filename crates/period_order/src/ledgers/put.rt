@@ -20,7 +20,7 @@ use crate::order::Order;
 use cdr_checks::commands_have_parties;
 use ocpi_types::{Config, TryCopy};
 use operator_book::Book;
-use plain_house::{Event, events_are_of_their_command};
+use plain_house::{Event, events_are_of_their_command, verdicts_are_of_own_entries};
 use provider_account::Account;
 use std::alloc::AllocError;
 
@@ -54,8 +54,8 @@ fn add(
     put_in_books(books, book, event, period);
 }
 
-/// Puts the event where its book and its account are there and take it: behind each legal list that books, accounts and order
-/// keep, if the list with the event is legal.
+/// Puts the event where its book and its account are there and take it, as they do behind each legal list that books, accounts
+/// and order keep, if the list with the event is legal.
 pub fn put(
     config: &Config,
     books: &mut Vec<Book>,
@@ -67,10 +67,13 @@ pub fn put(
     ensures each { OneEach config.now (entries_of_books books.new.items) (entries_of_accounts accounts.new.items) }
     ensures put { IfOk result (λ is_put. is_put ≡ true → (events : List Event) → AreKept config.now books.old.items accounts.old.items order.old events →
         IsLegal config.now (events ++ event.now ∷ []) → AreKept config.now books.new.items accounts.new.items order.new (events ++ event.now ∷ [])) }
+    ensures legal { IfOk result (λ is_put. (events : List Event) → AreKept config.now books.old.items accounts.old.items order.old events →
+        IsLegal config.now (events ++ event.now ∷ []) → is_put ≡ true) }
 {
     commands_have_parties();
     events_are_kept();
     events_are_of_their_command();
+    verdicts_are_of_own_entries();
     config.has_distinct_parts();
     let book = book_of_event(config, event);
     let account = account_of_event(config, event);

@@ -1,8 +1,9 @@
 //! Whether a book and an account take an event.
 
-ghost use Rattle.std.specs.Prelude.{◌≡◌, ◌<◌, ℕ, length, true, IfSome};
+ghost use Rattle.std.specs.Prelude.{◌≡◌, ◌↔◌, ◌<◌, ℕ, length, true, IfSome};
 ghost use Rattle.plain_house.specs.declared.event.Event.TheVariants as event;
 ghost use Rattle.period_order.specs.Decided.{AccountTakes, BookTakes};
+ghost use Rattle.period_order.specs.Inner.Gives.{AccountGives, AccountGivesAt};
 ghost use Rattle.period_order.specs.Inner.Kept.{AccountTakesAt, BookTakesAt};
 
 use crate::decision::authorize::hold_within;
@@ -16,7 +17,7 @@ use provider_account::Account;
 
 // No tariff version is stored twice.
 fn is_taken_by_book(book: &Book, event: &Event) -> bool
-    ensures { result ≡ true → BookTakes book.now.entries event.now }
+    ensures { (result ≡ true) ↔ BookTakes book.now.entries event.now }
 {
     match event {
         Event::Tariff(tariff) => book.judge_tariff(tariff).is_none(),
@@ -32,7 +33,8 @@ fn is_taken_by_book(book: &Book, event: &Event) -> bool
 
 // The hold is the one that an authorisation would be given, of whatever token.
 fn is_next_hold(config: &Config, account: &Account, hold: &Hold) -> bool
-    ensures { result ≡ true → (period : ℕ) → AccountTakes account.now.entries period (event.Authorised hold.now) }
+    ensures takes { result ≡ true → (period : ℕ) → AccountTakes account.now.entries period (event.Authorised hold.now) }
+    ensures given { (period : ℕ) → AccountGives config.now account.now.entries period (event.Authorised hold.now) → result ≡ true }
 {
     let ask = Authorize {
         operator: hold.operator,
@@ -49,7 +51,8 @@ fn is_next_hold(config: &Config, account: &Account, hold: &Hold) -> bool
 
 // A hold is the provider's next, and no exposure passes its limit.
 fn is_taken_by_account(config: &Config, account: &Account, period: u64, event: &Event) -> bool
-    ensures { result ≡ true → AccountTakes account.now.entries period event.now }
+    ensures takes { result ≡ true → AccountTakes account.now.entries period event.now }
+    ensures given { AccountGives config.now account.now.entries period event.now → result ≡ true }
 {
     match event {
         Event::Authorised(hold) => is_next_hold(config, account, hold),
@@ -69,6 +72,7 @@ fn is_taken_by_account(config: &Config, account: &Account, period: u64, event: &
 pub fn book_takes(books: &[Book], number: Option<usize>, event: &Event) -> bool
     ensures within { result ≡ true → IfSome number (λ n. n < length books.now) }
     ensures takes { result ≡ true → BookTakesAt books.now number event.now }
+    ensures taken { IfSome number (λ n. n < length books.now) → BookTakesAt books.now number event.now → result ≡ true }
 {
     let Some(number) = number else {
         return true;
@@ -89,6 +93,7 @@ pub fn account_takes(
 ) -> bool
     ensures within { result ≡ true → IfSome number (λ n. n < length accounts.now) }
     ensures takes { result ≡ true → AccountTakesAt accounts.now number period event.now }
+    ensures given { IfSome number (λ n. n < length accounts.now) → AccountGivesAt config.now accounts.now number period event.now → result ≡ true }
 {
     let Some(number) = number else {
         return true;

@@ -1,4 +1,4 @@
-use Rattle.std.proofs.Common.{◌≡◌, ℕ, List, [], ◌∷◌, ◌++◌, Option, slice_get, count_by, ap, ap₂, sym, subst, ◌∙◌}
+use Rattle.std.proofs.Common.{◌≡◌, ◌<◌, ℕ, List, [], ◌∷◌, ◌++◌, Option, length, slice_get, count_by, ap, ap₂, sym, subst, ◌∙◌, IfSome}
 use Rattle.std.specs.Option.{option_and_then}
 use Rattle.operator_book.specs.State.{PlainBook}
 use Rattle.provider_account.specs.State.{PlainAccount}
@@ -6,13 +6,15 @@ use Rattle.plain_house.specs.declared.event.Event.{Event}
 use Rattle.plain_house.specs.Entries.{account_entry, book_entry}
 use Rattle.period_order.specs.Decided.{account_length, book_length}
 use Rattle.period_order.specs.Inner.EventParties.{account_of_event, book_of_event}
+use Rattle.period_order.specs.Inner.Gives.{AccountGivesAt}
 use Rattle.period_order.specs.Inner.Kept.{AccountTakesAt, BookTakesAt}
 use Rattle.period_order.specs.Kept.{with_added}
 use Rattle.period_order.specs.Order.{current_of, is_close_entry}
 use Rattle.period_order.specs.Places.{order_entry}
 use Rattle.period_order.specs.Resolved.{entries_of_accounts, entries_of_books}
 use Rattle.period_order.proofs.EachLemmas.{account_still_takes, book_still_takes}
-use Rattle.period_order.proofs.LedgersLemmas.{keeps_given}
+use Rattle.period_order.proofs.GivesLemmas.{is_taken}
+use Rattle.period_order.proofs.LedgersLemmas.{keeps_given, last_given}
 use Rattle.period_order.proofs.PerformLemmas.{kept_still}
 use Rattle.period_order.proofs.ledgers.put.put.Goals as goal
 
@@ -54,3 +56,35 @@ returns-clause-put c = λ told events keeps legal.
     (account_length (option_and_then (slice_get accounts) (account_of_event config e))) x ∷ []) c.in_ok-event.ensures in
     keeps_given config books accounts order events before e c.commands_have_parties.ensures c.events_are_of_their_command.ensures c.events_are_kept.ensures
     (record { operators = c.has_distinct_parts.ensures.operators; providers = c.has_distinct_parts.ensures.providers }) legal _ _ _ now_books now_accounts now_order
+
+pub returns-then-not-book_takes-clause-legal : goal.returns-then-not-book_takes-clause-legal
+returns-then-not-book_takes-clause-legal c = λ told keeps legal.
+    let config = c.args.config.now in
+    let books = c.args.books.now.items in
+    let e = c.args.event.now in
+    let taken = is_taken config books c.args.accounts.now.items c.args.order.now told keeps e c.commands_have_parties.ensures
+    c.events_are_of_their_command.ensures c.verdicts_are_of_own_entries.ensures (last_given config told e legal) in
+    let number = sym c.book_of_event-book.ensures in
+    let slice = sym c.as_slice.ensures.value in
+    c.if-not-book_takes.ensures.taken
+    (subst (λ (l : List PlainBook). IfSome c.book_of_event-book.result (λ n. n < length l)) slice
+    (subst (λ (o : Option ℕ). IfSome o (λ n. n < length books)) number taken.in_books))
+    (subst (λ (l : List PlainBook). BookTakesAt l c.book_of_event-book.result e) slice
+    (subst (λ (o : Option ℕ). BookTakesAt books o e) number taken.book))
+
+pub returns-then-not-account_takes-clause-legal : goal.returns-then-not-account_takes-clause-legal
+returns-then-not-account_takes-clause-legal c = λ told keeps legal.
+    let config = c.args.config.now in
+    let accounts = c.args.accounts.now.items in
+    let order = c.args.order.now in
+    let e = c.args.event.now in
+    let taken = is_taken config c.args.books.now.items accounts order told keeps e c.commands_have_parties.ensures
+    c.events_are_of_their_command.ensures c.verdicts_are_of_own_entries.ensures (last_given config told e legal) in
+    let number = sym c.account_of_event-account.ensures in
+    let slice = sym c.as_slice-2.ensures.value in
+    c.if-not-account_takes.ensures.given
+    (subst (λ (l : List PlainAccount). IfSome c.account_of_event-account.result (λ n. n < length l)) slice
+    (subst (λ (o : Option ℕ). IfSome o (λ n. n < length accounts)) number taken.in_accounts))
+    (subst (λ (n : ℕ). AccountGivesAt config c.as_slice-2.result.now c.account_of_event-account.result n e) (sym c.current-period.ensures)
+    (subst (λ (l : List PlainAccount). AccountGivesAt config l c.account_of_event-account.result (current_of order) e) slice
+    (subst (λ (o : Option ℕ). AccountGivesAt config accounts o (current_of order) e) number taken.account)))
