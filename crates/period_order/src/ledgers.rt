@@ -89,8 +89,8 @@ impl Ledgers {
         })
     }
 
-    /// Puts an event as it is given. False where its book or its account cannot take it, as no event is with which a list that
-    /// they keep stays legal.
+    /// Puts an event as it is given. False where its book or its account cannot take it; they take each event with which a list
+    /// that they keep stays legal.
     ///
     /// # Errors
     ///
