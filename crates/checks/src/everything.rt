@@ -2,8 +2,7 @@
 
 use crate::fault::Fault;
 use crate::houses::Choice;
-use crate::measures::Asked;
-use crate::{copies, houses, json_rows, measures, readings, shared};
+use crate::{copies, houses, json_rows, readings, shared};
 use house_program::open_file;
 use std::sync::Wait;
 use std::thread::Threads;
@@ -36,6 +35,5 @@ pub fn perform(
     copies::copy_input(rt, open_file(rt, "cdrs.jsonl")?)?;
     readings::compare_lines(rt, open_file(rt, "readings.jsonl")?)?;
     answer_by_all(rt, threads)?;
-    shared::tell_changes(rt, threads, "config.json", open_file(rt, "lines.jsonl")?)?;
-    measures::measure(rt, threads, &Asked::everything())
+    shared::tell_changes(rt, threads, "config.json", open_file(rt, "lines.jsonl")?)
 }

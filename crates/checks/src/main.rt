@@ -1,4 +1,4 @@
-//! A developer's program: it shows what no contract says, and measures. Its words say what:
+//! A developer's program: it shows what no contract says. Its words say what:
 //!
 //! - `plain CONFIG`, `books CONFIG` and `shared CONFIG` answer the lines of standard input, by the house of one list of events, by
 //!   that of books and accounts, or by one pass of the house that threads share, whose calls are certified in the end.
@@ -14,7 +14,6 @@
 //!   `BookHeld(0)`, while those of the third are answered; `often CONFIG TIMES EVENTS FILE..` answers the files' lines by a worker
 //!   each, so many times by a new house, which is to have so many events. All calls are certified.
 //! - `copies` copies what standard input has, and `readings` reads each of its lines in two ways.
-//! - `measure [SUBJECT [PART [NUMBER]]]` does the work that is measured.
 //! - `json` tells row by row whether `ocpi_json` reads and keeps texts as expected.
 //!
 //! Without words it does a bit of everything. A fault is told on standard error, with status 2 for words of another form
@@ -28,7 +27,6 @@ mod files;
 mod growths;
 mod houses;
 mod json_rows;
-mod measures;
 mod readings;
 mod shared;
 mod words;
@@ -72,7 +70,6 @@ fn perform<'a>(
         } => shared::answer_often(rt, threads, config, times, events, files),
         Job::Copies => copies::copy_input(rt, rt.stdin()),
         Job::Readings => readings::compare_lines(rt, rt.stdin()),
-        Job::Measure(asked) => measures::measure(rt, threads, &asked),
         Job::Json => json_rows::tell_rows(rt),
     }
 }

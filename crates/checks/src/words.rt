@@ -2,7 +2,6 @@
 
 use crate::fault::Fault;
 use crate::houses::Choice;
-use crate::measures::Asked;
 
 /// What the program is to do.
 #[derive(Clone, Copy)]
@@ -48,8 +47,6 @@ pub enum Job<'a> {
 
     Readings,
 
-    Measure(Asked<'a>),
-
     Json,
 }
 
@@ -80,7 +77,6 @@ pub fn job_of(words: &[String]) -> Result<Job<'_>, Fault<'static>> {
         ("copies", []) => Some(Job::Copies),
         ("readings", []) => Some(Job::Readings),
         ("json", []) => Some(Job::Json),
-        ("measure", others) => Asked::of(others).map(Job::Measure),
         ("growths", [config]) => Some(Job::Growths {
             config: config.as_str(),
         }),
