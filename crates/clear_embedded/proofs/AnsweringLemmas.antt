@@ -1,6 +1,6 @@
 -- A line that is answered, by what is given of the reply that is kept then.
-use Rattle.std.proofs.Common.{◌≡◌, List, ℕ, refl, sym, subst}
-use Rattle.std.specs.Prelude.{Some, None}
+use Rattle.std.proofs.Common.{◌≡◌, List, ℕ, sym, subst}
+use Rattle.std.specs.Prelude.{None}
 use Rattle.plain_house.specs.Replies.{Reply}
 use Rattle.request_lines.specs.AnswerText.{answer_text}
 use Rattle.request_lines.specs.Script.{answer_of}

@@ -1,5 +1,5 @@
 -- `of` hands over what the pointer owns.
-use Rattle.std.proofs.Common.{◌≡◌, List, [], ◌∷◌, ◌++◌, refl, sym, subst}
+use Rattle.std.proofs.Common.{List, [], ◌∷◌, ◌++◌, refl, sym, subst}
 use Rattle.std.specs.Prelude.{Some}
 use mir.Val.{Val, vptr}
 use base.Logic.{SProp, ent, id⊢}
