@@ -48,8 +48,6 @@ pub enum Fault<'a> {
     /// A line is read in one way as it stands, and in another as its marked text.
     ReadDifferently,
 
-    NotMeasured,
-
     /// A row that was told is not as expected.
     NotAsExpected,
 }
@@ -134,7 +132,6 @@ pub fn tell(rt: &HostRuntime, fault: &Fault<'_>) -> io::Result<()> {
         Fault::NoCopy => eprintln!(rt; "checks: no copy"),
         Fault::NotCompared => eprintln!(rt; "checks: not compared"),
         Fault::ReadDifferently => eprintln!(rt; "checks: read differently"),
-        Fault::NotMeasured => eprintln!(rt; "checks: not measured"),
         Fault::NotAsExpected => eprintln!(rt; "checks: not as expected"),
     }
 }

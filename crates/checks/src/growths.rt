@@ -3,6 +3,7 @@
 //! A line of output begins with the number of the line and the kind of house. The command is done right behind the colon and the
 //! space that follow, so that `tests/refused_commands` can refuse the requests for memory from there up to the next write, and no others.
 
+mod doing;
 mod listed;
 mod stepped;
 mod telling;
@@ -11,7 +12,7 @@ mod trial;
 use crate::fault::Fault;
 use crate::files::config_in;
 use crate::shared;
-pub use listed::command_in;
+pub use doing::{Doing, announced_reply, do_lines, is_done_again};
 use listed::{Lists, try_listed};
 use ocpi_types::{Config, TryCopy};
 use period_order::BookHouse;
@@ -20,7 +21,7 @@ use std::io::Read;
 use std::sync::Wait;
 use std::thread::Threads;
 use stepped::try_steps;
-pub use telling::{announce, tell, told};
+pub use telling::tell;
 pub use trial::{Outcome, Trial};
 
 fn try_list(rt: &HostRuntime, config: &Config, trial: &Trial<'_>) -> Result<(), Fault<'static>> {

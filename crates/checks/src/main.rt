@@ -8,8 +8,6 @@
 //!   house goes on to which memory was refused for that command: `tests/refused_commands` refuses it each request in turn.
 //! - `changes CONFIG` answers them in the third way, and tells what is certified of the order, the books, the accounts and the
 //!   calls, as they are and with one change each.
-//! - `at-once CONFIG FILE..` makes the calls of the files' lines, each file by a pass and on a thread of its own, and tells how
-//!   many were made in a second.
 //! - `held CONFIG PLACE FILE FILE FILE FILE` answers the lines of four files, those of the second held up at the place, as
 //!   `BookHeld(0)`, while those of the third are answered; `often CONFIG TIMES EVENTS FILE..` answers the files' lines by a worker
 //!   each, so many times by a new house, which is to have so many events. All calls are certified.
@@ -56,7 +54,6 @@ fn perform<'a>(
         Job::Answer(choice) => houses::answer_lines(rt, threads, choice, rt.stdin()),
         Job::Growths { config } => growths::try_commands(rt, threads, config, rt.stdin()),
         Job::Changes { config } => shared::tell_changes(rt, threads, config, rt.stdin()),
-        Job::AtOnce { config, files } => shared::call_at_once(rt, threads, config, files),
         Job::Held {
             config,
             place,

@@ -1,7 +1,6 @@
-//! A house that threads share: lines answered by one pass of it, what its check says of changed values, calls of several passes
-//! at once, a call that is held up while another is answered, and workers that answer the same lines often.
+//! A house that threads share: lines answered by one pass of it, what its check says of changed values, a call that is held up
+//! while another is answered, and workers that answer the same lines often.
 
-mod at_once;
 mod caller;
 mod changes;
 mod ending;
@@ -73,17 +72,6 @@ pub fn tell_changes<'a, R: Threads + Wait + Sync, S: Read + Drop>(
         next: Next::Gather,
     };
     with_house(rt, threads, config, work, &mut reader, &mut writer)
-}
-
-/// Makes the calls of the files' lines, each file by a pass and on a thread of its own.
-pub fn call_at_once<'a, R: Threads + Wait + Sync>(
-    rt: &HostRuntime,
-    threads: &R,
-    path: &'a str,
-    files: &[String],
-) -> Result<(), Fault<'a>> {
-    let config = config_in(rt, path)?;
-    do_by_house(rt, threads, config, Work::AtOnce { files })
 }
 
 /// Has a pass of a new house do the last line of the trial, and perhaps once more where memory is refused, and ends the house.

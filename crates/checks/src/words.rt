@@ -22,12 +22,6 @@ pub enum Job<'a> {
         config: &'a str,
     },
 
-    /// Makes the calls of the files' lines at once.
-    AtOnce {
-        config: &'a str,
-        files: &'a [String],
-    },
-
     /// Answers the lines of four files, of which the second's are held up at the place of this name.
     Held {
         config: &'a str,
@@ -82,10 +76,6 @@ pub fn job_of(words: &[String]) -> Result<Job<'_>, Fault<'static>> {
         }),
         ("changes", [config]) => Some(Job::Changes {
             config: config.as_str(),
-        }),
-        ("at-once", [config, files @ ..]) => Some(Job::AtOnce {
-            config: config.as_str(),
-            files,
         }),
         ("held", [config, place, files @ ..]) => Some(Job::Held {
             config: config.as_str(),

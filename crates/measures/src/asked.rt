@@ -101,3 +101,13 @@ impl<'a> Asked<'a> {
         self.file
     }
 }
+
+/// The configuration's path and the files whose calls are to be made at once, if the words ask for that.
+pub fn calls_at_once(words: &[String]) -> Option<(&str, &[String])> {
+    match words {
+        [subject, config, files @ ..] if subject.as_str() == "at_once" => {
+            Some((config.as_str(), files))
+        }
+        _ => None,
+    }
+}

@@ -1,18 +1,17 @@
 //! Houses that are told one command after another, and whose events can be listed.
 
-ghost use Rattle.std.specs.Prelude.{◌≡◌, IfSome};
-ghost use Rattle.cdr_checks.specs.Admission.{IsAdmitted};
+ghost use Rattle.std.specs.Prelude.{◌≡◌};
 
-use super::telling::{announce, tell, told};
+use super::doing::{Doing, announced_reply, do_lines, is_done_again};
+use super::telling::tell;
 use super::trial::{Outcome, Trial};
 use crate::fault::Fault;
-use cdr_checks::Command;
 use ocpi_json::Room;
 use ocpi_json::same::are_same;
 use ocpi_types::{Config, TryCopy};
 use period_order::BookHouse;
-use plain_house::{Event, PlainHouse, Refused, Replied, Sequential, is_out_of_memory};
-use request_lines::{command_of, reply_to};
+use plain_house::{Event, PlainHouse, Refused, Replied, is_out_of_memory};
+use request_lines::reply_to;
 use std::alloc::{AllocError, Global};
 
 /// A house whose events can be listed.
@@ -98,75 +97,21 @@ impl Lists {
     }
 }
 
-/// The command of the line, if it has one.
-pub fn command_in(alloc: Global, config: &Config, line: &str) -> Option<Command>
-    ensures { IfSome result (IsAdmitted config.now) }
-{
-    let mut room = Room::new(alloc);
-    match command_of(alloc, &mut room, config, line.as_bytes()) {
-        Ok(command) => Some(command),
-        Err(_) => None,
-    }
-}
-
-fn do_lines<S: Sequential>(alloc: Global, config: &Config, house: &mut S, lines: &[&str])
-    requires { S.config house.old ≡ config.now }
-    ensures { S.config house.new ≡ S.config house.old }
-{
-    let mut room = Room::new(alloc);
-    for line in lines {
-        let _ = reply_to(alloc, &mut room, config, house, (*line).as_bytes());
-    }
-}
-
-// The reply to the line's command, right behind the announcement.
-fn announced_reply<S: Sequential>(
-    rt: &HostRuntime,
-    config: &Config,
-    house: &mut S,
-    kind: &str,
-    trial: &Trial<'_>,
-) -> Option<Result<Replied, Refused>>
-    requires { S.config house.old ≡ config.now }
-    ensures { S.config house.new ≡ S.config house.old }
-{
-    let command = command_in(rt.alloc(), config, trial.line)?;
-    if announce(rt, trial, kind).is_err() {
-        return None;
-    }
-    told(rt, house.do_command(command))
-}
-
-// Whether the command is done as expected once more, where nothing has changed.
-fn is_done_again<S: Sequential + Listed>(
+// How the house did the command to which this is the reply. Where memory was refused, nothing is to have changed, and the command is
+// done once more.
+fn outcome<D: Doing + Listed>(
     alloc: Global,
     config: &Config,
-    house: &mut S,
-    trial: &Trial<'_>,
-) -> bool
-    requires { S.config house.old ≡ config.now }
-{
-    if !house.has_events(alloc, trial.events_before) {
-        return false;
-    }
-    let mut room = Room::new(alloc);
-    let reply = reply_to(alloc, &mut room, config, house, trial.line.as_bytes());
-    trial.is_expected(&reply)
-}
-
-// How the house did the command to which this is the reply, and does it once more where memory was refused.
-fn outcome<S: Sequential + Listed>(
-    alloc: Global,
-    config: &Config,
-    house: &mut S,
+    house: &mut D,
     trial: &Trial<'_>,
     reply: &Result<Replied, Refused>,
 ) -> Outcome
-    requires { S.config house.old ≡ config.now }
+    requires { D.config house.old ≡ config.now }
 {
     let outcome = if is_out_of_memory(reply) {
+        let is_unchanged = house.has_events(alloc, trial.events_before);
         let is_done = is_done_again(alloc, config, house, trial);
-        Outcome::only_if(is_done, Outcome::UnchangedAndDone)
+        Outcome::only_if(is_unchanged && is_done, Outcome::UnchangedAndDone)
     } else {
         Outcome::only_if(trial.is_expected(reply), Outcome::Done)
     };
@@ -174,14 +119,14 @@ fn outcome<S: Sequential + Listed>(
 }
 
 /// Does the lines by an empty house of this kind, and tells how it does the last one.
-pub fn try_listed<S: Sequential + Listed>(
+pub fn try_listed<D: Doing + Listed>(
     rt: &HostRuntime,
     config: &Config,
-    house: &mut S,
+    house: &mut D,
     kind: &str,
     trial: &Trial<'_>,
 ) -> Result<(), Fault<'static>>
-    requires { S.config house.old ≡ config.now }
+    requires { D.config house.old ≡ config.now }
 {
     do_lines(rt.alloc(), config, house, trial.before);
     let outcome = match announced_reply(rt, config, house, kind, trial) {

@@ -1,7 +1,6 @@
 //! The end of a house that has done its work.
 
-use super::at_once::Certifying;
-use super::{at_once, growths, missing_pass};
+use super::{growths, missing_pass};
 use crate::fault::Fault;
 use crate::growths::{Outcome, Trial};
 use shared_house::{Ended, FinishFault};
@@ -16,9 +15,6 @@ pub enum Ending<'a> {
 
     /// It is told how the house ends.
     MissingPass,
-
-    /// It is told how fast the calls are certified.
-    AtOnce(Certifying),
 
     /// The call is to have been held up.
     Held {
@@ -71,7 +67,6 @@ impl Ending<'_> {
         match self {
             Ending::Lines { is_again } => end_lines(ended, is_again),
             Ending::MissingPass => missing_pass::tell(rt, ended),
-            Ending::AtOnce(certifying) => at_once::tell(rt, certifying, ended),
             Ending::Held { was_held } => end_held(ended, was_held),
             Ending::Growths { trial, outcome } => growths::tell_ended(rt, trial, outcome, ended),
             Ending::Texts { events } => end_texts(ended, events),

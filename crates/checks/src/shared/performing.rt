@@ -1,7 +1,7 @@
 //! What is done by a house and its passes.
 
 use super::ending::Ending;
-use super::{at_once, growths, held, missing_pass, one_pass, workers};
+use super::{growths, held, missing_pass, one_pass, workers};
 use crate::fault::Fault;
 use crate::growths::Trial;
 use request_lines::{Sink, Source};
@@ -31,11 +31,6 @@ pub enum Work<'a> {
     /// The house loses one of two passes.
     MissingPass,
 
-    /// The calls of files' lines are made at once, each file's by a pass.
-    AtOnce {
-        files: &'a [String],
-    },
-
     /// A call is held up at a place while another pass is answered.
     Held {
         place: Place,
@@ -61,7 +56,6 @@ impl Work<'_> {
         match self {
             Work::Lines { .. } | Work::Growths { .. } => 1,
             Work::MissingPass => 2,
-            Work::AtOnce { files } => files.len(),
             Work::Held { .. } => held::FILES,
             Work::Texts { texts, .. } => texts.len(),
         }
@@ -96,7 +90,6 @@ where
             missing_pass::lose_last(passes);
             Ok(Next::Finish(Ending::MissingPass))
         }
-        Work::AtOnce { files } => at_once::measure(rt, threads, house, passes, files),
         Work::Held { place, files } => held::answer(rt, threads, house, passes, place, files),
         Work::Growths { trial, is_again } => {
             let outcome = growths::outcome(rt, threads, house, passes, trial, is_again);

@@ -1,5 +1,0 @@
-use Rattle.cdr_costs.proofs.explain_cost.SameSums.{rows_add_up_lem}
-use Rattle.cdr_costs.proofs.explain_cost.laws.rows_add_up.Goals as goal
-
-pub returns : goal.returns
-returns c = rows_add_up_lem

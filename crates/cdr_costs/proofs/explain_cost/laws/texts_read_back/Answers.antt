@@ -1,5 +1,0 @@
-use Rattle.cdr_costs.proofs.explain_cost.DigitValues.{texts_read_back_lem}
-use Rattle.cdr_costs.proofs.explain_cost.laws.texts_read_back.Goals as goal
-
-pub returns : goal.returns
-returns c = texts_read_back_lem

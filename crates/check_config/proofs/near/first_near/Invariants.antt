@@ -1,6 +1,0 @@
-use Rattle.std.proofs.Common.{◌≡◌, drop, find}
-use Rattle.check_config.specs.Known.{is_near}
-use Rattle.check_config.proofs.near.first_near.Given as goal
-
-abbrev pub invariant-loop-name : goal.invariant-loop-name
-invariant-loop-name l = find (is_near l.key) l.names ≡ find (is_near l.key) (drop l.name-index l.names)

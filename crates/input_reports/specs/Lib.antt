@@ -1,0 +1,5 @@
+pub mod CdrText
+pub mod Rate
+pub mod check_config
+pub mod explain_cost
+pub mod re_rate

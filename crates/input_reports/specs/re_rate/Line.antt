@@ -1,0 +1,28 @@
+-- A line of records: what was booked, a space, and the CDR as JSON.
+use Rattle.std.specs.Prelude.{ℕ, ℤ, pos, int_div, int_rem, ◌==◌, List, Bool, Option, Some, None, option_and_then, Result, Ok, if◌then◌else◌}
+use Rattle.std.specs.List.{before_first, after_first}
+use Rattle.std.specs.Option.{ok_or}
+use Rattle.std.specs.Ordering.{int_eq}
+use Rattle.exact_money.specs.Millionths.{millionths_of}
+use Rattle.re_rating.specs.declared.records.Record.{Record}
+use Rattle.input_reports.specs.CdrText.{◌>>=◌, cdr_of}
+use Rattle.input_reports.specs.declared.fault.Fault.{Fault}
+use Rattle.input_reports.specs.declared.fault.Fault.TheVariants.{NoAmount}
+
+-- of millionths that make whole ten-thousandths, these
+abbrev pub whole_ten_thousandths : ℤ → Option ℤ
+whole_ten_thousandths millionths = if int_eq (int_rem millionths (pos 100)) (pos 0) then Some (int_div millionths (pos 100)) else None
+
+-- the amount in ten-thousandths that a decimal number is
+unfoldable pub amount_of : List ℕ → Option ℤ
+amount_of text = option_and_then whole_ten_thousandths (millionths_of text)
+
+abbrev pub is_space : ℕ → Bool
+is_space byte = byte == 32
+
+-- what was booked stands before the first space of the line, and the CDR behind it
+unfoldable pub record_of : List ℕ → Result Record Fault
+record_of line = do
+  booked ← ok_or (amount_of (before_first is_space line)) NoAmount
+  cdr ← cdr_of (after_first is_space line)
+  Ok (record { cdr = cdr; booked = booked })

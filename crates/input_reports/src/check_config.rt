@@ -1,0 +1,75 @@
+//! What is in force in a configuration, and which of its members are passed over.
+
+ghost use Rattle.std.specs.Prelude.{◌≡◌, ◌↔◌, []};
+
+mod alike;
+mod failing;
+mod fault;
+mod in_force;
+mod near;
+mod no_json;
+mod objects;
+mod offset;
+mod passed_over;
+mod report;
+mod spelled;
+mod wrong;
+
+use fault::{Fault, tell};
+use house_program::{only_word, read_config};
+use report::{Report, report_of};
+use std::io;
+use std::process::ExitCode;
+
+// The exit status of a configuration that is read.
+fn status(passed_over: &str) -> u8
+    ensures { (result ≡ 0) ↔ (passed_over.now ≡ []) }
+{
+    if passed_over.is_empty() { 0 } else { 3 }
+}
+
+fn print(rt: &HostRuntime, report: &Report) -> io::Result<u8> {
+    match report {
+        Report::Read {
+            in_force,
+            passed_over,
+        } => {
+            print!(rt; "{in_force}{passed_over}")?;
+            Ok(status(passed_over.as_str()))
+        }
+        Report::AtFault {
+            name,
+            failing,
+            passed_over,
+        } => {
+            print!(rt; "{passed_over}")?;
+            match failing {
+                Some(failing) => eprintln!(rt; "input_reports: {failing}")?,
+                None => eprintln!(rt; "input_reports: {}", name.key())?,
+            }
+            Ok(1)
+        }
+    }
+}
+
+fn print_report<'a>(rt: &HostRuntime, words: &'a [String]) -> Result<u8, Fault<'a>> {
+    let bytes = read_config(rt, only_word(words)?)?;
+    let report = report_of(rt.alloc(), bytes.as_slice())?;
+    match print(rt, &report) {
+        Ok(status) => Ok(status),
+        Err(_) => Err(Fault::CannotWrite),
+    }
+}
+
+fn told(rt: &HostRuntime, fault: &Fault<'_>) -> ExitCode {
+    let _ = tell(rt, fault);
+    ExitCode::from(fault.status())
+}
+
+/// Prints what is told of the configuration at the path that is the one word behind the command, and gives the exit status.
+pub fn perform(rt: &HostRuntime, words: &[String]) -> ExitCode {
+    match print_report(rt, words) {
+        Ok(status) => ExitCode::from(status),
+        Err(fault) => told(rt, &fault),
+    }
+}

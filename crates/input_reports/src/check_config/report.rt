@@ -1,0 +1,78 @@
+//! What is told of a configuration.
+
+use super::failing::{Failing, failing_member};
+use super::fault::Fault;
+use super::in_force::in_force;
+use super::no_json::spot_of;
+use super::objects::objects_in;
+use super::passed_over::passed_over;
+use ocpi_json::name::Name;
+use ocpi_json::{Node, ReadFault, Room};
+use ocpi_types::{Config, ConfigFault};
+use std::alloc::{AllocError, Global};
+
+/// How many bytes a configuration has at most.
+const MOST_BYTES: usize = 1_048_576;
+
+/// What is told of a configuration.
+#[derive(Drop)]
+pub enum Report {
+    /// It is read: what is in force, and what is passed over.
+    Read {
+        in_force: String,
+        passed_over: String,
+    },
+    /// It has a fault: the member that it names, that member where it was found, and what is passed over.
+    AtFault {
+        name: Name,
+        failing: Option<Failing>,
+        passed_over: String,
+    },
+}
+
+fn no_json(alloc: Global, bytes: &[u8]) -> Fault<'static> {
+    if MOST_BYTES < bytes.len() {
+        return Fault::TooLong;
+    }
+    match spot_of(alloc, bytes) {
+        Ok(spot) => Fault::NoJson { spot },
+        Err(_) => Fault::NoMemory,
+    }
+}
+
+fn of_read(alloc: Global, whole: &Node, config: &Config) -> Result<Report, AllocError> {
+    let objects = objects_in(alloc, whole)?;
+    Ok(Report::Read {
+        in_force: in_force(alloc, whole, config)?,
+        passed_over: passed_over(alloc, whole, objects.as_slice())?,
+    })
+}
+
+fn of_fault(alloc: Global, whole: &Node, name: Name) -> Result<Report, AllocError> {
+    let objects = objects_in(alloc, whole)?;
+    Ok(Report::AtFault {
+        name,
+        failing: failing_member(whole, objects.as_slice(), name),
+        passed_over: passed_over(alloc, whole, objects.as_slice())?,
+    })
+}
+
+// What is told of the configuration that these bytes say, which are the value `whole`.
+fn of_value(alloc: Global, bytes: &[u8], whole: &Node) -> Result<Report, Fault<'static>> {
+    match Config::read(alloc, bytes) {
+        Ok(config) => Ok(of_read(alloc, whole, &config)?),
+        Err(ConfigFault::Member { name }) => Ok(of_fault(alloc, whole, name)?),
+        Err(ConfigFault::Syntax) => Err(no_json(alloc, bytes)),
+        Err(ConfigFault::NoMemory) => Err(Fault::NoMemory),
+    }
+}
+
+/// What is told of the configuration that a file of these bytes says.
+pub fn report_of(alloc: Global, bytes: &[u8]) -> Result<Report, Fault<'static>> {
+    let mut room = Room::new(alloc);
+    match room.read(bytes) {
+        Ok(line) => of_value(alloc, bytes, &line.value()),
+        Err(ReadFault::Syntax) => Err(no_json(alloc, bytes)),
+        Err(ReadFault::NoMemory) => Err(Fault::NoMemory),
+    }
+}

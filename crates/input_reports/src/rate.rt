@@ -1,0 +1,40 @@
+//! What a CDR costs that is given as JSON.
+
+ghost use Rattle.std.specs.Prelude.{◌≡◌, IfOk, IfErr, Ok, Err, false};
+ghost use Rattle.input_reports.specs.CdrText.{is_no_memory};
+ghost use Rattle.input_reports.specs.Rate.{rated_cdr, rated_text};
+
+use crate::cdr_text::read_cdr;
+use crate::fault::{Fault, refused};
+use cdr_rating::rate;
+use exact_money::Amount;
+use ocpi_json::Room;
+use ocpi_types::{Cdr, Zone};
+use std::alloc::Global;
+
+#[tactic(auto, unfolding(crate::specs::Rate::rated_cdr))]
+fn rate_cdr(cdr: &Cdr, zone: &Zone) -> Result<Amount, Fault>
+    ensures { result ≡ rated_cdr zone.now cdr.now }
+{
+    if cdr.is_credit() {
+        return Err(Fault::CreditCdr);
+    }
+    match rate(cdr, zone) {
+        Ok(amount) => Ok(amount),
+        Err(refusal) => Err(refused(refusal)),
+    }
+}
+
+/// What the CDR costs by its tariffs in its operator's zone: the faults of `read_cdr`, `CreditCdr` for a Credit CDR,
+/// `TariffNotGiven` and `AmountTooLarge` as `rate` has them.
+#[tactic(auto, unfolding(crate::specs::Rate::rated_text))]
+pub fn rate_text(alloc: Global, text: &[u8], zone: &Zone) -> Result<Amount, Fault>
+    ensures amount { IfOk result (λ amount. rated_text text.now zone.now ≡ Ok amount) }
+    ensures fault { IfErr result (λ fault. is_no_memory fault ≡ false → rated_text text.now zone.now ≡ Err fault) }
+{
+    let mut room = Room::new(alloc);
+    match read_cdr(alloc, &mut room, text) {
+        Ok(cdr) => rate_cdr(&cdr, zone),
+        Err(fault) => Err(fault),
+    }
+}
