@@ -1,4 +1,4 @@
-# Prints records for input_reports re_rate, one a line.
+# Prints records for clear re_rate, one a line.
 
 # cdr KWH TARIFF CREDIT: a CDR with one charging period of so many kWh that names this tariff. It has the tariff G1, by which
 # 1 kWh costs 0.25. CREDIT is what it says of a Credit CDR, or nothing.

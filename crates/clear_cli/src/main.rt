@@ -1,4 +1,4 @@
-//! The program `clear`: a clearing house that answers lines.
+//! The program `clear`: a clearing house that answers lines, and reports of what it is given and has.
 #![tactic(auto)]
 
 mod differences;
@@ -9,6 +9,7 @@ mod house_run;
 mod opening;
 mod out_folder;
 mod outputs;
+mod reports;
 mod run;
 mod schedule;
 mod schedule_file;
@@ -21,6 +22,7 @@ use fault::{Fault, tell};
 use files::open_file;
 use house_program::{given_words, read_config};
 use out_folder::OutFolder;
+use reports::Report;
 use request_lines::Device;
 use run::run;
 use schedule::schedule;
@@ -134,6 +136,10 @@ fn main(rt: HostRuntime) -> ExitCode {
         Ok(words) => words,
         Err(fault) => return told(&rt, &Fault::from(fault)),
     };
+    let behind = words.as_slice().get(1..).unwrap_or(&[]);
+    if let Some(report) = behind.first().and_then(|name| Report::of(name.as_str())) {
+        return reports::perform(&rt, &rt, report, behind);
+    }
     match perform(&rt, &rt, words.as_slice()) {
         Ok(status) => ExitCode::from(status),
         Err(fault) => told(&rt, &fault),

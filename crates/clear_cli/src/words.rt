@@ -5,7 +5,7 @@ ghost use Rattle.std.specs.String.{string_bytes};
 ghost use Rattle.clap.specs.Walk.{rule_of};
 ghost use Rattle.clap.specs.Words.{app_of, found_of, kind_of, rows_of, subcommand_rows_of};
 ghost use Rattle.clap.specs.declared.builder.command.Command.TheViews.{out-Command as fields_of};
-ghost use Rattle.clear_cli.specs.Inner.Commands.{asked_in, asked_under, clear_command, files_rule, path_rule, run_command, schedule_command, script_command};
+ghost use Rattle.clear_cli.specs.Inner.Commands.{asked_in, asked_under, clear_command, clear_script, clear_script_schedule, files_rule, path_rule, run_command, schedule_command, script_command};
 ghost use Rattle.clear_cli.specs.Words.{asked, asked_by};
 
 use crate::fault::Fault;
@@ -79,14 +79,25 @@ fn run<'a>(alloc: Global) -> Result<Command<'a>, AllocError>
         .arg(files(alloc))
 }
 
-fn clear<'a>(alloc: Global) -> Result<Command<'a>, AllocError>
-    ensures { IfOk result (λ command. app_of command ≡ clear_command) }
+// The program, with one command, with two, and with all three.
+fn clear_script<'a>(alloc: Global) -> Result<Command<'a>, AllocError>
+    ensures { IfOk result (λ command. app_of command ≡ clear_script) }
 {
     Command::new(alloc, "clear")
         .subcommand_required(true)
-        .subcommand(script(alloc)?)?
-        .subcommand(schedule(alloc)?)?
-        .subcommand(run(alloc)?)
+        .subcommand(script(alloc)?)
+}
+
+fn clear_script_schedule<'a>(alloc: Global) -> Result<Command<'a>, AllocError>
+    ensures { IfOk result (λ command. app_of command ≡ clear_script_schedule) }
+{
+    clear_script(alloc)?.subcommand(schedule(alloc)?)
+}
+
+fn clear<'a>(alloc: Global) -> Result<Command<'a>, AllocError>
+    ensures { IfOk result (λ command. app_of command ≡ clear_command) }
+{
+    clear_script_schedule(alloc)?.subcommand(run(alloc)?)
 }
 
 // Every refused parse is the usage fault, but for want of memory.

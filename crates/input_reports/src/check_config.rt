@@ -44,8 +44,8 @@ fn print(rt: &HostRuntime, report: &Report) -> io::Result<u8> {
         } => {
             print!(rt; "{passed_over}")?;
             match failing {
-                Some(failing) => eprintln!(rt; "input_reports: {failing}")?,
-                None => eprintln!(rt; "input_reports: {}", name.key())?,
+                Some(failing) => eprintln!(rt; "clear: {failing}")?,
+                None => eprintln!(rt; "clear: {}", name.key())?,
             }
             Ok(1)
         }
@@ -66,8 +66,9 @@ fn told(rt: &HostRuntime, fault: &Fault<'_>) -> ExitCode {
     ExitCode::from(fault.status())
 }
 
-/// Prints what is told of the configuration at the path that is the one word behind the command, and gives the exit status.
-pub fn perform(rt: &HostRuntime, words: &[String]) -> ExitCode {
+/// Tells of the configuration at the path that is the one word behind the command, and gives the exit status: 3 where
+/// members are passed over, 1 where there is a fault, and 2 for words of another form.
+pub fn tell_config(rt: &HostRuntime, words: &[String]) -> ExitCode {
     match print_report(rt, words) {
         Ok(status) => ExitCode::from(status),
         Err(fault) => told(rt, &fault),

@@ -6,14 +6,12 @@ mod line;
 use crate::fault::Fault;
 use line::read_record;
 use ocpi_json::Room;
-use ocpi_types::Zone;
-use re_rating::{Difference, Record, re_rate};
+use re_rating::{Difference, Record};
 use std::io::{self, BufRead, ErrorKind};
-use std::thread::Threads;
 
 /// The records that were read, each with the number of its line.
 #[derive(Drop)]
-struct Input {
+pub struct Records {
     records: Vec<Record>,
     lines: Vec<u64>,
     has_bad_line: bool,
@@ -27,7 +25,7 @@ fn tell_fault(rt: &HostRuntime, number: u64, fault: Fault) -> io::Result<()> {
     eprintln!(rt; "line {number}: {kind}{member}")
 }
 
-impl Input {
+impl Records {
     // Keeps the record of a line, or tells why it is none.
     fn keep(
         &mut self,
@@ -49,8 +47,9 @@ impl Input {
         }
     }
 
-    fn read(rt: &HostRuntime) -> io::Result<Input> {
-        let mut input = Input {
+    /// Those of standard input. A line that is no record is told on standard error.
+    pub fn read(rt: &HostRuntime) -> io::Result<Records> {
+        let mut input = Records {
             records: Vec::new(rt.alloc()),
             lines: Vec::new(rt.alloc()),
             has_bad_line: false,
@@ -87,14 +86,17 @@ impl Input {
             None => println!(rt; "line {number}: booked {booked}, not rated"),
         }
     }
-}
 
-/// Tells them on standard output, by the numbers of their lines, and gives the exit status: 1 where a line is no record.
-pub fn perform(rt: &HostRuntime, threads: &(impl Threads + Sync), zone: &Zone) -> io::Result<u8> {
-    let input = Input::read(rt)?;
-    let differences = re_rate(threads, rt.alloc(), input.records.as_slice(), zone)?;
-    for difference in differences.as_slice() {
-        input.tell(rt, difference)?;
+    /// The records, in the order of their lines.
+    pub fn as_slice(&self) -> &[Record] {
+        self.records.as_slice()
     }
-    Ok(input.has_bad_line as u8)
+
+    /// Tells the differences on standard output, by the numbers of the lines, and gives the exit status: 1 where a line is no record.
+    pub fn tell_all(&self, rt: &HostRuntime, differences: &[Difference]) -> io::Result<u8> {
+        for difference in differences {
+            self.tell(rt, difference)?;
+        }
+        Ok(self.has_bad_line as u8)
+    }
 }

@@ -25,14 +25,17 @@ run_command = with_rule
     (with_rule (with_rule (new_app (codes "run")) (path_rule (codes "config"))) (path_rule (codes "folder")))
     files_rule
 
-abbrev pub clear_command : App
-clear_command = with_subcommand
-    (with_subcommand
-    (with_subcommand
+-- the program, with one command, with two, and with all three
+abbrev pub clear_script : App
+clear_script = with_subcommand
     (on_top (λ top. record top { subcommand_required = true }) (new_app (codes "clear")))
-    script_command.top)
-    schedule_command.top)
-    run_command.top
+    script_command.top
+
+abbrev pub clear_script_schedule : App
+clear_script_schedule = with_subcommand clear_script schedule_command.top
+
+abbrev pub clear_command : App
+clear_command = with_subcommand clear_script_schedule run_command.top
 
 -- what `run` asks for with this configuration and folder, and these files
 abbrev pub run_in : Text → Option (List Text) → Text → Option Asked

@@ -1,4 +1,4 @@
--- The faults of a program that prints what a house has.
+-- The faults of a command that prints what a house has.
 use Rattle.std.specs.Prelude.{ℕ}
 use Rattle.house_program.specs.declared.start_fault.StartFault.{StartFault}
 use Rattle.house_program.specs.declared.start_fault.StartFault.TheVariants as start
@@ -9,7 +9,7 @@ use Rattle.request_lines.specs.declared.faults.ScriptFault.TheVariants as script
 use Rattle.house_reports.specs.declared.ended_house.fault.Fault.{Fault}
 use Rattle.house_reports.specs.declared.ended_house.fault.Fault.TheVariants.{Usage, ConfigSyntax, ConfigMember, CannotRead, CannotReadInput, CannotWrite, LineTooLong, NoMemory}
 
--- the fault of words or a file that keep the program from its work
+-- the fault of words or a file that keep the command from its work
 abbrev pub start_fault : StartFault → Fault
 start_fault start.Usage = Usage
 start_fault (start.CannotRead path) = CannotRead path

@@ -21,7 +21,7 @@ pub struct Asked<'a> {
     pub form: Form,
 }
 
-/// What is asked for; the program's name is the first of the words.
+/// What is asked for; the command's name is the first of the words.
 pub fn asked_of(words: &[String]) -> Result<Asked<'_>, StartFault<'static>>
     ensures path { IfOk result (λ asked. IfSome (slice_get words.now 1) (λ given. asked.path.now ≡ string_bytes given)) }
     ensures csv { IfOk result (λ asked. (asked.form ≡ Form.Csv) ↔ (length words.now ≡ 2)) }

@@ -1,4 +1,4 @@
-//! What ends the program early, and the line that tells it.
+//! What ends a command early, and the line that tells it.
 
 ghost use Rattle.std.specs.Prelude.{◌≡◌, true, IfErr, OnOk};
 ghost use Rattle.house_reports.specs.ended_house.Fault.{config_fault, exit_status, script_fault, start_fault};
@@ -10,7 +10,7 @@ use request_lines::{ScriptFault, Sink, write_all};
 use std::alloc::AllocError;
 use std::io::{self, Eprint};
 
-/// What ends the program early.
+/// What ends a command early.
 #[derive(Clone, Copy)]
 pub enum Fault<'a> {
     /// The command line has another form.
@@ -106,14 +106,14 @@ pub fn write_text<W: Sink>(writer: &mut W, text: &[u8]) -> Result<(), Fault<'sta
 /// Tells the fault in one line on standard error; `words` is the form of the command line.
 pub fn tell<R: Eprint>(rt: &R, words: &str, fault: &Fault<'_>) -> io::Result<()> {
     match *fault {
-        Fault::Usage => eprintln!(rt; "house_reports: usage: house_reports {words}"),
-        Fault::ConfigSyntax => eprintln!(rt; "house_reports: config: syntax"),
-        Fault::ConfigMember { name } => eprintln!(rt; "house_reports: config: {}", name.key()),
-        Fault::CannotRead { path } => eprintln!(rt; "house_reports: cannot read {path}"),
-        Fault::CannotReadInput => eprintln!(rt; "house_reports: cannot read -"),
-        Fault::CannotWrite => eprintln!(rt; "house_reports: cannot write"),
-        Fault::LineTooLong { line } => eprintln!(rt; "house_reports: line {line} is too long"),
-        Fault::NoMemory => eprintln!(rt; "house_reports: no memory"),
+        Fault::Usage => eprintln!(rt; "clear: usage: clear {words}"),
+        Fault::ConfigSyntax => eprintln!(rt; "clear: config: syntax"),
+        Fault::ConfigMember { name } => eprintln!(rt; "clear: config: {}", name.key()),
+        Fault::CannotRead { path } => eprintln!(rt; "clear: cannot read {path}"),
+        Fault::CannotReadInput => eprintln!(rt; "clear: cannot read -"),
+        Fault::CannotWrite => eprintln!(rt; "clear: cannot write"),
+        Fault::LineTooLong { line } => eprintln!(rt; "clear: line {line} is too long"),
+        Fault::NoMemory => eprintln!(rt; "clear: no memory"),
     }
 }
 
@@ -122,5 +122,5 @@ pub fn tell_refused<R: Eprint>(rt: &R, refused: u128) -> io::Result<()> {
     if refused == 0 {
         return Ok(());
     }
-    eprintln!(rt; "house_reports: lines refused: {refused}")
+    eprintln!(rt; "clear: lines refused: {refused}")
 }

@@ -15,7 +15,7 @@ use std::alloc::{AllocError, Global};
 
 /// A house that answers lines.
 #[derive(Drop)]
-pub struct Explainer<'c> {
+pub(crate) struct Explainer<'c> {
     config: &'c Config,
     house: BookHouse,
     /// The events of the house.
@@ -36,7 +36,7 @@ impl<'c> Explainer<'c> {
     ghost use Rattle.house_reports.specs.explain_lines.Table.{IsRow};
 
     /// A new house of this configuration.
-    pub fn new(alloc: Global, config: &'c Config) -> Result<Explainer<'c>, AllocError>
+    pub(crate) fn new(alloc: Global, config: &'c Config) -> Result<Explainer<'c>, AllocError>
         ensures config { IfOk result (λ explainer. explainer.config.now ≡ config.now) }
         ensures empty { IfOk result (λ explainer. (explainer.house.events ≡ []) × (explainer.events.items ≡ [])) }
         ensures none { IfOk result (λ explainer. (explainer.lines ≡ 0) × (explainer.is_any_turned_down ≡ false)) }

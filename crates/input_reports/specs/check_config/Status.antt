@@ -1,4 +1,4 @@
--- The exit status of the program where a fault ends it.
+-- The exit status of the command where a fault ends it.
 use Rattle.std.specs.Prelude.{ℕ}
 use Rattle.input_reports.specs.declared.check_config.fault.Fault.{Fault}
 use Rattle.input_reports.specs.declared.check_config.fault.Fault.TheVariants as fault

@@ -5,7 +5,7 @@ use house_program::StartFault;
 use std::alloc::AllocError;
 use std::io;
 
-/// What ends the program before anything is written on standard output.
+/// What ends the command before anything is written on standard output.
 #[derive(Clone, Copy)]
 pub enum Fault<'a> {
     /// The command line has another form.
@@ -62,11 +62,11 @@ impl Fault<'_> {
 /// Tells the fault in one line on standard error.
 pub fn tell(rt: &HostRuntime, fault: &Fault<'_>) -> io::Result<()> {
     match *fault {
-        Fault::Usage => eprintln!(rt; "input_reports: usage: input_reports check_config CONFIG"),
-        Fault::CannotRead { path } => eprintln!(rt; "input_reports: cannot read {path}"),
-        Fault::CannotWrite => eprintln!(rt; "input_reports: cannot write"),
-        Fault::TooLong => eprintln!(rt; "input_reports: longer than 1048576 bytes"),
-        Fault::NoJson { spot } => eprintln!(rt; "input_reports: {spot}: no JSON"),
-        Fault::NoMemory => eprintln!(rt; "input_reports: no memory"),
+        Fault::Usage => eprintln!(rt; "clear: usage: clear check_config CONFIG"),
+        Fault::CannotRead { path } => eprintln!(rt; "clear: cannot read {path}"),
+        Fault::CannotWrite => eprintln!(rt; "clear: cannot write"),
+        Fault::TooLong => eprintln!(rt; "clear: longer than 1048576 bytes"),
+        Fault::NoJson { spot } => eprintln!(rt; "clear: {spot}: no JSON"),
+        Fault::NoMemory => eprintln!(rt; "clear: no memory"),
     }
 }
