@@ -22,7 +22,7 @@ use Rattle.house_core.specs.Collections.{is_open, nets_with, rows_with, sums}
 use Rattle.house_core.specs.Events.{whole_book}
 use Rattle.house_core.specs.Inner.Collecting.{Fits, IsNetting, IsStating, IsWhole, owed_in, owed_to}
 use Rattle.house_core.specs.Inner.Sound.{Holds, IsAt}
-use Rattle.house_core.specs.Laws.{IsConfiguration}
+use Rattle.period_order.specs.Kept.{IsConfiguration}
 use Rattle.house_core.specs.Locks.{Lock}
 use Rattle.house_core.specs.Steps.{changed, collect_at, collected, of_call}
 use Rattle.house_core.specs.World.{PlainWorld}

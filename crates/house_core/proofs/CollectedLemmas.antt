@@ -31,7 +31,7 @@ use Rattle.house_core.specs.Inner.Collecting.{Fits, owed_in}
 use Rattle.house_core.specs.Inner.Moves.{collected_call, netting_with, stating_with}
 use Rattle.house_core.specs.Inner.Ready.{CanCollectOf, IsCollectable}
 use Rattle.house_core.specs.Inner.Sound.{Holds, IsAt}
-use Rattle.house_core.specs.Laws.{IsConfiguration}
+use Rattle.period_order.specs.Kept.{IsConfiguration}
 use Rattle.house_core.specs.Locks.{Lock}
 use Rattle.house_core.specs.Steps.{Change, changed, collect_at, collected, of_call, step}
 use Rattle.house_core.specs.World.{PlainWorld}

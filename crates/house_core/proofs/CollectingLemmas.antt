@@ -20,7 +20,7 @@ use Rattle.period_order.specs.Dues.{DuesAreOfOwnBooks, collected, dues, sums as 
 use Rattle.period_order.specs.Resolved.{books_of}
 use Rattle.house_core.specs.Collections.{is_complete, is_open, sums}
 use Rattle.house_core.specs.Inner.Collecting.{Fits, IsWhole, left, left_dues, owed_in, owed_to}
-use Rattle.house_core.specs.Laws.{IsConfiguration}
+use Rattle.period_order.specs.Kept.{IsConfiguration}
 use Rattle.house_core.specs.Inner.HouseLaws.{HouseLaws}
 use Rattle.house_core.proofs.OwesAlike.{alike_behind, alike_exchanged, alike_same, alike_then}
 

@@ -23,7 +23,7 @@ use Rattle.house_core.specs.Calls.{begun, has_its_account, has_its_book, ready}
 use Rattle.house_core.specs.Events.{events_of}
 use Rattle.house_core.specs.Inner.Sound.{Holds, IsCall}
 use Rattle.house_core.specs.Inner.Steps.{EventsGo, Kept, StepsKeep, event_added, event_of_stage}
-use Rattle.house_core.specs.Laws.{IsConfiguration}
+use Rattle.period_order.specs.Kept.{IsConfiguration}
 use Rattle.house_core.specs.OneHouse.{events_behind}
 use Rattle.house_core.specs.Steps.{changed, known_to, order, ordered_by, orders, stage_after, step}
 use Rattle.house_core.specs.World.{PlainWorld}

@@ -39,7 +39,7 @@ use Rattle.std.specs.List.{AllByRecursion}
 use Rattle.house_core.specs.Events.{events_of, whole_account, whole_book}
 use Rattle.house_core.specs.Inner.Collecting.{IsNetting, IsStating, owed_in}
 use Rattle.house_core.specs.Inner.Sound.{Holds, IsCall, holder_at}
-use Rattle.house_core.specs.Laws.{IsConfiguration}
+use Rattle.period_order.specs.Kept.{IsConfiguration}
 use Rattle.house_core.specs.OneHouse.{AnsweredAsOne, IsAnswered, IsFinished, after, events_behind, finished, in_order}
 use Rattle.house_core.specs.Start.{call_of, start}
 use Rattle.house_core.specs.Steps.{change_by, changed, collect_at, ended_by, finishes, known_to, order, ordered_by, orders, step}

@@ -35,7 +35,7 @@ use Rattle.house_core.specs.declared.stage.Stage.TheVariants as stage
 use Rattle.house_core.specs.Calls.{collects, due_in_account, due_in_book}
 use Rattle.house_core.specs.Inner.Collecting.{Fits, IsWhole}
 use Rattle.house_core.specs.Inner.Sound.{Holds, IsAt, IsCall}
-use Rattle.house_core.specs.Laws.{IsConfiguration}
+use Rattle.period_order.specs.Kept.{IsConfiguration}
 use Rattle.house_core.specs.Locks.{Lock, entries_at}
 use Rattle.house_core.specs.OneHouse.{IsAnswered}
 use Rattle.house_core.specs.Steps.{changed, known_to, order, stage_after}

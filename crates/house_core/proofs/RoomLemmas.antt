@@ -10,7 +10,7 @@ use Rattle.house_core.specs.Calls.{held_account, held_book}
 use Rattle.house_core.specs.Inner.Ready.{AccountIsReady, AreReady, AreSound, BookIsReady, shown}
 use Rattle.house_core.specs.Inner.Shown.{changed_lock, changed_there, roomy_account, roomy_book, shown_account, shown_accounts, shown_book, shown_books}
 use Rattle.house_core.specs.Inner.Sound.{Holds}
-use Rattle.house_core.specs.Laws.{IsConfiguration}
+use Rattle.period_order.specs.Kept.{IsConfiguration}
 use Rattle.house_core.specs.World.{PlainWorld}
 use Rattle.house_core.proofs.ReadyLemmas.{ready_changed}
 use Rattle.house_core.proofs.StepLemmas.{same_shown}

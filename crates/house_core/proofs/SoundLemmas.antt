@@ -15,7 +15,7 @@ use Rattle.house_core.specs.Calls.{ordered}
 use Rattle.house_core.specs.Inner.Ready.{ArePartsReady, AreSound, shown}
 use Rattle.house_core.specs.Inner.Sound.{Holds}
 use Rattle.house_core.specs.Inner.Steps.{EventsGo, StepsKeep}
-use Rattle.house_core.specs.Laws.{IsConfiguration}
+use Rattle.period_order.specs.Kept.{IsConfiguration}
 use Rattle.house_core.specs.Start.{call_of, start}
 use Rattle.house_core.specs.Steps.{step}
 use Rattle.house_core.specs.World.{PlainWorld}

@@ -1,7 +1,7 @@
 //! The house between two steps.
 
 ghost use Rattle.std.specs.Prelude.{◌≡◌};
-ghost use Rattle.house_core.specs.Laws.{IsConfiguration};
+ghost use Rattle.period_order.specs.Kept.{IsConfiguration};
 
 use crate::call::waiting_calls;
 use crate::finished::{Finished, Trace};

@@ -1,8 +1,9 @@
 -- Books, accounts and an order that keep a list of events, and one event more.
-use Rattle.std.specs.Prelude.{◌≡◌, ℕ, true, List, [], ◌∷◌, ◌++◌, length, count_by, Option, Some, None, option_map, slice_get, slice_set, unwrap_or}
+use Rattle.std.specs.Prelude.{◌≡◌, ◌≤◌, ℕ, true, List, [], ◌∷◌, ◌++◌, length, count_by, Option, Some, None, option_map, slice_get, slice_set, unwrap_or}
 use Rattle.ocpi_types.specs.declared.config.Config.{Config}
 use Rattle.ocpi_types.specs.declared.party.Party.{Party}
 use Rattle.ocpi_types.specs.Config.{alike_operators, alike_providers}
+use Rattle.ocpi_types.specs.Currency.{same_currency}
 use Rattle.ocpi_types.specs.Different.{all_different}
 use Rattle.cdr_checks.specs.Admission.{IsAdmitted}
 use Rattle.cdr_checks.specs.Parties.{operator_of_command, provider_of_command}
@@ -50,6 +51,13 @@ pub record AreLengths (events : List Event) (command : Command) (in_book in_acco
 pub record AreDistinct (config : Config) : Type 0 where
   pub operators : all_different alike_operators config.operators ≡ true
   pub providers : all_different alike_providers config.providers ≡ true
+
+-- no two operators, providers or currencies are the same; at most 64 operators, of at most 100,000 CDRs each
+pub record IsConfiguration (config : Config) : Type 0 where
+  pub distinct : AreDistinct config
+  pub currencies : all_different same_currency config.currencies ≡ true
+  pub operators : length config.operators ≤ 64
+  pub cdrs : config.limits.cdrs ≤ 100_000
 
 -- where an admitted command adds an event, the command's book and account with the event's entries, and the order with what it
 -- keeps of the event, keep the list with the event

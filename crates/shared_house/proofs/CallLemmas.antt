@@ -13,7 +13,7 @@ use Rattle.plain_house.specs.Laws.{RepliesAreShort, adds_event, rows_in, rows_of
 use Rattle.plain_house.specs.LegalEntries.{LegalBooksCanBeNetted}
 use Rattle.plain_house.specs.LegalLists.{CanBeNetted}
 use Rattle.plain_house.specs.Replies.{Reply, stamped}
-use Rattle.house_core.specs.Laws.{IsConfiguration}
+use Rattle.period_order.specs.Kept.{IsConfiguration}
 use Rattle.shared_house.specs.Calls.{IsTold, event_count, is_collecting, made_event}
 use Rattle.shared_house.specs.Points.{AreAdmitted}
 use Rattle.shared_house.specs.declared.made.Made.{Made}

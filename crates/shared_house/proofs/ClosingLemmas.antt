@@ -23,7 +23,7 @@ use Rattle.period_order.specs.Order.{PlainOrder, point_of}
 use Rattle.shared_house.specs.declared.ledgers.tally.Tally.{Tally}
 use Rattle.shared_house.specs.declared.locked.placed.Placed.{Placed}
 use Rattle.shared_house.specs.Inner.Collecting.{CollectingLaws, IsNetted, IsStated}
-use Rattle.house_core.specs.Laws.{IsConfiguration}
+use Rattle.period_order.specs.Kept.{IsConfiguration}
 use Rattle.shared_house.specs.Inner.HouseLaws.{HouseLaws}
 use Rattle.shared_house.specs.Inner.Outcomes.{with_room}
 use Rattle.shared_house.specs.Inner.Tallies.{tally_of, tally_of_event}

@@ -25,7 +25,7 @@ use Rattle.plain_house.specs.LegalLists.{CanBeNetted}
 use Rattle.plain_house.specs.Obligations.{is_of_period, obligation_of, obligations}
 use Rattle.plain_house.specs.Own.{own_book}
 use Rattle.period_order.specs.Dues.{CanBeCollected, dues, sums}
-use Rattle.house_core.specs.Laws.{IsConfiguration}
+use Rattle.period_order.specs.Kept.{IsConfiguration}
 use Rattle.shared_house.specs.Calls.{AreRead, own_books}
 use Rattle.shared_house.specs.Inner.Collecting.{CollectingLaws, IsCollected, IsCollecting}
 

@@ -26,7 +26,7 @@ use Rattle.plain_house.specs.LegalLists.{IsCharged, IsTakenBack, KeepsLimits}
 use Rattle.plain_house.specs.Posting.{meets_original}
 use Rattle.plain_house.specs.ReplyRoom.{FitsIn}
 use Rattle.plain_house.specs.Replies.{Reply}
-use Rattle.house_core.specs.Laws.{IsConfiguration}
+use Rattle.period_order.specs.Kept.{IsConfiguration}
 use Rattle.shared_house.specs.Calls.{Returns}
 
 -- ---- what stands under locks

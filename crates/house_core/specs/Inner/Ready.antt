@@ -22,7 +22,7 @@ use Rattle.house_core.specs.Calls.{held_account, held_book, ordered}
 use Rattle.house_core.specs.Collections.{is_open}
 use Rattle.house_core.specs.Inner.Shown.{shown_accounts, shown_books}
 use Rattle.house_core.specs.Inner.Sound.{Holds}
-use Rattle.house_core.specs.Laws.{IsConfiguration}
+use Rattle.period_order.specs.Kept.{IsConfiguration}
 use Rattle.house_core.specs.Locks.{Lock}
 use Rattle.house_core.specs.World.{PlainWorld}
 

@@ -11,7 +11,7 @@ use Rattle.house_core.specs.declared.stage.Stage.TheVariants as stage
 use Rattle.house_core.specs.declared.step.Step.{Step}
 use Rattle.house_core.specs.Events.{events_of}
 use Rattle.house_core.specs.Inner.Sound.{Holds}
-use Rattle.house_core.specs.Laws.{IsConfiguration}
+use Rattle.period_order.specs.Kept.{IsConfiguration}
 use Rattle.house_core.specs.Start.{start}
 use Rattle.house_core.specs.Steps.{step}
 use Rattle.house_core.specs.World.{PlainWorld}

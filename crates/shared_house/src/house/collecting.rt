@@ -5,7 +5,7 @@ ghost use Rattle.netting_positions.specs.Netting.{parties, total_size};
 ghost use Rattle.operator_book.specs.Due.{due};
 ghost use Rattle.operator_book.specs.Together.{owed_by_all};
 ghost use Rattle.plain_house.specs.LegalEntries.{IsLegalBook};
-ghost use Rattle.house_core.specs.Laws.{IsConfiguration};
+ghost use Rattle.period_order.specs.Kept.{IsConfiguration};
 ghost use Rattle.shared_house.specs.Inner.Collecting.{IsCollected, IsNetted, IsStated};
 
 use super::locks::House;

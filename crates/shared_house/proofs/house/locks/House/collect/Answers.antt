@@ -1,6 +1,6 @@
 use Rattle.std.proofs.Common.{◌<◌, ◌≤◌, ◌∙◌, arith, length, refl, subst}
 use Rattle.ocpi_types.specs.declared.config.Config.{Config}
-use Rattle.house_core.specs.Laws.{IsConfiguration}
+use Rattle.period_order.specs.Kept.{IsConfiguration}
 use Rattle.shared_house.proofs.CollectLemmas.{collected_all, collecting_fits_at, collecting_next, collecting_none}
 use Rattle.shared_house.proofs.house.locks.House.collect.Goals as goal
 

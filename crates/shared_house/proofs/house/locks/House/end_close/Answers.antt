@@ -1,6 +1,6 @@
 use Rattle.std.proofs.Common.{subst}
 use Rattle.ocpi_types.specs.declared.config.Config.{Config}
-use Rattle.house_core.specs.Laws.{IsConfiguration}
+use Rattle.period_order.specs.Kept.{IsConfiguration}
 use Rattle.shared_house.proofs.ClosingLemmas.{ended_closed, ended_replied}
 use Rattle.shared_house.proofs.house.locks.House.end_close.Goals as goal
 use Rattle.cdr_checks.specs.declared.request.Command.TheVariants as command
