@@ -6,7 +6,7 @@ use std::fmt;
 use std::marker::Model;
 
 /// An amount of money in ten-thousandths of the currency unit.
-#[derive(Clone, Copy, PartialEq, Eq, PartialOrd, Ord)]
+#[derive(Clone, Copy, Debug, PartialEq, Eq, PartialOrd, Ord)]
 pub struct Amount {
     ten_thousandths: i64,
 }

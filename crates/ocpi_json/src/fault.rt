@@ -1,10 +1,13 @@
 // Why a line was not read.
 use std::alloc::{AllocError, AllocFailed};
+use thiserror::Error;
 
 /// Why a line was not read: it is no JSON, or memory ran out.
-#[derive(Clone, Copy, PartialEq, Eq)]
+#[derive(Clone, Copy, Debug, PartialEq, Eq, Error)]
 pub enum ReadFault {
+    #[error("Syntax")]
     Syntax,
+    #[error("no memory")]
     NoMemory,
 }
 

@@ -18,12 +18,15 @@ use exact_money::Millionths;
 use jiff::Timestamp;
 use jiff::civil::{Date, Time};
 use std::alloc::{AllocError, AllocFailed, Global};
+use thiserror::Error;
 
 /// Why an object was not read.
-#[derive(Clone, Copy, PartialEq, Eq)]
+#[derive(Clone, Copy, Debug, PartialEq, Eq, Error)]
 pub enum FieldFault {
     /// The member that is missing or not of its kind.
+    #[error("Field {0}")]
     Field(Name),
+    #[error("no memory")]
     NoMemory,
 }
 

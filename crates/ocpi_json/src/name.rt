@@ -2,6 +2,8 @@
 
 ghost use Rattle.std.specs.Prelude.{◌≡◌};
 
+use std::fmt;
+
 /// The name of a member of an object.
 #[derive(Clone, Copy, PartialEq, Eq)]
 pub enum Name {
@@ -168,5 +170,24 @@ impl Name {
             Name::Reference => "reference",
             Name::Period => "period",
         }
+    }
+}
+
+/// Writes the key.
+impl fmt::Display for Name {
+    ghost use Rattle.std.specs.Prelude.{Some};
+    ghost use Rattle.ocpi_json.specs.Name.{key_text};
+
+    ghost output = { λ name. Some (key_text name) };
+
+    fn fmt<W: fmt::Write>(&self, f: &mut fmt::Formatter<W>) -> fmt::Result {
+        f.write_str(self.key())
+    }
+}
+
+/// Writes the key too: derived, it would repeat the table of the keys.
+impl fmt::Debug for Name {
+    fn fmt<W: fmt::Write>(&self, f: &mut fmt::Formatter<W>) -> fmt::Result {
+        f.write_str(self.key())
     }
 }

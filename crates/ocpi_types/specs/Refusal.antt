@@ -1,5 +1,7 @@
 -- The refusals: name, number and status code (OCPI 2.2.1, section 'Status codes').
-use Rattle.std.specs.Prelude.{ℕ, List, codes}
+use Rattle.std.specs.Prelude.{ℕ, List, [], ◌++◌, codes, decimal, if◌then◌else◌}
+use Rattle.exact_money.specs.Amount.{amount_text}
+use Rattle.ocpi_json.specs.Name.{key_text}
 use Rattle.ocpi_types.specs.declared.refusal.Store.{Store}
 use Rattle.ocpi_types.specs.declared.refusal.Store.TheVariants.{Cdrs, Tariffs, Account, Order, Periods}
 use Rattle.ocpi_types.specs.declared.refusal.Refusal.{Refusal}
@@ -60,3 +62,14 @@ refusal_number refusal = (refusal_row refusal).number
 
 abbrev pub refusal_status : Refusal → ℕ
 refusal_status refusal = (refusal_row refusal).status
+
+-- the message of a refusal: its name, and then its values
+abbrev pub refusal_text : Refusal → List ℕ
+refusal_text (Field called) = codes "Field " ++ key_text called
+refusal_text (CostMismatch rated) = codes "CostMismatch rated " ++ amount_text rated
+refusal_text (NotCurrent current) = codes "NotCurrent current " ++ decimal current
+refusal_text (Full what) = codes "Full " ++ store_name what
+refusal_text (OverLimit exposure limit pair) =
+    codes "OverLimit exposure " ++ (amount_text exposure ++ (codes " limit " ++ (amount_text limit ++ (if pair then codes " pair" else []))))
+refusal_text (TooLate original current) = codes "TooLate original " ++ (decimal original ++ (codes " current " ++ decimal current))
+refusal_text refusal = refusal_name refusal

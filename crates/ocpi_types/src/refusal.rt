@@ -3,9 +3,11 @@ ghost use Rattle.ocpi_types.specs.Refusal.{store_name, refusal_name, refusal_num
 
 use exact_money::Amount;
 use ocpi_json::name::Name;
+use std::fmt;
+use thiserror::Error;
 
 /// What has reached its configured limit.
-#[derive(Clone, Copy, PartialEq, Eq)]
+#[derive(Clone, Copy, Debug, PartialEq, Eq)]
 pub enum Store {
     /// The CDRs of an operator.
     Cdrs,
@@ -33,9 +35,25 @@ impl Store {
     }
 }
 
-/// Why a request is refused. Where several conditions hold, the first in the order of the numbers is told, but that `TooLate`
-/// stands before `AlreadyCredited`, and `NoMemory` wherever memory is refused.
-#[derive(Clone, Copy, PartialEq, Eq)]
+/// Writes the name.
+impl fmt::Display for Store {
+    ghost use Rattle.std.specs.Prelude.{Some};
+    ghost use Rattle.ocpi_types.specs.Refusal.{store_name};
+
+    ghost output = { λ store. Some (store_name store) };
+
+    fn fmt<W: fmt::Write>(&self, f: &mut fmt::Formatter<W>) -> fmt::Result {
+        f.write_str(self.name())
+    }
+}
+
+/// Why a request is refused.
+///
+/// Where several conditions hold, the refusal is the one with the least number, with two exceptions: `TooLate` is tested after
+/// `AlreadyCredited` and before `CreditDiffers`, and `NoMemory` is the refusal wherever an allocation fails.
+///
+/// It is displayed as its name, with its values as an answer line has them after it: `Field volume`, `NotCurrent current 1`.
+#[derive(Clone, Copy, Debug, PartialEq, Eq, Error)]
 pub enum Refusal {
     /// The line is no JSON.
     Syntax,
@@ -193,6 +211,35 @@ impl Refusal {
             Refusal::UnknownToken => 2004,
             Refusal::Full { .. } | Refusal::NoMemory => 3000,
             _ => 2000,
+        }
+    }
+}
+
+/// Writes the name, and then the values.
+impl fmt::Display for Refusal {
+    ghost use Rattle.std.specs.Prelude.{Some};
+    ghost use Rattle.ocpi_types.specs.Refusal.{refusal_text};
+
+    ghost output = { λ refusal. Some (refusal_text refusal) };
+
+    fn fmt<W: fmt::Write>(&self, f: &mut fmt::Formatter<W>) -> fmt::Result {
+        match self {
+            Refusal::Field { name } => write!(f, "Field {name}"),
+            Refusal::CostMismatch { rated } => write!(f, "CostMismatch rated {rated}"),
+            Refusal::NotCurrent { current } => write!(f, "NotCurrent current {current}"),
+            Refusal::Full { what } => write!(f, "Full {what}"),
+            Refusal::OverLimit {
+                exposure,
+                limit,
+                pair,
+            } => {
+                let scope = if *pair { " pair" } else { "" };
+                write!(f, "OverLimit exposure {exposure} limit {limit}{scope}")
+            }
+            Refusal::TooLate { original, current } => {
+                write!(f, "TooLate original {original} current {current}")
+            }
+            _ => f.write_str(self.name()),
         }
     }
 }

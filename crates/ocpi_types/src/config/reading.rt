@@ -16,14 +16,18 @@ use ocpi_json::name::Name;
 use ocpi_json::objects::{FromNodeIn, parsed_each, read_each, read_if_any};
 use ocpi_json::{Node, ReadFault, Room};
 use std::alloc::Global;
+use thiserror::Error;
 
 /// Why a configuration was not read.
-#[derive(Clone, Copy, PartialEq, Eq)]
+#[derive(Clone, Copy, Debug, PartialEq, Eq, Error)]
 pub enum ConfigFault {
     /// It is no JSON, or longer than 1,048,576 bytes.
+    #[error("config: syntax")]
     Syntax,
     /// The member is missing, of a wrong kind or out of bounds, names what is not configured, or says something twice.
+    #[error("config: {name}")]
     Member { name: Name },
+    #[error("no memory")]
     NoMemory,
 }
 
