@@ -1,8 +1,8 @@
 -- A reply: an answer or a refusal, with the number of events before it.
-use Rattle.std.specs.Prelude.{◌≡◌, ◌==◌, ℕ, Bool, true, false, List, [], ◌∷◌, ◌++◌, length, Option, Some, None, Result, Ok, Err}
+use Rattle.std.specs.Prelude.{◌≡◌, ◌==◌, ℕ, Bool, true, false, List, [], ◌∷◌, ◌++◌, length, Option, Some, None, Result, Ok, Err, codes, decimal}
 use Rattle.ocpi_types.specs.declared.refusal.Refusal.{Refusal}
 use Rattle.ocpi_types.specs.declared.refusal.Refusal.TheVariants as refusal
-use Rattle.ocpi_types.specs.Refusal.{refusal_number}
+use Rattle.ocpi_types.specs.Refusal.{refusal_number, refusal_text}
 use Rattle.plain_house.specs.declared.event.Event.{Event}
 use Rattle.plain_house.specs.declared.answer.Answer.{Answer}
 use Rattle.plain_house.specs.declared.answer.Replied.{Replied}
@@ -20,6 +20,15 @@ stamped at (Err refusal) = Err (record { at = Some at; refusal = refusal })
 abbrev pub with_event : List Event → Option Event → List Event
 with_event events None = events
 with_event events (Some event) = events ++ event ∷ []
+
+-- ---- the message of a refused request: the refusal, and then the number of events if there is one
+
+abbrev pub at_text : Option ℕ → List ℕ
+at_text None = []
+at_text (Some at) = codes " at " ++ decimal at
+
+abbrev pub refused_text : Refused → List ℕ
+refused_text refused = refusal_text refused.refusal ++ at_text refused.at
 
 -- ---- want of memory
 

@@ -4,6 +4,8 @@ use ocpi_json::ci_text::CiText;
 use ocpi_json::sequence::Sequence;
 use ocpi_types::{Refusal, TryCopy, copied};
 use std::alloc::{AllocError, Global};
+use std::fmt;
+use thiserror::Error;
 
 /// What an accepted command is answered.
 #[derive(Drop)]
@@ -116,8 +118,24 @@ pub struct Replied {
 }
 
 /// A refusal, and the number of events before it where the house refuses.
-#[derive(Clone, Copy, PartialEq, Eq)]
+#[derive(Clone, Copy, Debug, PartialEq, Eq, Error)]
 pub struct Refused {
     pub at: Option<u64>,
     pub refusal: Refusal,
+}
+
+/// Writes the refusal, and then the number of events if there is one: `NotCurrent current 1 at 6`.
+impl fmt::Display for Refused {
+    ghost use Rattle.std.specs.Prelude.{Some};
+    ghost use Rattle.plain_house.specs.Replies.{refused_text};
+
+    ghost output = { λ refused. Some (refused_text refused) };
+
+    fn fmt<W: fmt::Write>(&self, f: &mut fmt::Formatter<W>) -> fmt::Result {
+        let refusal = self.refusal;
+        match self.at {
+            Some(at) => write!(f, "{refusal} at {at}"),
+            None => write!(f, "{refusal}"),
+        }
+    }
 }

@@ -1,15 +1,21 @@
-/// How a script ended before its reader did.
-#[derive(Clone, Copy, PartialEq, Eq)]
+use thiserror::Error;
+
+/// How a script ended before its reader did. Its text is that of the program's fault.
+#[derive(Clone, Copy, Debug, PartialEq, Eq, Error)]
 pub enum ScriptFault {
     /// The reader failed, or still had bytes after the most read calls.
+    #[error("cannot read -")]
     Read,
 
     /// The writer failed after so many bytes.
+    #[error("cannot write")]
     Write { written: u128 },
 
+    #[error("no memory")]
     NoMemory,
 
     /// The line of this number, from 1, is longer than a line may be.
+    #[error("line {line} is too long")]
     LineTooLong { line: u128 },
 }
 
@@ -21,5 +27,6 @@ pub struct Count {
 }
 
 /// A read or write call has failed.
-#[derive(Clone, Copy, PartialEq, Eq)]
+#[derive(Clone, Copy, Debug, PartialEq, Eq, Error)]
+#[error("cannot read or write")]
 pub struct Failed;
