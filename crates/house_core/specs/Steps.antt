@@ -1,6 +1,6 @@
 -- The steps of calls. Each changes its call, and beside it no more than the lock that it names or the order; and it is decided
 -- by what its definition takes.
-use Rattle.std.specs.Prelude.{ℕ, true, false, if◌then◌else◌, List, ◌++◌, count_by, length, Option, Some, None, is_none, option_map, option_and_then, slice_get, slice_set}
+use Rattle.std.specs.Prelude.{ℕ, Bool, true, false, if◌then◌else◌, List, ◌++◌, count_by, length, Option, Some, None, is_none, is_some, option_map, option_and_then, slice_get, slice_set}
 use Rattle.std.specs.Option.{option_to_list}
 use Rattle.ocpi_types.specs.declared.config.Config.{Config}
 use Rattle.ocpi_types.specs.declared.config.Operator.{Operator}
@@ -219,3 +219,7 @@ ordered_by call action.End = None
 
 abbrev pub orders : PlainWorld → Step → Option Command
 orders world step = option_and_then (λ call. ordered_by call step.action) (slice_get world.calls step.call)
+
+-- the step is the Order step of a call that is ready for it
+abbrev pub gives_place : PlainWorld → Step → Bool
+gives_place world step = is_some (orders world step)

@@ -27,9 +27,9 @@ pub struct Parts {
 }
 
 impl Parts {
-    ghost use Rattle.std.specs.Prelude.{◌≡◌, IfOk, OnErr, OnOk};
+    ghost use Rattle.std.specs.Prelude.{◌≡◌, true, IfOk, OnErr, OnOk};
     ghost use Rattle.house_core.specs.Inner.Ready.{ArePartsReady, AreSound, shown};
-    ghost use Rattle.house_core.specs.Steps.{finishes, step as step_of};
+    ghost use Rattle.house_core.specs.Steps.{finishes, gives_place, step as step_of};
 
     /// A call takes a step, if it can; with the call that ends by it.
     pub fn take(&mut self, step: Step) -> Result<Option<Finished>, AllocError>
@@ -37,6 +37,7 @@ impl Parts {
         ensures ok { OnOk result (shown self.new ≡ step_of (shown self.old) step) }
         ensures finished { IfOk result (λ finished. finished ≡ finishes (shown self.old) step) }
         ensures err { OnErr result (shown self.new ≡ shown self.old) }
+        ensures memory { OnErr result (gives_place (shown self.old) step ≡ true) }
         ensures ready { ArePartsReady self.new }
     {
         let call = step.call;

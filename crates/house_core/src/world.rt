@@ -42,14 +42,14 @@ impl Model for World {
 }
 
 impl World {
-    ghost use Rattle.std.specs.Prelude.{◌≡◌, ◌++◌, length, IfOk, OnErr, OnOk};
+    ghost use Rattle.std.specs.Prelude.{◌≡◌, ◌++◌, true, length, IfOk, OnErr, OnOk};
     ghost use Rattle.std.specs.Option.{option_to_list};
     ghost use Rattle.std.specs.List.{All};
     ghost use Rattle.cdr_checks.specs.Admission.{IsAdmitted};
     ghost use Rattle.house_core.specs.Inner.Steps.{EventsGo, event_added};
     ghost use Rattle.house_core.specs.Events.{events_of};
     ghost use Rattle.house_core.specs.Start.{start};
-    ghost use Rattle.house_core.specs.Steps.{finishes, step as step_of};
+    ghost use Rattle.house_core.specs.Steps.{finishes, gives_place, step as step_of};
 
     /// A house in which nothing has happened, and a call for each command, none of which has begun.
     ///
@@ -77,10 +77,12 @@ impl World {
 
     /// A call takes a step, if it can; a step that cannot be taken leaves the world as it is.
     ///
-    /// `AllocError` where memory is refused; the world is as before.
+    /// `AllocError` where memory is refused; the world is as before. Only a step that gives a command its place in the order takes
+    /// memory.
     pub fn step(&mut self, step: Step) -> Result<(), AllocError>
         ensures ok { OnOk result (self.new ≡ step_of self.old step) }
         ensures err { OnErr result (self.new ≡ self.old) }
+        ensures memory { OnErr result (gives_place self.old step ≡ true) }
     {
         self.take(step)?;
         Ok(())
@@ -92,6 +94,7 @@ impl World {
         ensures finished { IfOk result (λ finished. finished ≡ finishes self.old step) }
         ensures events { OnOk result (EventsGo self.old self.new step.call) }
         ensures err { OnErr result (self.new ≡ self.old) }
+        ensures memory { OnErr result (gives_place self.old step ≡ true) }
     {
         steps_keep();
         self.parts.take(step)

@@ -1,4 +1,5 @@
-//! The house in atomic steps. What it holds cannot be seen from outside, so it is told alone whether its steps found memory.
+//! The house in atomic steps. What it holds cannot be seen from outside, so a line prints only whether the steps found memory, and
+//! which step did not.
 
 ghost use Rattle.std.specs.Prelude.{All, ◌≡◌, IfOk};
 ghost use Rattle.cdr_checks.specs.Admission.{IsAdmitted};
@@ -53,8 +54,16 @@ fn world_of(alloc: Global, config: &Config, trial: &Trial<'_>) -> Result<World, 
     World::new(alloc, config, commands)
 }
 
-// Has the call take its steps. Those that it cannot take change nothing.
-fn call(world: &mut World, operators: usize, call: usize) -> Result<(), AllocError> {
+// Takes the step. The action is returned where it found no memory.
+fn take(world: &mut World, step: Step) -> Result<(), Action> {
+    match world.step(step) {
+        Ok(()) => Ok(()),
+        Err(AllocError) => Err(step.action),
+    }
+}
+
+// Has the call take its steps, up to one that finds no memory. Those that it cannot take change nothing.
+fn call(world: &mut World, operators: usize, call: usize) -> Result<(), Action> {
     for action in [
         Action::Begin,
         Action::TakeBook,
@@ -63,18 +72,32 @@ fn call(world: &mut World, operators: usize, call: usize) -> Result<(), AllocErr
         Action::PutAccount,
         Action::PutBook,
     ] {
-        world.step(Step { call, action })?;
+        take(world, Step { call, action })?;
     }
     for operator in 0..operators {
-        world.step(Step {
-            call,
-            action: Action::Collect { operator },
-        })?;
+        take(
+            world,
+            Step {
+                call,
+                action: Action::Collect { operator },
+            },
+        )?;
     }
-    world.step(Step {
-        call,
-        action: Action::End,
-    })
+    take(
+        world,
+        Step {
+            call,
+            action: Action::End,
+        },
+    )
+}
+
+// Only an Order step takes memory.
+fn is_order(action: Action) -> bool {
+    match action {
+        Action::Order => true,
+        _ => false,
+    }
 }
 
 // Ends the line. Where a step found no memory, the call goes on at that one.
@@ -83,14 +106,19 @@ fn tell(
     world: &mut World,
     operators: usize,
     number: usize,
-    had_memory: bool,
+    refused: Result<(), Action>,
 ) -> io::Result<()> {
-    if had_memory {
+    let Err(action) = refused else {
         return println!(rt);
-    }
+    };
+    let place = if is_order(action) {
+        "at Order"
+    } else {
+        "at another step"
+    };
     match call(world, operators, number) {
-        Ok(()) => println!(rt; ", then done"),
-        Err(AllocError) => println!(rt; ", then no memory"),
+        Ok(()) => println!(rt; " {place}, then done"),
+        Err(_) => println!(rt; " {place}, then no memory"),
     }
 }
 
@@ -102,12 +130,12 @@ fn try_last(
 ) -> io::Result<()> {
     let number = trial.before.len();
     for earlier in 0..number {
-        call(world, operators, earlier)?;
+        call(world, operators, earlier).map_err(|_| AllocError)?;
     }
     announce(rt, trial, "steps")?;
-    let has_memory = call(world, operators, number).is_ok();
-    tell_memory(rt, has_memory)?;
-    tell(rt, world, operators, number, has_memory)
+    let taken = call(world, operators, number);
+    tell_memory(rt, taken.is_ok())?;
+    tell(rt, world, operators, number, taken)
 }
 
 /// Does the lines in steps, one call after another, and tells how the last one went.

@@ -1,6 +1,6 @@
 //! The place in the order.
 
-ghost use Rattle.std.specs.Prelude.{◌≡◌, IfOk, option_map};
+ghost use Rattle.std.specs.Prelude.{◌≡◌, true, is_some, IfOk, OnErr, option_map};
 ghost use Rattle.house_core.specs.Calls.{ready};
 ghost use Rattle.house_core.specs.Inner.Tables.{table_for};
 
@@ -14,7 +14,8 @@ use std::alloc::{AllocError, Global};
 
 // The table for the call's command, once the call holds all that it needs.
 fn table_of(alloc: Global, config: &Config, call: &Call) -> Result<Option<Table>, AllocError>
-    ensures { IfOk result (λ table. table ≡ option_map (table_for config.now) (ready call.now)) }
+    ensures ok { IfOk result (λ table. table ≡ option_map (table_for config.now) (ready call.now)) }
+    ensures memory { OnErr result (is_some (ready call.now) ≡ true) }
 {
     match call.ready() {
         Some(command) => Ok(Some(Table::new(alloc, config, command)?)),
@@ -23,11 +24,11 @@ fn table_of(alloc: Global, config: &Config, call: &Call) -> Result<Option<Table>
 }
 
 impl Parts {
-    ghost use Rattle.std.specs.Prelude.{◌≡◌, ◌<◌, length, option_map, Some, OnErr, OnOk};
+    ghost use Rattle.std.specs.Prelude.{◌≡◌, ◌<◌, true, length, option_map, Some, OnErr, OnOk};
     ghost use Rattle.house_core.specs.Inner.Moves.{ready_at};
     ghost use Rattle.house_core.specs.Inner.Ready.{ArePartsReady, AreSound, HaveRoom, shown};
     ghost use Rattle.house_core.specs.Inner.Tables.{table_for};
-    ghost use Rattle.house_core.specs.Steps.{step};
+    ghost use Rattle.house_core.specs.Steps.{gives_place, step};
     ghost use Rattle.house_core.specs.declared.step.Action.TheVariants as action;
 
     /// Gives the call's command its place in the order. All memory is taken before.
@@ -36,6 +37,7 @@ impl Parts {
         requires sound { AreSound self.old }
         ensures ok { OnOk result (shown self.new ≡ step (shown self.old) (record { call = call; action = action.Order })) }
         ensures err { OnErr result (shown self.new ≡ shown self.old) }
+        ensures memory { OnErr result (gives_place (shown self.old) (record { call = call; action = action.Order }) ≡ true) }
         ensures ready { ArePartsReady self.new }
     {
         let alloc = *self.calls.allocator();
