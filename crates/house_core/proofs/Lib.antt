@@ -7,6 +7,7 @@ pub mod Deciding
 pub mod EachStep
 pub mod EndLemmas
 pub mod EventLemmas
+pub mod ExclusionLemmas
 pub mod Folds
 pub mod HoldingLemmas
 pub mod Keeping

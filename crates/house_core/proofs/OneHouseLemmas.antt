@@ -38,7 +38,8 @@ use Rattle.house_core.specs.Collections.{is_complete}
 use Rattle.std.specs.List.{AllByRecursion}
 use Rattle.house_core.specs.Events.{events_of, whole_account, whole_book}
 use Rattle.house_core.specs.Inner.Collecting.{IsNetting, IsStating, owed_in}
-use Rattle.house_core.specs.Inner.Sound.{Holds, IsCall, holder_at}
+use Rattle.house_core.specs.Holders.{holder_at}
+use Rattle.house_core.specs.Inner.Sound.{Holds, IsCall}
 use Rattle.period_order.specs.Kept.{IsConfiguration}
 use Rattle.house_core.specs.OneHouse.{AnsweredAsOne, IsAnswered, IsFinished, after, events_behind, finished, in_order}
 use Rattle.house_core.specs.Start.{call_of, start}
@@ -287,11 +288,14 @@ module _ (config : Config) (commands : List Command) (laws : HouseLaws) (is_conf
 
     -- ---- whole lists of steps
 
+    pub holds_after : (steps : List Step) → HoldsAt (events_behind config [] (in_order (start config commands) steps)) (after (start config commands) steps)
+    holds_after steps = all_kept config commands HoldsAt keeps finishes_well [] (start config commands) steps starts
+
     pub one_house : (steps : List Step) → AnsweredAsOne config commands steps (finished (start config commands) steps) (events_of (after (start config commands) steps))
     one_house steps =
         let world : PlainWorld = start config commands in
         let all : List Event = events_behind config [] (in_order world steps) in
-        let last : HoldsAt all (after world steps) = all_kept config commands HoldsAt keeps finishes_well [] world steps starts in
+        let last : HoldsAt all (after world steps) = holds_after steps in
         let same : all ≡ events_of (after world steps) = found all (after world steps) last in
         record {
           calls = refl;

@@ -4,7 +4,7 @@ use Rattle.std.specs.Option.{option_and_then, option_map_or}
 use Rattle.std.proofs.lemmas.Bool.{cases_eq}
 use Rattle.std.proofs.lemmas.Option.{none-some, same_Some, slice_get-map}
 use Rattle.house_core.specs.declared.call.Call.{Call}
-use Rattle.house_core.specs.Inner.Sound.{Agree, holder_at}
+use Rattle.house_core.specs.Holders.{Agree, holder_at}
 use Rattle.house_core.specs.Locks.{Lock}
 use Rattle.period_order.specs.Kept.{with_added}
 use Rattle.house_core.proofs.StepLemmas.{put_back}

@@ -6,6 +6,7 @@ use Rattle.cdr_checks.specs.Admission.{IsAdmitted}
 use Rattle.period_order.specs.Kept.{AreDistinct, IsConfiguration}
 use Rattle.house_core.specs.declared.step.Step.{Step}
 use Rattle.house_core.specs.Events.{events_of}
+use Rattle.house_core.specs.Holders.{AreExclusive}
 use Rattle.plain_house.specs.declared.event.Event.{Event}
 use Rattle.plain_house.specs.Legal.{IsLegal}
 use Rattle.house_core.specs.OneHouse.{KeepsRules, OneHouse, after, finished}
@@ -18,6 +19,16 @@ CommandsAreOneHouse =
     IsConfiguration config →
     ((number : ℕ) (command : Command) → slice_get commands number ≡ Some command → IsAdmitted config command) →
     OneHouse config commands steps (finished (start config commands) steps) (events_of (after (start config commands) steps))
+
+-- the commands are admitted
+abbrev pub AreAdmitted : Config → List Command → Type 0
+AreAdmitted config commands = (number : ℕ) (command : Command) → slice_get commands number ≡ Some command → IsAdmitted config command
+
+-- behind every list of steps a call has a lock if and only if it is its holder, and no two calls have one lock
+abbrev pub LocksAreExclusive : Type 0
+LocksAreExclusive =
+    (config : Config) (commands : List Command) (steps : List Step) → IsConfiguration config → AreAdmitted config commands →
+    AreExclusive (after (start config commands) steps)
 
 -- a legal list keeps the rules
 abbrev pub LegalListsKeepRules : Type 0

@@ -1,6 +1,7 @@
 pub mod Calls
 pub mod Collections
 pub mod Events
+pub mod Holders
 pub mod Inner
 pub mod Laws
 pub mod Locks

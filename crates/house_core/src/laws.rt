@@ -2,7 +2,7 @@
 
 ghost use Rattle.house_core.specs.Inner.HouseLaws.{HouseLaws};
 ghost use Rattle.house_core.specs.Inner.Steps.{StepsKeep};
-ghost use Rattle.house_core.specs.Laws.{CommandsAreOneHouse, LegalListsKeepRules};
+ghost use Rattle.house_core.specs.Laws.{CommandsAreOneHouse, LegalListsKeepRules, LocksAreExclusive};
 ghost use Rattle.house_core.specs.StepTable.{StepsAreDecided, StepsChangeNoMore};
 
 use cdr_checks::commands_have_parties;
@@ -52,6 +52,14 @@ pub fn house_laws()
 /// For every list of steps, admitted commands are answered as one house over one list of events answers.
 pub fn commands_are_one_house()
     ensures { CommandsAreOneHouse }
+{
+    empty_lists_are_legal();
+    house_laws();
+}
+
+/// Behind every list of steps a call has a lock if and only if it is its holder, and no two calls have one lock.
+pub fn locks_are_exclusive()
+    ensures { LocksAreExclusive }
 {
     empty_lists_are_legal();
     house_laws();

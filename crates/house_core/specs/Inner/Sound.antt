@@ -1,5 +1,5 @@
 -- What holds between two steps.
-use Rattle.std.specs.Prelude.{◌≡◌, ◌≤◌, ℕ, false, List, length, map, Option, Some, None, option_map, option_and_then, slice_get}
+use Rattle.std.specs.Prelude.{◌≡◌, ◌≤◌, ℕ, false, List, length, map, Some, None, option_map, slice_get}
 use Rattle.ocpi_types.specs.declared.config.Config.{Config}
 use Rattle.cdr_checks.specs.declared.request.Command.{Command}
 use Rattle.cdr_checks.specs.Admission.{IsAdmitted}
@@ -13,20 +13,10 @@ use Rattle.house_core.specs.declared.stage.Stage.{Stage}
 use Rattle.house_core.specs.declared.stage.Stage.TheVariants as stage
 use Rattle.house_core.specs.Calls.{held_account, held_book}
 use Rattle.house_core.specs.Events.{whole_account, whole_book}
+use Rattle.house_core.specs.Holders.{Agree}
 use Rattle.house_core.specs.Inner.Collecting.{IsNetting, IsStating}
-use Rattle.house_core.specs.Locks.{Lock}
 use Rattle.house_core.specs.OneHouse.{IsAnswered}
 use Rattle.house_core.specs.World.{PlainWorld}
-
--- ---- locks
-
-abbrev pub holder_at : {E : Type 0} → List (Lock E) → ℕ → Option ℕ
-holder_at locks number = option_and_then (λ lock. lock.holder) (slice_get locks number)
-
--- a lock's holder is the call that holds it
-pub record Agree {E : Type 0} (held : Call → Option ℕ) (locks : List (Lock E)) (calls : List Call) : Type 0 where
-  pub holding : (number : ℕ) (call : Call) (lock : ℕ) → slice_get calls number ≡ Some call → held call ≡ Some lock → holder_at locks lock ≡ Some number
-  pub holder : (lock number : ℕ) → holder_at locks lock ≡ Some number → (call : Call) × (slice_get calls number ≡ Some call) × (held call ≡ Some lock)
 
 -- ---- calls
 
