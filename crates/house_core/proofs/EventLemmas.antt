@@ -60,7 +60,7 @@ ordered_is call (action.Collect operator) own h = absurd (none-some own h)
 ordered_is call action.Abandon own h = absurd (none-some own h)
 ordered_is call action.End own h = absurd (none-some own h)
 
-orders_is : (o : Option Call) (a : Action) (own : Command) → option_and_then (λ (call : Call). ordered_by call a) o ≡ Some own → (call : Call) × (o ≡ Some call) × (a ≡ action.Order) × (ready call ≡ Some own)
+pub orders_is : (o : Option Call) (a : Action) (own : Command) → option_and_then (λ (call : Call). ordered_by call a) o ≡ Some own → (call : Call) × (o ≡ Some call) × (a ≡ action.Order) × (ready call ≡ Some own)
 orders_is None a own h = absurd (none-some own h)
 orders_is (Some call) a own h = let both = ordered_is call a own h in (call, refl, both.0, both.1)
 

@@ -1,5 +1,5 @@
 -- From one step to a list of steps.
-use Rattle.std.proofs.Common.{◌≡◌, ℕ, List, [], ◌∷◌, ◌++◌, refl, sym, ap, subst, ◌∙◌, append_assoc, append-nil, Option, None, Some, option_to_list}
+use Rattle.std.proofs.Common.{◌≡◌, ℕ, List, [], ◌∷◌, ◌++◌, refl, sym, ap, subst, ◌∙◌, append_assoc, append-nil, map, Option, None, Some, option_map, option_to_list}
 use Rattle.std.specs.List.{AllByRecursion}
 use Rattle.ocpi_types.specs.declared.config.Config.{Config}
 use Rattle.cdr_checks.specs.declared.request.Command.{Command}
@@ -11,9 +11,24 @@ use Rattle.house_core.specs.declared.finished.Done.{Done}
 use Rattle.house_core.specs.declared.finished.Done.TheVariants as done
 use Rattle.house_core.specs.declared.finished.Finished.{Finished}
 use Rattle.house_core.specs.declared.step.Step.{Step}
-use Rattle.house_core.specs.OneHouse.{IsDone, IsFinished, after, events_behind, finished, in_order}
+use Rattle.house_core.specs.OneHouse.{IsDone, IsFinished, Ordered, after, events_behind, finished, in_order}
 use Rattle.house_core.specs.Steps.{finishes, orders, step}
 use Rattle.house_core.specs.World.{PlainWorld}
+
+-- the commands that steps give their places
+abbrev pub ordered_commands : PlainWorld → List Step → List Command
+ordered_commands world [] = []
+ordered_commands world (one ∷ later) = option_to_list (orders world one) ++ ordered_commands (step world one) later
+
+pub commands_are : (world : PlainWorld) (steps : List Step) → map (λ (o : Ordered). o.command) (in_order world steps) ≡ ordered_commands world steps
+commands_are world [] = refl
+commands_are world (one ∷ later) = by (orders world one) (commands_are (step world one) later)
+  where
+    by : (o : Option Command) → map (λ (o : Ordered). o.command) (in_order (step world one) later) ≡ ordered_commands (step world one) later
+        → map (λ (o : Ordered). o.command) (option_to_list (option_map {U = Ordered} (λ (own : Command). record { call = one.call; command = own }) o) ++ in_order (step world one) later)
+        ≡ option_to_list o ++ ordered_commands (step world one) later
+    by None rest = rest
+    by (Some own) rest = ap (λ (l : List Command). own ∷ l) rest
 
 pub with_event-append : (events : List Event) (event : Option Event) → with_event events event ≡ events ++ option_to_list event
 with_event-append events None = sym (append-nil events)
@@ -65,21 +80,21 @@ each-append P (x ∷ xs) ys h g = (h.0, each-append P xs ys h.1 g)
 module _ (config : Config) (commands : List Command) (Holds : List Event → PlainWorld → Type 0)
     (keeps : (events : List Event) (world : PlainWorld) (one : Step) → Holds events world → Holds (events_behind config events (option_to_list (orders world one))) (step world one))
     (ends : (events : List Event) (world : PlainWorld) (one : Step) → Holds events world → AllByRecursion (IsFinished config commands events) (option_to_list (finishes world one))) where
-  pub all_kept : (events : List Event) (world : PlainWorld) (steps : List Step) → Holds events world → Holds (events_behind config events (in_order world steps)) (after world steps)
+  pub all_kept : (events : List Event) (world : PlainWorld) (steps : List Step) → Holds events world → Holds (events_behind config events (ordered_commands world steps)) (after world steps)
   all_kept events world [] holds = holds
   all_kept events world (one ∷ later) holds =
       let now : List Event = events_behind config events (option_to_list (orders world one)) in
-      subst (λ (l : List Event). Holds l (after (step world one) later)) (sym (behind-append config events (option_to_list (orders world one)) (in_order (step world one) later)))
+      subst (λ (l : List Event). Holds l (after (step world one) later)) (sym (behind-append config events (option_to_list (orders world one)) (ordered_commands (step world one) later)))
       (all_kept now (step world one) later (keeps events world one holds))
 
-  pub all_done : (events : List Event) (world : PlainWorld) (steps : List Step) → Holds events world → AllByRecursion (IsFinished config commands (events_behind config events (in_order world steps))) (finished world steps)
+  pub all_done : (events : List Event) (world : PlainWorld) (steps : List Step) → Holds events world → AllByRecursion (IsFinished config commands (events_behind config events (ordered_commands world steps))) (finished world steps)
   all_done events world [] holds = tt
   all_done events world (one ∷ later) holds =
       let now : List Event = events_behind config events (option_to_list (orders world one)) in
-      let whole : List Event = events_behind config events (in_order world (one ∷ later)) in
-      let longer = behind_longer config events (in_order world (one ∷ later)) in
+      let whole : List Event = events_behind config events (ordered_commands world (one ∷ later)) in
+      let longer = behind_longer config events (ordered_commands world (one ∷ later)) in
       each-append (IsFinished config commands whole) (option_to_list (finishes world one)) (finished (step world one) later)
       (subst (λ (l : List Event). AllByRecursion (IsFinished config commands l) (option_to_list (finishes world one))) (sym longer.1)
       (all_longer config commands events longer.0 (option_to_list (finishes world one)) (ends events world one holds)))
-      (subst (λ (l : List Event). AllByRecursion (IsFinished config commands l) (finished (step world one) later)) (sym (behind-append config events (option_to_list (orders world one)) (in_order (step world one) later)))
+      (subst (λ (l : List Event). AllByRecursion (IsFinished config commands l) (finished (step world one) later)) (sym (behind-append config events (option_to_list (orders world one)) (ordered_commands (step world one) later)))
       (all_done now (step world one) later (keeps events world one holds)))

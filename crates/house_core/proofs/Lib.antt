@@ -16,9 +16,12 @@ pub mod Longer
 pub mod OneHouseLemmas
 pub mod Ordering
 pub mod OwesAlike
+pub mod OwnPlaces
 pub mod PlaceLemmas
+pub mod PlacedLemmas
 pub mod Placing
 pub mod PutLemmas
+pub mod RankLemmas
 pub mod ReadyLemmas
 pub mod RoomLemmas
 pub mod SoundLemmas

@@ -18,7 +18,7 @@ use Rattle.plain_house.specs.declared.entry.BookEntry.{BookEntry}
 use Rattle.plain_house.specs.declared.event.Event.{Event}
 use Rattle.plain_house.specs.Entries.{book_entries}
 use Rattle.plain_house.specs.House.{positions_in}
-use Rattle.plain_house.specs.Legal.{EmptyListsAreLegal, IsLegal}
+use Rattle.plain_house.specs.Legal.{EmptyListsAreLegal}
 use Rattle.plain_house.specs.Own.{own_account, own_book}
 use Rattle.plain_house.specs.Replies.{stamped}
 use Rattle.period_order.specs.Resolved.{resolved}
@@ -41,7 +41,7 @@ use Rattle.house_core.specs.Inner.Collecting.{IsNetting, IsStating, owed_in}
 use Rattle.house_core.specs.Holders.{holder_at}
 use Rattle.house_core.specs.Inner.Sound.{Holds, IsCall}
 use Rattle.period_order.specs.Kept.{IsConfiguration}
-use Rattle.house_core.specs.OneHouse.{AnsweredAsOne, IsAnswered, IsFinished, after, events_behind, finished, in_order}
+use Rattle.house_core.specs.OneHouse.{IsAnswered, IsFinished, after, events_behind}
 use Rattle.house_core.specs.Start.{call_of, start}
 use Rattle.house_core.specs.Steps.{change_by, changed, collect_at, ended_by, finishes, known_to, order, ordered_by, orders, step}
 use Rattle.house_core.specs.World.{PlainWorld}
@@ -49,7 +49,7 @@ use Rattle.house_core.proofs.Abandoning.{abandons_begun}
 use Rattle.house_core.proofs.CollectSteps.{collects_book}
 use Rattle.house_core.proofs.CollectingLemmas.{whole_done}
 use Rattle.house_core.proofs.EachStep.{begins, ends, puts_account, puts_book, takes_account, takes_book}
-use Rattle.house_core.proofs.Folds.{all_done, all_kept}
+use Rattle.house_core.proofs.Folds.{all_kept, ordered_commands}
 use Rattle.house_core.specs.Inner.HouseLaws.{HouseLaws}
 use Rattle.house_core.proofs.Placing.{is_placed}
 
@@ -288,19 +288,5 @@ module _ (config : Config) (commands : List Command) (laws : HouseLaws) (is_conf
 
     -- ---- whole lists of steps
 
-    pub holds_after : (steps : List Step) → HoldsAt (events_behind config [] (in_order (start config commands) steps)) (after (start config commands) steps)
+    pub holds_after : (steps : List Step) → HoldsAt (events_behind config [] (ordered_commands (start config commands) steps)) (after (start config commands) steps)
     holds_after steps = all_kept config commands HoldsAt keeps finishes_well [] (start config commands) steps starts
-
-    pub one_house : (steps : List Step) → AnsweredAsOne config commands steps (finished (start config commands) steps) (events_of (after (start config commands) steps))
-    one_house steps =
-        let world : PlainWorld = start config commands in
-        let all : List Event = events_behind config [] (in_order world steps) in
-        let last : HoldsAt all (after world steps) = holds_after steps in
-        let same : all ≡ events_of (after world steps) = found all (after world steps) last in
-        record {
-          calls = refl;
-          found = refl;
-          history = sym same;
-          answers = subst (λ (l : List Event). AllByRecursion (IsFinished config commands l) (finished world steps)) same (all_done config commands HoldsAt keeps finishes_well [] world steps starts);
-          legal = subst (IsLegal config) same last.kept.legal;
-        }

@@ -49,19 +49,19 @@ abbrev pub Late : ℕ → Call → Type 0
 Late n call = waiting call.stage ≡ None → n ≤ call.begin
 
 -- what is so of what is made of what is given
-made : {X : Type 0} (f : X → Change) (o : Option X) (change : Change) (P : Change → Type 0) → ((x : X) → o ≡ Some x → P (f x)) → option_map f o ≡ Some change → P change
+pub made : {X : Type 0} (f : X → Change) (o : Option X) (change : Change) (P : Change → Type 0) → ((x : X) → o ≡ Some x → P (f x)) → option_map f o ≡ Some change → P change
 made f None change P all h = absurd (none-some change h)
 made f (Some x) change P all h = subst P (same_Some (f x) change h) (all x refl)
 
-made_then : {X : Type 0} (f : X → Option Change) (o : Option X) (change : Change) (P : Change → Type 0) → ((x : X) → o ≡ Some x → f x ≡ Some change → P change) → option_and_then f o ≡ Some change → P change
+pub made_then : {X : Type 0} (f : X → Option Change) (o : Option X) (change : Change) (P : Change → Type 0) → ((x : X) → o ≡ Some x → f x ≡ Some change → P change) → option_and_then f o ≡ Some change → P change
 made_then f None change P all h = absurd (none-some change h)
 made_then f (Some x) change P all h = all x refl h
 
-where_free : (free : Bool) (given change : Change) (P : Change → Type 0) → P given → (if free then Some given else None) ≡ Some change → P change
+pub where_free : (free : Bool) (given change : Change) (P : Change → Type 0) → P given → (if free then Some given else None) ≡ Some change → P change
 where_free true given change P holds h = subst P (same_Some given change h) holds
 where_free false given change P holds h = absurd (none-some change h)
 
-only_if : {X : Type 0} (b : Bool) (o : Option X) (x : X) → (if b then o else None) ≡ Some x → o ≡ Some x
+pub only_if : {X : Type 0} (b : Bool) (o : Option X) (x : X) → (if b then o else None) ≡ Some x → o ≡ Some x
 only_if true o x h = h
 only_if false o x h = absurd (none-some x h)
 
@@ -219,7 +219,7 @@ all_ended world (one ∷ later) =
         let rest : length (step world one).order ≤ length (after (step world one) later).order = after_longer (step world one) later in
         (omega (arith, at, here, rest), tt)
 
-each_then : {X : Type 0} (P Q : X → Type 0) (xs : List X) → ((x : X) → P x → Q x) → AllByRecursion P xs → AllByRecursion Q xs
+pub each_then : {X : Type 0} (P Q : X → Type 0) (xs : List X) → ((x : X) → P x → Q x) → AllByRecursion P xs → AllByRecursion Q xs
 each_then P Q [] all h = tt
 each_then P Q (x ∷ xs) all h = (all x h.0, each_then P Q xs all h.1)
 

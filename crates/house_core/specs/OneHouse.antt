@@ -1,5 +1,5 @@
 -- What is promised of a list of steps: that the calls are answered as one house over one list of events answers.
-use Rattle.std.specs.Prelude.{◌≡◌, ◌≤◌, ◌+◌, ℕ, ℤ, pos, List, [], ◌∷◌, ◌++◌, length, map, Option, Some, None, slice_get}
+use Rattle.std.specs.Prelude.{◌≡◌, ◌≢◌, ◌≤◌, ◌+◌, ℕ, ℤ, pos, List, [], ◌∷◌, ◌++◌, length, map, Option, Some, None, option_map, slice_get}
 use Rattle.std.specs.List.{AllByRecursion}
 use Rattle.std.specs.Option.{option_to_list}
 use Rattle.ocpi_types.specs.declared.cdr.Cdr.{Cdr}
@@ -19,6 +19,7 @@ use Rattle.house_core.specs.declared.call.Call.{Call}
 use Rattle.house_core.specs.declared.finished.Done.{Done}
 use Rattle.house_core.specs.declared.finished.Done.TheVariants as done
 use Rattle.house_core.specs.declared.finished.Finished.{Finished}
+use Rattle.house_core.specs.declared.step.Action.TheVariants as action
 use Rattle.house_core.specs.declared.step.Step.{Step}
 use Rattle.house_core.specs.Calls.{waiting}
 use Rattle.house_core.specs.Events.{events_of}
@@ -37,10 +38,23 @@ abbrev pub finished : PlainWorld → List Step → List Finished
 finished world [] = []
 finished world (one ∷ later) = option_to_list (finishes world one) ++ finished (step world one) later
 
--- the commands, in the order in which they were given their places
-abbrev pub in_order : PlainWorld → List Step → List Command
+-- a call whose command was given its place in the order
+pub record Ordered : Type 0 where
+  pub call : ℕ
+  pub command : Command
+
+-- the call that a step gives its place
+abbrev pub ordered_at : PlainWorld → Step → Option Ordered
+ordered_at world one = option_map (λ command. record { call = one.call; command = command }) (orders world one)
+
+-- the calls that were given their places, in the order in which they were
+abbrev pub in_order : PlainWorld → List Step → List Ordered
 in_order world [] = []
-in_order world (one ∷ later) = option_to_list (orders world one) ++ in_order (step world one) later
+in_order world (one ∷ later) = option_to_list (ordered_at world one) ++ in_order (step world one) later
+
+-- no number stands twice among these
+abbrev pub NoneTwice : List ℕ → Type 0
+NoneTwice numbers = (one another number : ℕ) → slice_get numbers one ≡ Some number → slice_get numbers another ≡ Some number → one ≡ another
 
 -- ---- one house over one list of events
 
@@ -69,6 +83,34 @@ pub record IsFinished (config : Config) (commands : List Command) (events : List
   pub of_call : slice_get commands call.call ≡ Some command
   pub done : IsDone config events command call.begin call.end call.done
 
+-- ---- the place of a call
+
+-- the steps split at the call's Order step, which gives the call's command its place; so many events are before it
+pub record IsPlaced (config : Config) (commands : List Command) (steps : List Step) (call point : ℕ) : Type 0 where
+  pub earlier : List Step
+  pub later : List Step
+  pub command : Command
+  pub split : steps ≡ earlier ++ record { call = call; action = action.Order } ∷ later
+  pub of_call : slice_get commands call ≡ Some command
+  pub placed : orders (after (start config commands) earlier) (record { call = call; action = action.Order }) ≡ Some command
+  pub at : point ≡ length (events_of (after (start config commands) earlier))
+
+-- a call that is answered has its place at its point, and one that is abandoned has none
+abbrev pub HasPlace : Config → List Command → List Step → ℕ → Done → Type 0
+HasPlace config commands steps call (done.Answered point reply) = IsPlaced config commands steps call point
+HasPlace config commands steps call done.Abandoned =
+    AllByRecursion (λ ordered. ordered.call ≢ call) (in_order (start config commands) steps)
+
+-- the calls that were given their places are different calls, each with its own command; the calls that ended are different calls,
+-- and each has its place
+pub record ArePlaced (config : Config) (commands : List Command) (steps : List Step) (ended : List Finished) : Type 0 where
+  pub own_commands : AllByRecursion (λ ordered. slice_get commands ordered.call ≡ Some ordered.command) (in_order (start config commands) steps)
+  pub placed_once : NoneTwice (map (λ ordered. ordered.call) (in_order (start config commands) steps))
+  pub ended_once : NoneTwice (map (λ call. call.call) ended)
+  pub places : AllByRecursion (λ call. HasPlace config commands steps call.call call.done) ended
+
+-- ---- time
+
 -- a call that has not begun
 abbrev pub IsWaiting : Option Call → Type 0
 IsWaiting None = Unit {0}
@@ -81,12 +123,14 @@ KeepTime world steps =
     AllByRecursion (λ one. AllByRecursion (λ another. IsWaiting (slice_get (after world earlier).calls another.call) → one.end ≤ another.begin) (finished (after world earlier) later)) (finished world earlier)
 
 -- the calls that ended are those whose last step was taken; the events are those that books, accounts and calls hold at the end,
--- and those of the commands one after another in their order, and legal; and each answer is that of the list at its point
+-- and those of the commands one after another in their order, and legal; each answer is that of the list at its point; and each
+-- call has its own place in the order
 pub record AnsweredAsOne (config : Config) (commands : List Command) (steps : List Step) (ended : List Finished) (events : List Event) : Type 0 where
   pub calls : ended ≡ finished (start config commands) steps
   pub found : events ≡ events_of (after (start config commands) steps)
-  pub history : events ≡ events_behind config [] (in_order (start config commands) steps)
+  pub history : events ≡ events_behind config [] (map (λ ordered. ordered.command) (in_order (start config commands) steps))
   pub answers : AllByRecursion (IsFinished config commands events) ended
+  pub placed : ArePlaced config commands steps ended
   pub legal : IsLegal config events
 
 -- and time is kept

@@ -14,7 +14,7 @@ use ocpi_types::Config;
 use std::alloc::{AllocError, Global};
 
 /// Takes the steps one after another. For every list of steps, the calls that end are answered as one house over one list of
-/// events answers, each at a point between its begin and its end.
+/// events answers, each at the point of its own Order step, between its begin and its end.
 ///
 /// `AllocError` where memory is refused.
 pub fn replay(

@@ -1,5 +1,5 @@
 use Rattle.house_core.specs.Start.{start}
-use Rattle.house_core.proofs.OneHouseLemmas.{one_house}
+use Rattle.house_core.proofs.PlacedLemmas.{one_house}
 use Rattle.house_core.proofs.TimeLemmas.{keeps_time}
 use Rattle.house_core.proofs.laws.commands_are_one_house.Goals as goal
 
