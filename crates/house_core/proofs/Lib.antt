@@ -6,6 +6,7 @@ pub mod CollectingLemmas
 pub mod Deciding
 pub mod EachStep
 pub mod EndLemmas
+pub mod EndingLemmas
 pub mod EventLemmas
 pub mod ExclusionLemmas
 pub mod Folds
@@ -24,6 +25,7 @@ pub mod PutLemmas
 pub mod RankLemmas
 pub mod ReadyLemmas
 pub mod RoomLemmas
+pub mod RowLemmas
 pub mod SoundLemmas
 pub mod StepLemmas
 pub mod TakenLemmas

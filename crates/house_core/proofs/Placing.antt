@@ -46,7 +46,7 @@ use Rattle.house_core.proofs.Ordering.{answered_last, at_point, decided_alike, h
 use Rattle.house_core.proofs.StepLemmas.{no_lock}
 
 -- the outcome of a command that collects no books is its verdict
-outcome_is : (config : Config) (known : Known) (own : Command) → collects own ≡ false → outcome_of own (verdict config known own) ≡ replied_by (verdict config known own)
+pub outcome_is : (config : Config) (known : Known) (own : Command) → collects own ≡ false → outcome_of own (verdict config known own) ≡ replied_by (verdict config known own)
 outcome_is config known (command.PutTariff tariff) e = refl
 outcome_is config known (command.PutToken token) e = refl
 outcome_is config known (command.Authorize ask) e = refl

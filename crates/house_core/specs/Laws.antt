@@ -1,16 +1,28 @@
 -- What follows from the definitions.
-use Rattle.std.specs.Prelude.{◌≡◌, ℕ, List, Some, slice_get}
+use Rattle.std.specs.Prelude.{◌≡◌, ◌≤◌, ℕ, true, List, Some, length, slice_get}
 use Rattle.ocpi_types.specs.declared.config.Config.{Config}
+use Rattle.ocpi_types.specs.Currency.{same_currency}
+use Rattle.ocpi_types.specs.Different.{all_different}
 use Rattle.cdr_checks.specs.declared.request.Command.{Command}
 use Rattle.cdr_checks.specs.Admission.{IsAdmitted}
-use Rattle.period_order.specs.Kept.{AreDistinct, IsConfiguration}
+use Rattle.period_order.specs.Kept.{AreDistinct}
+use Rattle.house_core.specs.declared.call.Call.{Call}
 use Rattle.house_core.specs.declared.step.Step.{Step}
+use Rattle.house_core.specs.Calls.{waiting}
 use Rattle.house_core.specs.Events.{events_of}
 use Rattle.house_core.specs.Holders.{AreExclusive}
 use Rattle.plain_house.specs.declared.event.Event.{Event}
 use Rattle.plain_house.specs.Legal.{IsLegal}
 use Rattle.house_core.specs.OneHouse.{KeepsRules, OneHouse, after, finished}
+use Rattle.house_core.specs.Rows.{AreFree, EndsAnswered, HasEach, row, steps_of}
 use Rattle.house_core.specs.Start.{start}
+
+-- no two operators, providers or currencies are the same; at most 64 operators, of at most 100,000 CDRs each
+pub record IsConfiguration (config : Config) : Type 0 where
+  pub distinct : AreDistinct config
+  pub currencies : all_different same_currency config.currencies ≡ true
+  pub operators : length config.operators ≤ 64
+  pub cdrs : config.limits.cdrs ≤ 100_000
 
 -- for every list of steps, admitted commands are answered as one house over one list of events answers
 abbrev pub CommandsAreOneHouse : Type 0
@@ -29,6 +41,16 @@ abbrev pub LocksAreExclusive : Type 0
 LocksAreExclusive =
     (config : Config) (commands : List Command) (steps : List Step) → IsConfiguration config → AreAdmitted config commands →
     AreExclusive (after (start config commands) steps)
+
+-- behind every list of steps, the steps of its row end a call that waits, with a reply, where the locks that they take and the books
+-- that they collect are free
+abbrev pub CallsCanEnd : Type 0
+CallsCanEnd =
+    (config : Config) (commands : List Command) (steps : List Step) (number : ℕ) (call : Call) (command : Command) (operators : List ℕ) →
+    IsConfiguration config → AreAdmitted config commands →
+    slice_get (after (start config commands) steps).calls number ≡ Some call → waiting call.stage ≡ Some command →
+    AreFree (after (start config commands) steps) call command → HasEach operators (length config.operators) →
+    EndsAnswered (after (start config commands) steps) number (steps_of number (row operators command))
 
 -- a legal list keeps the rules
 abbrev pub LegalListsKeepRules : Type 0

@@ -6,6 +6,7 @@ pub mod Inner
 pub mod Laws
 pub mod Locks
 pub mod OneHouse
+pub mod Rows
 pub mod Start
 pub mod Steps
 pub mod StepTable

@@ -2,7 +2,7 @@
 
 ghost use Rattle.house_core.specs.Inner.HouseLaws.{HouseLaws};
 ghost use Rattle.house_core.specs.Inner.Steps.{StepsKeep};
-ghost use Rattle.house_core.specs.Laws.{CommandsAreOneHouse, LegalListsKeepRules, LocksAreExclusive};
+ghost use Rattle.house_core.specs.Laws.{CallsCanEnd, CommandsAreOneHouse, LegalListsKeepRules, LocksAreExclusive};
 ghost use Rattle.house_core.specs.StepTable.{StepsAreDecided, StepsChangeNoMore};
 
 use cdr_checks::commands_have_parties;
@@ -60,6 +60,14 @@ pub fn commands_are_one_house()
 /// Behind every list of steps a call has a lock if and only if it is its holder, and no two calls have one lock.
 pub fn locks_are_exclusive()
     ensures { LocksAreExclusive }
+{
+    empty_lists_are_legal();
+    house_laws();
+}
+
+/// Behind every list of steps, the steps of its row end a call that has not begun, with a reply, if its locks are free.
+pub fn calls_can_end()
+    ensures { CallsCanEnd }
 {
     empty_lists_are_legal();
     house_laws();

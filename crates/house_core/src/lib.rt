@@ -17,8 +17,8 @@ mod world;
 
 pub use finished::{Done, Finished, Trace};
 pub use laws::{
-    commands_are_one_house, legal_lists_keep_rules, locks_are_exclusive, steps_are_decided,
-    steps_change_no_more,
+    calls_can_end, commands_are_one_house, legal_lists_keep_rules, locks_are_exclusive,
+    steps_are_decided, steps_change_no_more,
 };
 pub use period_order::decide;
 pub use replaying::replay;
