@@ -10,6 +10,7 @@ pub mod EndingLemmas
 pub mod EventLemmas
 pub mod ExclusionLemmas
 pub mod Folds
+pub mod HeldEvents
 pub mod HoldingLemmas
 pub mod Keeping
 pub mod LocalLemmas

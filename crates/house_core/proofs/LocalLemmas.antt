@@ -1,7 +1,7 @@
 -- What decides a step, and what it changes.
-use Rattle.std.proofs.Common.{◌≡◌, ℕ, count_by, List, Bool, true, false, refl, ap, subst, Option, None, Some, option_map, is_none, if◌then◌else◌, slice_get, length}
-use Rattle.std.specs.Option.{option_and_then}
-use Rattle.std.proofs.lemmas.Option.{none-some, same_Some}
+use Rattle.std.proofs.Common.{◌≡◌, ℕ, count_by, List, [], ◌++◌, Bool, true, false, refl, sym, ap, ap₂, Option, None, Some, option_map, is_none, if◌then◌else◌, slice_get, length}
+use Rattle.std.specs.Option.{option_and_then, option_map_or}
+use Rattle.std.proofs.lemmas.Option.{none-some}
 use Rattle.ocpi_types.specs.declared.config.Operator.{Operator}
 use Rattle.cdr_checks.specs.declared.request.Command.{Command}
 use Rattle.plain_house.specs.declared.entry.AccountEntry.{AccountEntry}
@@ -20,9 +20,11 @@ use Rattle.house_core.specs.declared.stage.Stage.{Stage}
 use Rattle.house_core.specs.declared.stage.Stage.TheVariants as stage
 use Rattle.house_core.specs.declared.step.Action.TheVariants as action
 use Rattle.house_core.specs.Calls.{begun, for_account, for_book, held_account, held_book, ready, reply_due, waiting, wanted_account, wanted_book}
-use Rattle.house_core.specs.StepTable.{ChangesNoMore, StepsAreDecided, StepsChangeNoMore}
-use Rattle.house_core.specs.Locks.{Lock, held, lock_at}
+use Rattle.house_core.specs.StepTable.{ChangesNoMore, HasEntries, StepsAreDecided, StepsChangeNoMore}
+use Rattle.house_core.specs.Locks.{Lock, freed, held, lock_at}
 use Rattle.house_core.specs.Steps.{Change, abandon, begin, collect_at, collected, end, known_to, of_account, of_book, of_call, order, put_account, put_book, take_account, take_book}
+use Rattle.house_core.proofs.PutLemmas.{due_account, due_book}
+use Rattle.house_core.proofs.TimeLemmas.{made, made_then, where_free}
 
 abbrev seen_by : List BookEntry → List AccountEntry → List OrderEntry → Known
 seen_by book account kept = record { book = book; account = account; point = length kept; period = count_by is_close_entry kept }
@@ -61,49 +63,49 @@ decided number call action.End one another h = record {
 
 -- ---- what a step changes
 
--- what is so of what is made of any value is so of what is made of one
-made : {X : Type 0} (f : X → Change) (o : Option X) (change : Change) (P : Change → Type 0) → ((x : X) → P (f x)) → option_map f o ≡ Some change → P change
-made f None change P all h = absurd (none-some change h)
-made f (Some x) change P all h = subst P (same_Some (f x) change h) (all x)
+entries_of : {E : Type 0} (o : Option (Lock E)) (lock : Lock E) → o ≡ Some lock → lock.entries ≡ option_map_or (λ (l : Lock E). l.entries) o []
+entries_of o lock e = sym (ap (λ (x : Option (Lock _)). option_map_or (λ (l : Lock _). l.entries) x []) e)
 
--- the same, where it may be none
-made_then : {X : Type 0} (f : X → Option Change) (o : Option X) (change : Change) (P : Change → Type 0) → ((x : X) → f x ≡ Some change → P change) → option_and_then f o ≡ Some change → P change
-made_then f None change P all h = absurd (none-some change h)
-made_then f (Some x) change P all h = all x h
-
-where_free : (free : Bool) (given change : Change) (P : Change → Type 0) → P given → (if free then Some given else None) ≡ Some change → P change
-where_free true given change P holds h = subst P (same_Some given change h) holds
-where_free false given change P holds h = absurd (none-some change h)
+-- a lock that is given back has the entries that it had
+freed_entries : {E : Type 0} (o : Option (Lock E)) → HasEntries (option_map freed o) (option_map_or (λ (l : Lock E). l.entries) o [])
+freed_entries None = tt
+freed_entries (Some lock) = refl
 
 pub no_more : StepsChangeNoMore
 no_more number call action.Begin world change h =
-    made (λ (command : Command). of_call (record call { begin = length world.order; stage = stage.Begun command })) (waiting call.stage) change (ChangesNoMore action.Begin) (λ x. (refl, refl, refl)) h
+    made (λ (command : Command). of_call (record call { begin = length world.order; stage = stage.Begun command })) (waiting call.stage) change (ChangesNoMore world call action.Begin)
+    (λ x e. (refl, refl, refl, refl)) h
 no_more number call action.TakeBook world change h =
-    made_then (take_book number call) (lock_at world.books (wanted_book call)) change (ChangesNoMore action.TakeBook)
-    (λ lock e. where_free (is_none lock.holder) (of_book (record call { has_book = true }) (held number lock)) change (ChangesNoMore action.TakeBook) (refl, refl) e) h
+    made_then (take_book number call) (lock_at world.books (wanted_book call)) change (ChangesNoMore world call action.TakeBook)
+    (λ lock e g. where_free (is_none lock.holder) (of_book (record call { has_book = true }) (held number lock)) change (ChangesNoMore world call action.TakeBook)
+    (refl, refl, refl, entries_of (lock_at world.books (wanted_book call)) lock e) g) h
 no_more number call action.TakeAccount world change h =
-    made_then (take_account number call) (lock_at world.accounts (wanted_account call)) change (ChangesNoMore action.TakeAccount)
-    (λ lock e. where_free (is_none lock.holder) (of_account (record call { has_account = true }) (held number lock)) change (ChangesNoMore action.TakeAccount) (refl, refl) e) h
+    made_then (take_account number call) (lock_at world.accounts (wanted_account call)) change (ChangesNoMore world call action.TakeAccount)
+    (λ lock e g. where_free (is_none lock.holder) (of_account (record call { has_account = true }) (held number lock)) change (ChangesNoMore world call action.TakeAccount)
+    (refl, refl, refl, entries_of (lock_at world.accounts (wanted_account call)) lock e) g) h
 no_more number call action.Order world change h =
-    made (order world.config (known_to world call) call) (ready call) change (ChangesNoMore action.Order) (λ x. (refl, refl)) h
+    made (order world.config (known_to world call) call) (ready call) change (ChangesNoMore world call action.Order) (λ x e. (refl, refl, refl)) h
 no_more number call action.PutAccount world change h =
-    made_then (λ (carried : Carried). option_map (put_account call carried) (lock_at world.accounts call.account)) (for_account call) change (ChangesNoMore action.PutAccount)
-    (λ carried e. made (put_account call carried) (lock_at world.accounts call.account) change (ChangesNoMore action.PutAccount) (λ lock. (refl, refl)) e) h
+    made_then (λ (carried : Carried). option_map (put_account call carried) (lock_at world.accounts call.account)) (for_account call) change (ChangesNoMore world call action.PutAccount)
+    (λ carried e g. made (put_account call carried) (lock_at world.accounts call.account) change (ChangesNoMore world call action.PutAccount)
+    (λ lock f. (refl, refl, refl, ap₂ ◌++◌ (entries_of (lock_at world.accounts call.account) lock f) (sym (due_account call carried e)))) g) h
 no_more number call action.PutBook world change h =
-    made_then (λ (carried : Carried). option_map (put_book call carried) (lock_at world.books call.book)) (for_book call) change (ChangesNoMore action.PutBook)
-    (λ carried e. made (put_book call carried) (lock_at world.books call.book) change (ChangesNoMore action.PutBook) (λ lock. (refl, refl)) e) h
+    made_then (λ (carried : Carried). option_map (put_book call carried) (lock_at world.books call.book)) (for_book call) change (ChangesNoMore world call action.PutBook)
+    (λ carried e g. made (put_book call carried) (lock_at world.books call.book) change (ChangesNoMore world call action.PutBook)
+    (λ lock f. (refl, refl, refl, ap₂ ◌++◌ (entries_of (lock_at world.books call.book) lock f) (sym (due_book call carried e)))) g) h
 no_more number call (action.Collect operator) world change h =
     by (slice_get world.config.operators operator) (slice_get world.books operator) h
   where
-    collecting : (free : Bool) (o : Option Stage) → (if free then option_map (λ (s : Stage). of_call (record call { stage = s })) o else None) ≡ Some change → ChangesNoMore (action.Collect operator) change
-    collecting true o e = made (λ (s : Stage). of_call (record call { stage = s })) o change (ChangesNoMore (action.Collect operator)) (λ s. (refl, refl, refl)) e
+    collecting : (free : Bool) (o : Option Stage) → (if free then option_map (λ (s : Stage). of_call (record call { stage = s })) o else None) ≡ Some change → ChangesNoMore world call (action.Collect operator) change
+    collecting true o e = made (λ (s : Stage). of_call (record call { stage = s })) o change (ChangesNoMore world call (action.Collect operator)) (λ s g. (refl, refl, refl, refl)) e
     collecting false o e = absurd (none-some change e)
 
-    by : (party : Option Operator) (lock : Option (Lock BookEntry)) → collect_at world.config operator call party lock ≡ Some change → ChangesNoMore (action.Collect operator) change
+    by : (party : Option Operator) (lock : Option (Lock BookEntry)) → collect_at world.config operator call party lock ≡ Some change → ChangesNoMore world call (action.Collect operator) change
     by None lock e = absurd (none-some change e)
     by (Some party) None e = absurd (none-some change e)
     by (Some party) (Some lock) e = collecting (is_none lock.holder) (collected world.config operator party lock.entries call.stage) e
 no_more number call action.Abandon world change h =
-    made (λ (command : Command). abandon call (lock_at world.books (held_book call)) (lock_at world.accounts (held_account call))) (begun call.stage) change (ChangesNoMore action.Abandon) (λ x. refl) h
+    made (λ (command : Command). abandon call (lock_at world.books (held_book call)) (lock_at world.accounts (held_account call))) (begun call.stage) change (ChangesNoMore world call action.Abandon)
+    (λ x e. (refl, refl, freed_entries (lock_at world.books (held_book call)), freed_entries (lock_at world.accounts (held_account call)))) h
 no_more number call action.End world change h =
-    made (λ (t : ReplyDue). end call) (reply_due call) change (ChangesNoMore action.End) (λ x. (refl, refl, refl)) h
+    made (λ (t : ReplyDue). end call) (reply_due call) change (ChangesNoMore world call action.End) (λ x e. (refl, refl, refl, refl)) h

@@ -20,12 +20,13 @@ use Rattle.house_core.specs.Events.{events_of}
 use Rattle.house_core.specs.Inner.HouseLaws.{HouseLaws}
 use Rattle.house_core.specs.Inner.Sound.{Holds, IsAt}
 use Rattle.period_order.specs.Kept.{IsConfiguration}
-use Rattle.house_core.specs.OneHouse.{AnsweredAsOne, ArePlaced, HasPlace, IsFinished, Ordered, after, events_behind, finished, in_order, ordered_at}
+use Rattle.house_core.specs.OneHouse.{AnsweredAsOne, ArePlaced, HasPlace, HoldsEvents, IsFinished, Ordered, after, events_behind, finished, in_order, ordered_at}
 use Rattle.house_core.specs.Start.{start}
 use Rattle.house_core.specs.Steps.{orders, step}
 use Rattle.house_core.specs.World.{PlainWorld}
 use Rattle.house_core.proofs.EventLemmas.{orders_is}
 use Rattle.house_core.proofs.Folds.{all_done, commands_are, each-append, ordered_commands}
+use Rattle.house_core.proofs.HeldEvents.{holds_events}
 use Rattle.house_core.proofs.OneHouseLemmas.{at_point, finishes_well, found, holds_after, keeps, starts, waiting_at}
 use Rattle.house_core.proofs.OwnPlaces.{AllStand, StandsAt, StandsDone, each_stands, ended_once, placed_once}
 use Rattle.house_core.proofs.PutLemmas.{met}
@@ -103,6 +104,9 @@ module _ (config : Config) (commands : List Command) (laws : HouseLaws) (is_conf
         record {
           calls = refl;
           found = refl;
+          held =
+              subst (λ (l : List Event). HoldsEvents config l (after first steps)) same
+              (holds_events config commands all (after first steps) last laws.resolve);
           history = sym (ap (events_behind config []) (commands_are first steps) ∙ same);
           answers =
               subst (λ (l : List Event). AllByRecursion (IsFinished config commands l) (finished first steps)) same

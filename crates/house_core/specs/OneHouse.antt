@@ -15,14 +15,16 @@ use Rattle.plain_house.specs.Legal.{IsLegal}
 use Rattle.plain_house.specs.LegalLists.{IsCharged, IsTakenBack, KeepsLimits}
 use Rattle.plain_house.specs.Obligations.{obligations}
 use Rattle.plain_house.specs.Replies.{Reply}
+use Rattle.period_order.specs.Kept.{Keeps}
+use Rattle.period_order.specs.Resolves.{Resolves}
 use Rattle.house_core.specs.declared.call.Call.{Call}
 use Rattle.house_core.specs.declared.finished.Done.{Done}
 use Rattle.house_core.specs.declared.finished.Done.TheVariants as done
 use Rattle.house_core.specs.declared.finished.Finished.{Finished}
 use Rattle.house_core.specs.declared.step.Action.TheVariants as action
 use Rattle.house_core.specs.declared.step.Step.{Step}
-use Rattle.house_core.specs.Calls.{waiting}
-use Rattle.house_core.specs.Events.{events_of}
+use Rattle.house_core.specs.Calls.{due_in_account, due_in_book, waiting}
+use Rattle.house_core.specs.Events.{events_of, whole_account, whole_book}
 use Rattle.house_core.specs.Start.{start}
 use Rattle.house_core.specs.Steps.{finishes, orders, step}
 use Rattle.house_core.specs.World.{PlainWorld}
@@ -99,13 +101,13 @@ pub record IsPlaced (config : Config) (commands : List Command) (steps : List St
 abbrev pub HasPlace : Config → List Command → List Step → ℕ → Done → Type 0
 HasPlace config commands steps call (done.Answered point reply) = IsPlaced config commands steps call point
 HasPlace config commands steps call done.Abandoned =
-    AllByRecursion (λ ordered. ordered.call ≢ call) (in_order (start config commands) steps)
+    AllByRecursion (λ one. one.call ≢ call) (in_order (start config commands) steps)
 
 -- the calls that were given their places are different calls, each with its own command; the calls that ended are different calls,
 -- and each has its place
 pub record ArePlaced (config : Config) (commands : List Command) (steps : List Step) (ended : List Finished) : Type 0 where
-  pub own_commands : AllByRecursion (λ ordered. slice_get commands ordered.call ≡ Some ordered.command) (in_order (start config commands) steps)
-  pub placed_once : NoneTwice (map (λ ordered. ordered.call) (in_order (start config commands) steps))
+  pub own_commands : AllByRecursion (λ one. slice_get commands one.call ≡ Some one.command) (in_order (start config commands) steps)
+  pub placed_once : NoneTwice (map (λ one. one.call) (in_order (start config commands) steps))
   pub ended_once : NoneTwice (map (λ call. call.call) ended)
   pub places : AllByRecursion (λ call. HasPlace config commands steps call.call call.done) ended
 
@@ -122,13 +124,30 @@ KeepTime world steps =
     (earlier later : List Step) → steps ≡ earlier ++ later →
     AllByRecursion (λ one. AllByRecursion (λ another. IsWaiting (slice_get (after world earlier).calls another.call) → one.end ≤ another.begin) (finished (after world earlier) later)) (finished world earlier)
 
+-- ---- books, accounts and the order
+
+-- no call has entries that it still has to put
+abbrev pub NothingIsDue : List Call → Type 0
+NothingIsDue calls =
+    (number : ℕ) (call : Call) → slice_get calls number ≡ Some call → (due_in_book call ≡ []) × (due_in_account call ≡ [])
+
+-- with what calls still have to put, the books, the accounts and the order are those of these events, and the order names the
+-- events there, one by one; where no call has anything to put, it names them in the books and accounts as they are
+pub record HoldsEvents (config : Config) (events : List Event) (world : PlainWorld) : Type 0 where
+  pub kept : Keeps config (map (whole_book world.calls) world.books) (map (whole_account world.calls) world.accounts) world.order events
+  pub named : Resolves (map (whole_book world.calls) world.books) (map (whole_account world.calls) world.accounts) world.order events
+  pub settled : NothingIsDue world.calls → Resolves (map (λ lock. lock.entries) world.books) (map (λ lock. lock.entries) world.accounts) world.order events
+
+-- ---- as one house
+
 -- the calls that ended are those whose last step was taken; the events are those that books, accounts and calls hold at the end,
 -- and those of the commands one after another in their order, and legal; each answer is that of the list at its point; and each
 -- call has its own place in the order
 pub record AnsweredAsOne (config : Config) (commands : List Command) (steps : List Step) (ended : List Finished) (events : List Event) : Type 0 where
   pub calls : ended ≡ finished (start config commands) steps
   pub found : events ≡ events_of (after (start config commands) steps)
-  pub history : events ≡ events_behind config [] (map (λ ordered. ordered.command) (in_order (start config commands) steps))
+  pub held : HoldsEvents config events (after (start config commands) steps)
+  pub history : events ≡ events_behind config [] (map (λ one. one.command) (in_order (start config commands) steps))
   pub answers : AllByRecursion (IsFinished config commands events) ended
   pub placed : ArePlaced config commands steps ended
   pub legal : IsLegal config events

@@ -1,10 +1,10 @@
 -- What decides a step, and what it changes.
-use Rattle.std.specs.Prelude.{◌≡◌, ℕ, Some, None, length, slice_get}
+use Rattle.std.specs.Prelude.{◌≡◌, ℕ, List, ◌++◌, Option, Some, None, length, slice_get}
 use Rattle.house_core.specs.declared.call.Call.{Call}
 use Rattle.house_core.specs.declared.step.Action.{Action}
 use Rattle.house_core.specs.declared.step.Action.TheVariants as action
-use Rattle.house_core.specs.Calls.{held_account, held_book, wanted_account, wanted_book}
-use Rattle.house_core.specs.Locks.{entries_at, lock_at}
+use Rattle.house_core.specs.Calls.{due_in_account, due_in_book, held_account, held_book, wanted_account, wanted_book}
+use Rattle.house_core.specs.Locks.{Lock, entries_at, lock_at}
 use Rattle.house_core.specs.Steps.{Change, change_by, ended_by}
 use Rattle.house_core.specs.World.{PlainWorld}
 
@@ -54,22 +54,59 @@ NoAccount change = change.account ≡ None
 abbrev pub NoEntry : Change → Type 0
 NoEntry change = change.entry ≡ None
 
-abbrev pub ChangesNoMore : Action → Change → Type 0
+-- the entries under a lock, where one changes, are these
+abbrev pub HasEntries : {E : Type 0} → Option (Lock E) → List E → Type 0
+HasEntries None entries = Unit {0}
+HasEntries (Some lock) entries = lock.entries ≡ entries
+
+-- the call is as before but for its stage, and what else is named
+abbrev pub OnlyStage : Call → Call → Type 0
+OnlyStage call now = now ≡ record call { stage = now.stage }
+
+abbrev pub OnlyBeginAndStage : Call → Call → Type 0
+OnlyBeginAndStage call now = now ≡ record call { begin = now.begin; stage = now.stage }
+
+abbrev pub OnlyBookLock : Call → Call → Type 0
+OnlyBookLock call now = now ≡ record call { has_book = now.has_book }
+
+abbrev pub OnlyAccountLock : Call → Call → Type 0
+OnlyAccountLock call now = now ≡ record call { has_account = now.has_account }
+
+abbrev pub OnlyBookLockAndStage : Call → Call → Type 0
+OnlyBookLockAndStage call now = now ≡ record call { has_book = now.has_book; stage = now.stage }
+
+abbrev pub OnlyLocksAndStage : Call → Call → Type 0
+OnlyLocksAndStage call now = now ≡ record call { has_book = now.has_book; has_account = now.has_account; stage = now.stage }
+
+abbrev pub ChangesNoMore : PlainWorld → Call → Action → Change → Type 0
 -- the call
-ChangesNoMore action.Begin change = NoBook change × NoAccount change × NoEntry change
-ChangesNoMore action.End change = NoBook change × NoAccount change × NoEntry change
-ChangesNoMore (action.Collect operator) change = NoBook change × NoAccount change × NoEntry change
--- the call and its book, or its account
-ChangesNoMore action.TakeBook change = NoAccount change × NoEntry change
-ChangesNoMore action.PutBook change = NoAccount change × NoEntry change
-ChangesNoMore action.TakeAccount change = NoBook change × NoEntry change
-ChangesNoMore action.PutAccount change = NoBook change × NoEntry change
+ChangesNoMore world call action.Begin change =
+    NoBook change × NoAccount change × NoEntry change × OnlyBeginAndStage call change.call
+ChangesNoMore world call action.End change = NoBook change × NoAccount change × NoEntry change × OnlyStage call change.call
+ChangesNoMore world call (action.Collect operator) change =
+    NoBook change × NoAccount change × NoEntry change × OnlyStage call change.call
+-- the call and the lock of its book, or of its account, under which the entries stay
+ChangesNoMore world call action.TakeBook change =
+    NoAccount change × NoEntry change × OnlyBookLock call change.call × HasEntries change.book (entries_at world.books (wanted_book call))
+ChangesNoMore world call action.TakeAccount change =
+    NoBook change × NoEntry change × OnlyAccountLock call change.call
+    × HasEntries change.account (entries_at world.accounts (wanted_account call))
+-- the call and its book, or its account, by what the call still has to put there
+ChangesNoMore world call action.PutBook change =
+    NoAccount change × NoEntry change × OnlyBookLockAndStage call change.call
+    × HasEntries change.book (entries_at world.books call.book ++ due_in_book call)
+ChangesNoMore world call action.PutAccount change =
+    NoBook change × NoEntry change × OnlyAccountLock call change.call
+    × HasEntries change.account (entries_at world.accounts call.account ++ due_in_account call)
 -- the call and the order, by one entry or none
-ChangesNoMore action.Order change = NoBook change × NoAccount change
--- the call and its locks
-ChangesNoMore action.Abandon change = NoEntry change
+ChangesNoMore world call action.Order change = NoBook change × NoAccount change × OnlyStage call change.call
+-- the call and its locks, under which the entries stay
+ChangesNoMore world call action.Abandon change =
+    NoEntry change × OnlyLocksAndStage call change.call
+    × HasEntries change.book (entries_at world.books (held_book call))
+    × HasEntries change.account (entries_at world.accounts (held_account call))
 
 abbrev pub StepsChangeNoMore : Type 0
 StepsChangeNoMore =
     (number : ℕ) (call : Call) (action : Action) (world : PlainWorld) (change : Change) → change_by world number call action ≡ Some change →
-    ChangesNoMore action change
+    ChangesNoMore world call action change

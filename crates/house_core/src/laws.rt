@@ -10,7 +10,7 @@ use netting_positions::{sums_decide_net_positions, sums_decide_statements};
 use operator_book::sums_are_no_larger;
 use period_order::{
     books_are_collectable, collected_owes_alike, dues_are_of_own_books, events_are_kept,
-    orders_are_counted, orders_are_resolved, parties_stand_at_their_numbers,
+    orders_are_counted, orders_are_resolved, orders_resolve, parties_stand_at_their_numbers,
 };
 use plain_house::{
     closed_periods_stay, commands_keep_lists_legal, empty_lists_are_legal, entries_are_dated,
@@ -42,6 +42,7 @@ pub fn house_laws()
     events_are_kept();
     orders_are_counted();
     orders_are_resolved();
+    orders_resolve();
     parties_stand_at_their_numbers();
     sums_are_no_larger();
     sums_decide_net_positions();

@@ -6,6 +6,7 @@ use Rattle.period_order.specs.Dues.{BooksAreCollectable, CollectedOwesAlike, Due
 use Rattle.period_order.specs.Kept.{EventsAreKept}
 use Rattle.period_order.specs.Places.{OrdersAreCounted}
 use Rattle.period_order.specs.Resolved.{OrdersAreResolved, PartiesStandAtTheirNumbers}
+use Rattle.period_order.specs.Resolves.{OrdersResolve}
 use Rattle.plain_house.specs.Entries.{EntriesAreDated}
 use Rattle.plain_house.specs.Legal.{CommandsKeepListsLegal}
 use Rattle.plain_house.specs.Obligations.{ClosedPeriodsStay}
@@ -19,6 +20,7 @@ pub record HouseLaws : Type 0 where
   pub standing : PartiesStandAtTheirNumbers
   pub kept : EventsAreKept
   pub resolved : OrdersAreResolved
+  pub resolve : OrdersResolve
   pub own_dues : DuesAreOfOwnBooks
   pub collectable : BooksAreCollectable
   pub collected : CollectedOwesAlike

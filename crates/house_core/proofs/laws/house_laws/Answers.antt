@@ -9,6 +9,7 @@ returns c = record {
   standing = c.parties_stand_at_their_numbers.ensures;
   kept = c.events_are_kept.ensures;
   resolved = c.orders_are_resolved.ensures;
+  resolve = c.orders_resolve.ensures;
   own_dues = c.dues_are_of_own_books.ensures;
   collectable = c.books_are_collectable.ensures;
   collected = c.collected_owes_alike.ensures;
