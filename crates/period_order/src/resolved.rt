@@ -15,12 +15,15 @@ use operator_book::Book;
 use plain_house::{AccountEntry, BookEntry, Event, charge_of, credit_of};
 use provider_account::Account;
 use std::alloc::{AllocError, AllocFailed, Global};
+use thiserror::Error;
 
 /// Why an order gives no list of events.
-#[derive(Clone, Copy, PartialEq, Eq)]
+#[derive(Clone, Copy, Debug, PartialEq, Eq, Error)]
 pub enum ResolveFault {
     /// The first entry, by its number from 0, that names no event in books and accounts.
+    #[error("torn at {entry}")]
     Torn { entry: usize },
+    #[error("no memory")]
     NoMemory,
 }
 

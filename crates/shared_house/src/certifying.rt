@@ -20,6 +20,7 @@ use provider_account::Account;
 use std::alloc::{AllocError, Global};
 use std::thread;
 use std::thread::Threads;
+use thiserror::Error;
 
 mod laws;
 mod replay;
@@ -36,10 +37,12 @@ use turn::Turn;
 use turns::turns_in_order;
 
 /// Why there is no history.
-#[derive(Clone, Copy, PartialEq, Eq)]
+#[derive(Clone, Copy, Debug, PartialEq, Eq, Error)]
 pub enum CertifyFault {
     /// The least number at which an entry of the order names no event, or the history breaks.
+    #[error("torn at {entry}")]
     Torn { entry: u64 },
+    #[error("no memory")]
     NoMemory,
 }
 

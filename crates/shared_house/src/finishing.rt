@@ -13,14 +13,18 @@ use crate::ledgers::{Configured, Names, Part};
 use crate::pass::Pass;
 use std::alloc::{AllocError, Global};
 use std::thread::Threads;
+use thiserror::Error;
 
 /// Why a house ends without its events.
-#[derive(Clone, Copy, PartialEq, Eq)]
+#[derive(Clone, Copy, Debug, PartialEq, Eq, Error)]
 pub enum FinishFault {
     /// Fewer passes came back than were made.
+    #[error("finish: missing pass")]
     MissingPass,
     /// The least number at which an entry of the order names no event, or the history breaks.
+    #[error("finish: torn at {entry}")]
     Torn { entry: u64 },
+    #[error("no memory")]
     NoMemory,
 }
 
