@@ -13,12 +13,14 @@
 //!   each, so many times by a new house, which is to have so many events. All calls are certified.
 //! - `copies` copies what standard input has, and `readings` reads each of its lines in two ways.
 //! - `json` tells row by row whether `ocpi_json` reads and keeps texts as expected.
+//! - `errors` prints the text of each error that the libraries make public, and for a refusal whether it is the proved one.
 //!
 //! Without words it does a bit of everything. A fault is told on standard error, with status 2 for words of another form
 //! and else with status 1.
 #![tactic(auto)]
 
 mod copies;
+mod error_texts;
 mod everything;
 mod fault;
 mod files;
@@ -68,6 +70,7 @@ fn perform<'a>(
         Job::Copies => copies::copy_input(rt, rt.stdin()),
         Job::Readings => readings::compare_lines(rt, rt.stdin()),
         Job::Json => json_rows::tell_rows(rt),
+        Job::Errors => error_texts::tell_rows(rt),
     }
 }
 

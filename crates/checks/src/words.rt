@@ -42,6 +42,9 @@ pub enum Job<'a> {
     Readings,
 
     Json,
+
+    /// Prints the texts of errors.
+    Errors,
 }
 
 // The job that the words behind `often` ask for.
@@ -71,6 +74,7 @@ pub fn job_of(words: &[String]) -> Result<Job<'_>, Fault<'static>> {
         ("copies", []) => Some(Job::Copies),
         ("readings", []) => Some(Job::Readings),
         ("json", []) => Some(Job::Json),
+        ("errors", []) => Some(Job::Errors),
         ("growths", [config]) => Some(Job::Growths {
             config: config.as_str(),
         }),
