@@ -22,14 +22,10 @@ const REQUESTS: &str =
 
 fn main(rt: HostRuntime) -> anyhow::Result<()> {
     let alloc = rt.alloc();
-    let Ok(config) = Config::read(alloc, CONFIG.as_bytes()) else {
-        anyhow::bail!("no configuration");
-    };
+    let config = Config::read(alloc, CONFIG.as_bytes())?;
     let mut house = BookHouse::new(alloc, config.copy(alloc)?)?;
     let mut requests = Device::new(REQUESTS.as_bytes());
     let mut answers = Device::new(rt.stdout());
-    if run_script(alloc, &mut requests, &mut answers, &config, &mut house).is_err() {
-        anyhow::bail!("the answers are cut short");
-    }
+    run_script(alloc, &mut requests, &mut answers, &config, &mut house)?;
     Ok(())
 }
