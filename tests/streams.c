@@ -1,5 +1,6 @@
 /* Preloaded before a program: gives at most READ_MOST bytes of standard input a call and fails the call number READ_FAILS,
-   counted from 1, or does so with the file whose path ends with READ_OF where that is set; takes at most WRITE_MOST bytes for standard output a call, and fails when it has taken WRITE_ROOM bytes.
+   counted from 1; takes at most WRITE_MOST bytes for standard output a call, and fails when it has taken WRITE_ROOM bytes. Where
+   READ_OF or WRITE_OF is set, it does so with the file whose path ends with that, in the place of standard input or output.
    A variable that is not set changes nothing. A call that fails makes the file FAILED. */
 #define _GNU_SOURCE
 #include <dlfcn.h>
@@ -31,15 +32,15 @@ static size_t at_most(const char *name, size_t size)
     return size < most ? size : most;
 }
 
-static int is_meant(int from)
+static int is_meant(int file, const char *name, int stream)
 {
-    const char *end = getenv("READ_OF");
+    const char *end = getenv(name);
     char link[32], path[4096];
     ssize_t size;
 
     if (end == NULL)
-        return from == STDIN_FILENO;
-    snprintf(link, sizeof link, "/proc/self/fd/%d", from);
+        return file == stream;
+    snprintf(link, sizeof link, "/proc/self/fd/%d", file);
     size = readlink(link, path, sizeof path);
     return size >= (ssize_t)strlen(end) && memcmp(path + size - strlen(end), end, strlen(end)) == 0;
 }
@@ -51,7 +52,7 @@ ssize_t read(int from, void *bytes, size_t size)
 
     if (next == NULL)
         next = (ssize_t (*)(int, void *, size_t))dlsym(RTLD_NEXT, "read");
-    if (!is_meant(from))
+    if (!is_meant(from, "READ_OF", STDIN_FILENO))
         return next(from, bytes, size);
     if (number != NULL && ++reads == atol(number))
         return fail(EIO);
@@ -66,7 +67,7 @@ ssize_t write(int to, const void *bytes, size_t size)
 
     if (next == NULL)
         next = (ssize_t (*)(int, const void *, size_t))dlsym(RTLD_NEXT, "write");
-    if (to != STDOUT_FILENO)
+    if (!is_meant(to, "WRITE_OF", STDOUT_FILENO))
         return next(to, bytes, size);
     size = at_most("WRITE_MOST", size);
     if (room != NULL) {

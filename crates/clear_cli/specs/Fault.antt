@@ -10,7 +10,7 @@ use Rattle.request_lines.specs.declared.faults.ScriptFault.TheVariants.{Read, Wr
 use Rattle.shared_house.specs.declared.finishing.FinishFault.{FinishFault}
 use Rattle.shared_house.specs.declared.finishing.FinishFault.TheVariants as finish
 use Rattle.clear_cli.specs.declared.fault.Fault.{Fault}
-use Rattle.clear_cli.specs.declared.fault.Fault.TheVariants.{Usage, ConfigSyntax, ConfigMember, CannotRead, CannotReadInput, CannotWrite, LineTooLong, ScheduleLine, FinishMissingPass, FinishTorn, NoMemory}
+use Rattle.clear_cli.specs.declared.fault.Fault.TheVariants.{Usage, ConfigSyntax, ConfigMember, CannotRead, CannotReadInput, CannotWrite, EarlierStatements, LineTooLong, ScheduleLine, FinishMissingPass, FinishTorn, NoMemory}
 use Rattle.clear_cli.specs.declared.schedule_text.WriteFault.{WriteFault}
 use Rattle.clear_cli.specs.declared.schedule_text.WriteFault.TheVariants as write
 
@@ -27,6 +27,7 @@ fault_text (ConfigMember called) = codes "config: " ++ (key_text called ++ codes
 fault_text (CannotRead path) = cannot_read_text path.now
 fault_text CannotReadInput = codes "cannot read -\n"
 fault_text CannotWrite = codes "cannot write\n"
+fault_text (EarlierStatements folder) = codes "statements of an earlier run in " ++ (folder.now ++ codes "\n")
 fault_text (LineTooLong line) = codes "line " ++ (decimal line ++ codes " is too long\n")
 fault_text (ScheduleLine line) = codes "schedule: line " ++ (decimal line ++ codes "\n")
 fault_text FinishMissingPass = codes "finish: missing pass\n"
@@ -48,6 +49,7 @@ exit_status (ConfigMember called) = 1
 exit_status (CannotRead path) = 1
 exit_status CannotReadInput = 1
 exit_status CannotWrite = 1
+exit_status (EarlierStatements folder) = 1
 exit_status (LineTooLong line) = 1
 exit_status (ScheduleLine line) = 1
 exit_status FinishMissingPass = 1

@@ -1,5 +1,6 @@
 -- Files in a folder.
-use Rattle.std.specs.Prelude.{◌≡◌, ◌<◌, ◌⊎◌, ℕ, Bool, true, List, [], ◌∷◌, ◌++◌, length, take}
+use Rattle.std.specs.Prelude.{◌≡◌, ◌≢◌, ◌<◌, ◌⊎◌, ℕ, Bool, true, List, [], ◌∷◌, ◌++◌, All, length, take}
+use Rattle.clear_cli.specs.declared.files.FileId.{FileId}
 use Rattle.clear_cli.specs.declared.schedule_text.WriteFault.{WriteFault}
 use Rattle.clear_cli.specs.declared.schedule_text.WriteFault.TheVariants.{NoMemory, Write}
 
@@ -59,3 +60,7 @@ pub record AreLeft {O V : Type 0} (words : FolderWords O V) (outputs : List Outp
   pub between : O
   pub written : AreWritten words before folder between
   pub left : IsFileLeft words output between folder' fault
+
+-- a file is none of these files, by device and inode
+abbrev pub IsNoneOf : FileId → List FileId → Type 0
+IsNoneOf id others = All (λ other. other ≢ id) others

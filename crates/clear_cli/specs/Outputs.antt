@@ -1,5 +1,5 @@
 -- The files that are written of a house that has ended.
-use Rattle.std.specs.Prelude.{ℕ, zero, suc, List, [], ◌∷◌, ◌++◌, codes, decimal, map}
+use Rattle.std.specs.Prelude.{◌≡◌, ℕ, zero, suc, List, [], ◌∷◌, ◌++◌, codes, decimal, map}
 use Rattle.ocpi_types.specs.declared.config.Config.{Config}
 use Rattle.ocpi_types.specs.declared.party.Party.{Party}
 use Rattle.netting_positions.specs.declared.obligation.Obligation.{Obligation}
@@ -20,6 +20,10 @@ order_output events = record { name = codes "order.csv"; text = order_text event
 abbrev pub statement_name : ℕ → Party → List ℕ
 statement_name period party =
     codes "statement-" ++ (decimal period ++ (codes "-" ++ (party.country_code ++ (codes "-" ++ (party.party_id ++ codes ".csv")))))
+
+-- a name that a statement can have, whatever its period and its party
+abbrev pub IsStatementName : List ℕ → Type 0
+IsStatementName name = (middle : List ℕ) × (name ≡ codes "statement-" ++ (middle ++ codes ".csv"))
 
 -- a party's statement of a period, of what is owed in it
 abbrev pub statement_output : List Obligation → ℕ → Party → Output

@@ -31,6 +31,9 @@ pub enum Fault<'a> {
 
     CannotWrite,
 
+    /// Statements of an earlier run stand in the folder of a run.
+    EarlierStatements { folder: &'a str },
+
     /// The input's line of this number, from 1, is longer than a line may be.
     LineTooLong { line: u128 },
 
@@ -153,6 +156,7 @@ where
         Fault::CannotRead { path } => ("cannot read ", path, "\n"),
         Fault::CannotReadInput => ("cannot read -", "", "\n"),
         Fault::CannotWrite => ("cannot write", "", "\n"),
+        Fault::EarlierStatements { folder } => ("statements of an earlier run in ", folder, "\n"),
         Fault::LineTooLong { line } => ("line ", buffer.format(line), " is too long\n"),
         Fault::ScheduleLine { line } => ("schedule: line ", buffer.format(line), "\n"),
         Fault::FinishMissingPass => ("finish: missing pass", "", "\n"),

@@ -19,9 +19,9 @@ mod step_line;
 mod words;
 
 use fault::{Fault, tell};
-use files::open_file;
+use files::{FileId, open_file, open_known, read_known_config};
 use house_program::{given_words, read_config};
-use out_folder::OutFolder;
+use out_folder::{OutFolder, refuse_folder};
 use reports::Report;
 use request_lines::Device;
 use run::run;
@@ -68,16 +68,20 @@ fn replay_file<'a>(rt: &HostRuntime, config: &'a str, path: &'a str) -> Result<u
     ))
 }
 
-// The files of these paths, each with its reader, where it can be opened.
+// Opens the files of these paths, each with its reader if it can be opened, and adds their identities to `recorded`.
 fn given_files(
     rt: &HostRuntime,
     alloc: Global,
+    recorded: &mut Vec<FileId>,
     paths: &[&str],
 ) -> Result<Vec<(String, Option<Device<File>>)>, Fault<'static>> {
     let mut files = Vec::new(alloc);
     for path in paths {
-        let reader = match open_file(rt, path)? {
-            Some(opened) => Some(Device::new(opened)),
+        let reader = match open_known(rt, path)? {
+            Some(opened) => {
+                recorded.push(opened.id)?;
+                Some(Device::new(opened.file))
+            }
             None => None,
         };
         files.push((String::from_str(alloc, path)?, reader))?;
@@ -85,17 +89,20 @@ fn given_files(
     Ok(files)
 }
 
-// Answers files by threads, and gives the exit status.
+// Answers files by threads, and gives the exit status. All files are open before an answer file is made.
 fn answer_files<'a>(
     rt: &HostRuntime,
     threads: &(impl Threads + Wait + Sync),
     config: &'a str,
-    folder: &str,
+    folder: &'a str,
     paths: &[&str],
 ) -> Result<u8, Fault<'a>> {
-    let file = read_config(rt, config)?;
-    let files = given_files(rt, rt.alloc(), paths)?;
-    let mut folder = OutFolder::new(rt, folder);
+    let (file, id) = read_known_config(rt, config)?;
+    refuse_folder(rt, file.as_slice(), folder)?;
+    let mut recorded = Vec::new(rt.alloc());
+    recorded.push(id)?;
+    let files = given_files(rt, rt.alloc(), &mut recorded, paths)?;
+    let mut folder = OutFolder::new(rt, folder, recorded);
     let mut writer = Device::new(rt.stdout());
     let mut faults = Device::new(rt.stderr());
     Ok(run(

@@ -8,7 +8,7 @@ ghost use Rattle.plain_house.specs.Legal.{IsLegal};
 ghost use Rattle.plain_house.specs.Obligations.{obligations};
 ghost use Rattle.clear_cli.specs.Folder.{AreLeft, AreWritten, FolderWords, IsFileLeft, IsFileWritten};
 ghost use Rattle.clear_cli.specs.Inner.Stated.{CanBeStated};
-ghost use Rattle.clear_cli.specs.Outputs.{order_output, outputs, statement_name, statement_output, statements};
+ghost use Rattle.clear_cli.specs.Outputs.{IsStatementName, order_output, outputs, statement_name, statement_output, statements};
 
 use crate::folder::{Folder, write_file};
 use crate::schedule_text::WriteFault;
@@ -21,7 +21,8 @@ use plain_house::{
 use std::alloc::{AllocError, Global};
 
 fn statement_name(alloc: Global, period: u64, party: &Party) -> Result<String, AllocError>
-    ensures { IfOk result (λ name. string_bytes name ≡ statement_name period party.now) }
+    ensures name { IfOk result (λ name. string_bytes name ≡ statement_name period party.now) }
+    ensures form { IfOk result (λ name. IsStatementName (string_bytes name)) }
 {
     let country_code = party.country_code.as_str();
     let party_id = party.party_id.as_str();
