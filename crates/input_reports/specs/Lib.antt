@@ -1,4 +1,5 @@
 pub mod CdrText
+pub mod Ratable
 pub mod Rate
 pub mod check_config
 pub mod explain_cost

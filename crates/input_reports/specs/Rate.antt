@@ -1,21 +1,16 @@
 -- What a CDR costs that is given as JSON.
-use Rattle.std.specs.Prelude.{ℕ, ℤ, List, Result, Ok, Err, if◌then◌else◌}
+use Rattle.std.specs.Prelude.{ℕ, ℤ, List, Result, Err, if◌then◌else◌}
 use Rattle.jiff.specs.Types.{TimeZone as PlainZone}
 use Rattle.ocpi_types.specs.declared.cdr.Cdr.{Cdr}
-use Rattle.ocpi_types.specs.declared.refusal.Refusal.{Refusal}
 use Rattle.ocpi_types.specs.Cdr.{is_credit}
-use Rattle.cdr_rating.specs.Price.{price}
 use Rattle.input_reports.specs.CdrText.{◌>>=◌, cdr_of}
+use Rattle.input_reports.specs.Ratable.{or_fault, rated_price}
 use Rattle.input_reports.specs.declared.fault.Fault.{Fault}
-use Rattle.input_reports.specs.declared.fault.Fault.TheVariants.{Refused, CreditCdr}
-
-abbrev pub amount_or_refused : Result ℤ Refusal → Result ℤ Fault
-amount_or_refused (Ok amount) = Ok amount
-amount_or_refused (Err refusal) = Err (Refused refusal)
+use Rattle.input_reports.specs.declared.fault.Fault.TheVariants.{CreditCdr}
 
 -- a Credit CDR is not rated
 unfoldable pub rated_cdr : PlainZone → Cdr → Result ℤ Fault
-rated_cdr zone cdr = if is_credit cdr then Err CreditCdr else amount_or_refused (price cdr zone)
+rated_cdr zone cdr = if is_credit cdr then Err CreditCdr else or_fault (rated_price cdr zone)
 
 -- the amount in ten-thousandths, or why there is none
 unfoldable pub rated_text : List ℕ → PlainZone → Result ℤ Fault

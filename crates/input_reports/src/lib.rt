@@ -13,6 +13,7 @@ mod check_config;
 mod explain_cost;
 mod fault;
 mod printing;
+mod ratable;
 mod rate;
 mod re_rate;
 

@@ -6,7 +6,7 @@ ghost use Rattle.input_reports.specs.Rate.{rated_cdr, rated_text};
 
 use crate::cdr_text::read_cdr;
 use crate::fault::{Fault, refused};
-use cdr_rating::rate;
+use crate::ratable::rated_price;
 use exact_money::Amount;
 use ocpi_json::Room;
 use ocpi_types::{Cdr, Zone};
@@ -19,14 +19,17 @@ fn rate_cdr(cdr: &Cdr, zone: &Zone) -> Result<Amount, Fault>
     if cdr.is_credit() {
         return Err(Fault::CreditCdr);
     }
-    match rate(cdr, zone) {
+    match rated_price(cdr, zone) {
         Ok(amount) => Ok(amount),
         Err(refusal) => Err(refused(refusal)),
     }
 }
 
-/// What the CDR costs by its tariffs in its operator's zone: the faults of `read_cdr`, `CreditCdr` for a Credit CDR,
-/// `TariffNotGiven` and `AmountTooLarge` as `rate` has them.
+/// What the session of the CDR that a text is costs by its tariffs, in the zone of its operator.
+///
+/// # Errors
+///
+/// Those of `read_cdr`; `CreditCdr` for a Credit CDR; those of `rated_price`.
 #[tactic(auto, unfolding(crate::specs::Rate::rated_text))]
 pub fn rate_text(alloc: Global, text: &[u8], zone: &Zone) -> Result<Amount, Fault>
     ensures amount { IfOk result (λ amount. rated_text text.now zone.now ≡ Ok amount) }

@@ -4,8 +4,9 @@ use Rattle.jiff.specs.Types.{TimeZone as PlainZone}
 use Rattle.ocpi_types.specs.declared.cdr.Cdr.{Cdr}
 use Rattle.ocpi_types.specs.declared.refusal.Refusal.{Refusal}
 use Rattle.ocpi_types.specs.Cdr.{is_credit}
-use Rattle.cdr_rating.specs.Price.{bounded, first_tariff, price, sum_of}
+use Rattle.cdr_rating.specs.Price.{bounded, first_tariff, sum_of}
 use Rattle.input_reports.specs.CdrText.{◌>>=◌, cdr_of}
+use Rattle.input_reports.specs.Ratable.{rated_price}
 use Rattle.input_reports.specs.explain_cost.Changes.{changes, raised_by}
 use Rattle.input_reports.specs.explain_cost.CostText.{explanation}
 use Rattle.input_reports.specs.explain_cost.Costs.{cost_rows}
@@ -22,7 +23,7 @@ pub record IsExplained (cdr : Cdr) (zone : PlainZone) (explained : Explained) : 
   pub sum : explained.sum ≡ sum_of cdr zone
   pub raised : explained.raised ≡ raised_by (first_tariff cdr cdr.charging_periods) (sum_of cdr zone)
   pub bounded : explained.bounded ≡ bounded (first_tariff cdr cdr.charging_periods) (sum_of cdr zone)
-  pub amount : price cdr zone ≡ Ok explained.amount
+  pub amount : rated_price cdr zone ≡ Ok explained.amount
 
 -- the text, or why there is none
 abbrev pub explained_at : Cdr → PlainZone → Result ℤ Refusal → Result (List ℕ) Fault
@@ -32,7 +33,7 @@ explained_at cdr zone (Err refusal) = Err (Refused refusal)
 
 -- a Credit CDR is not rated
 unfoldable pub explained_cdr : PlainZone → Cdr → Result (List ℕ) Fault
-explained_cdr zone cdr = if is_credit cdr then Err CreditCdr else explained_at cdr zone (price cdr zone)
+explained_cdr zone cdr = if is_credit cdr then Err CreditCdr else explained_at cdr zone (rated_price cdr zone)
 
 -- ---- a text
 

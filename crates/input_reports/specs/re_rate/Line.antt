@@ -4,8 +4,10 @@ use Rattle.std.specs.List.{before_first, after_first}
 use Rattle.std.specs.Option.{ok_or}
 use Rattle.std.specs.Ordering.{int_eq}
 use Rattle.exact_money.specs.Millionths.{millionths_of}
+use Rattle.ocpi_types.specs.declared.cdr.Cdr.{Cdr}
 use Rattle.re_rating.specs.declared.records.Record.{Record}
 use Rattle.input_reports.specs.CdrText.{◌>>=◌, cdr_of}
+use Rattle.input_reports.specs.Ratable.{or_fault, ratable}
 use Rattle.input_reports.specs.declared.fault.Fault.{Fault}
 use Rattle.input_reports.specs.declared.fault.Fault.TheVariants.{NoAmount}
 
@@ -20,9 +22,16 @@ amount_of text = option_and_then whole_ten_thousandths (millionths_of text)
 abbrev pub is_space : ℕ → Bool
 is_space byte = byte == 32
 
+-- a CDR of which an amount says what the session costs, or that is not rated
+unfoldable pub ratable_cdr_of : List ℕ → Result Cdr Fault
+ratable_cdr_of text = do
+  cdr ← cdr_of text
+  _ ← or_fault (ratable cdr)
+  Ok cdr
+
 -- what was booked stands before the first space of the line, and the CDR behind it
 unfoldable pub record_of : List ℕ → Result Record Fault
 record_of line = do
   booked ← ok_or (amount_of (before_first is_space line)) NoAmount
-  cdr ← cdr_of (after_first is_space line)
+  cdr ← ratable_cdr_of (after_first is_space line)
   Ok (record { cdr = cdr; booked = booked })

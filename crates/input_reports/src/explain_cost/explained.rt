@@ -2,11 +2,11 @@
 
 ghost use Rattle.std.specs.Prelude.{◌≡◌, ◌≤◌, length, unsigned_abs, IfOk, IfErr, Ok, Err, false};
 ghost use Rattle.ocpi_types.specs.Cdr.{is_credit};
-ghost use Rattle.cdr_rating.specs.Price.{price};
 ghost use Rattle.input_reports.specs.explain_cost.Changes.{changes_over};
 ghost use Rattle.input_reports.specs.explain_cost.CostText.{explanation};
 ghost use Rattle.input_reports.specs.explain_cost.Costs.{whole_cost};
 ghost use Rattle.input_reports.specs.CdrText.{is_no_memory};
+ghost use Rattle.input_reports.specs.Ratable.{rated_price};
 ghost use Rattle.input_reports.specs.explain_cost.Explained.{IsExplained, explained_cdr, explained_text};
 
 use super::change::{Bounds, bounded, changes_over};
@@ -16,7 +16,8 @@ use super::row::Row;
 use super::rows::cost_rows;
 use crate::cdr_text::read_cdr;
 use crate::fault::{Fault, refused};
-use cdr_rating::{first_tariff, rate};
+use crate::ratable::rated_price;
+use cdr_rating::first_tariff;
 use exact_money::Amount;
 use ocpi_json::Room;
 use ocpi_types::{Cdr, Zone};
@@ -49,7 +50,7 @@ fn whole_cost(rows: &[Row]) -> u128
 
 fn with_rows(alloc: Global, cdr: &Cdr, zone: &Zone, amount: Amount) -> Result<Explained, AllocError>
     requires not_credit { is_credit cdr.now ≡ false }
-    requires amount { price cdr.now zone.now ≡ Ok amount }
+    requires amount { rated_price cdr.now zone.now ≡ Ok amount }
     ensures { IfOk result (IsExplained cdr.now zone.now) }
 {
     rows_add_up();
@@ -65,8 +66,11 @@ fn with_rows(alloc: Global, cdr: &Cdr, zone: &Zone, amount: Amount) -> Result<Ex
     })
 }
 
-/// What a CDR costs by its tariffs in its operator's zone, with its rows: `CreditCdr` for a Credit CDR, `TariffNotGiven` and
-/// `AmountTooLarge` as `rate` has them, `NoMemory` where a growth was refused.
+/// What the session of a CDR costs by its tariffs, in the zone of its operator, with its rows.
+///
+/// # Errors
+///
+/// `CreditCdr` for a Credit CDR; those of `rated_price`; `NoMemory` if an allocation fails.
 #[tactic(auto, unfolding(crate::specs::explain_cost::Explained::explained_cdr))]
 pub fn explain(alloc: Global, cdr: &Cdr, zone: &Zone) -> Result<Explained, Fault>
     ensures explained { IfOk result (IsExplained cdr.now zone.now) }
@@ -75,7 +79,7 @@ pub fn explain(alloc: Global, cdr: &Cdr, zone: &Zone) -> Result<Explained, Fault
     if cdr.is_credit() {
         return Err(Fault::CreditCdr);
     }
-    match rate(cdr, zone) {
+    match rated_price(cdr, zone) {
         Ok(amount) => Ok(with_rows(alloc, cdr, zone, amount)?),
         Err(refusal) => Err(refused(refusal)),
     }
@@ -110,7 +114,11 @@ fn explain_cdr(alloc: Global, cdr: &Cdr, zone: &Zone) -> Result<Vec<u8>, Fault>
     }
 }
 
-/// The text that explains what the CDR costs that a text of JSON is: the faults of `read_cdr`, and else as `explain` has it.
+/// The text that explains what the session of the CDR that a text is costs.
+///
+/// # Errors
+///
+/// Those of `read_cdr`, and those of `explain`.
 #[tactic(auto, unfolding(crate::specs::explain_cost::Explained::explained_text))]
 pub fn explain_text(alloc: Global, text: &[u8], zone: &Zone) -> Result<Vec<u8>, Fault>
     ensures text { IfOk result (λ told. explained_text text.now zone.now ≡ Ok told.items) }

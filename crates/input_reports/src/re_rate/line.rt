@@ -3,13 +3,14 @@
 ghost use Rattle.std.specs.Prelude.{◌≡◌, ◌≤◌, length, IfOk, IfErr, Ok, Err, false};
 ghost use Rattle.std.specs.List.{before_first, after_first, position_or_len};
 ghost use Rattle.input_reports.specs.CdrText.{is_no_memory};
-ghost use Rattle.input_reports.specs.re_rate.Line.{amount_of, is_space, record_of};
+ghost use Rattle.input_reports.specs.re_rate.Line.{amount_of, is_space, ratable_cdr_of, record_of};
 
 use crate::cdr_text::read_cdr;
-use crate::fault::Fault;
+use crate::fault::{Fault, refused};
+use crate::ratable::ensure_ratable;
 use exact_money::{Amount, Millionths};
 use ocpi_json::Room;
-use ocpi_types::Shared;
+use ocpi_types::{Cdr, Shared};
 use re_rating::Record;
 use std::alloc::{AllocError, Global};
 
@@ -48,13 +49,26 @@ fn cut_at_space(line: &[u8]) -> (&[u8], &[u8])
     }
 }
 
+#[tactic(auto, unfolding(crate::specs::re_rate::Line::ratable_cdr_of))]
+fn read_ratable_cdr(alloc: Global, room: &mut Room, text: &[u8]) -> Result<Cdr, Fault>
+    ensures cdr { IfOk result (λ cdr. ratable_cdr_of text.now ≡ Ok cdr) }
+    ensures fault { IfErr result (λ fault. is_no_memory fault ≡ false → ratable_cdr_of text.now ≡ Err fault) }
+{
+    let cdr = read_cdr(alloc, room, text)?;
+    match ensure_ratable(&cdr) {
+        Ok(()) => Ok(cdr),
+        Err(refusal) => Err(refused(refusal)),
+    }
+}
+
 /// The record that a line is, without its newline: what was booked, a space, and the CDR as JSON.
 ///
 /// # Errors
 ///
 /// `NoAmount` where no decimal number of up to 9 digits stands before the first space, or one that is not a whole number
-/// of ten-thousandths after rounding to millionths; for what stands behind it the faults of `read_cdr`; `NoMemory` where a
-/// growth was refused.
+/// of ten-thousandths after rounding to millionths; for what stands behind it the faults of `read_cdr`, and of a CDR that
+/// would be rated and has a charging period for each tariff that it names, `UnsupportedRestriction` and `Reservation` as
+/// `ensure_ratable` has them; `NoMemory` if an allocation fails.
 #[tactic(auto, unfolding(crate::specs::re_rate::Line::record_of))]
 pub fn read_record(alloc: Global, room: &mut Room, line: &[u8]) -> Result<Record, Fault>
     ensures record_of_line { IfOk result (λ found. record_of line.now ≡ Ok found) }
@@ -64,7 +78,7 @@ pub fn read_record(alloc: Global, room: &mut Room, line: &[u8]) -> Result<Record
     let Some(booked) = amount_of(amount) else {
         return Err(Fault::NoAmount);
     };
-    match read_cdr(alloc, room, text) {
+    match read_ratable_cdr(alloc, room, text) {
         Ok(cdr) => match Shared::new(alloc, cdr) {
             Ok(cdr) => Ok(Record { cdr, booked }),
             Err(AllocError) => Err(Fault::NoMemory),

@@ -1,0 +1,35 @@
+-- Of which CDRs an amount says what the session costs. A bound on current or power decides by what no CDR has, and reserved time has no
+-- price, so an amount would pass over both.
+use Rattle.std.specs.Prelude.{ℤ, not, ◌||◌, Result, Ok, Err, if◌then◌else◌}
+use Rattle.jiff.specs.Types.{TimeZone as PlainZone}
+use Rattle.ocpi_types.specs.declared.cdr.Cdr.{Cdr}
+use Rattle.ocpi_types.specs.declared.refusal.Refusal.{Refusal}
+use Rattle.ocpi_types.specs.declared.refusal.Refusal.TheVariants.{UnsupportedRestriction, Reservation}
+use Rattle.ocpi_types.specs.Cdr.{is_credit}
+use Rattle.cdr_rating.specs.Price.{price}
+use Rattle.cdr_rating.specs.Pricing.{lacks_tariff}
+use Rattle.cdr_checks.specs.CdrConditions.{has_reservation, has_supported_tariffs}
+use Rattle.cdr_checks.specs.FirstRefusal.{◌>>=◌, ensure}
+use Rattle.input_reports.specs.declared.fault.Fault.{Fault}
+use Rattle.input_reports.specs.declared.fault.Fault.TheVariants.{Refused}
+
+-- refusals 8 and 9, as a posted CDR has them
+abbrev pub all_rated : Cdr → Result Unit Refusal
+all_rated cdr = do
+  _ ← ensure (has_supported_tariffs cdr) UnsupportedRestriction
+  ensure (not (has_reservation cdr)) Reservation
+
+-- nothing is asked of a CDR that has no amount: a Credit CDR, and one of which a charging period lacks its tariff
+abbrev pub ratable : Cdr → Result Unit Refusal
+ratable cdr = if is_credit cdr || lacks_tariff cdr then Ok tt else all_rated cdr
+
+-- what the session costs, in ten-thousandths, or the first refusal by number
+abbrev pub rated_price : Cdr → PlainZone → Result ℤ Refusal
+rated_price cdr zone = do
+  _ ← ratable cdr
+  price cdr zone
+
+-- the same with its refusal as a fault
+abbrev pub or_fault : {A : Type 0} → Result A Refusal → Result A Fault
+or_fault (Ok x) = Ok x
+or_fault (Err refusal) = Err (Refused refusal)
