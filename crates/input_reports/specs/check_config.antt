@@ -1,3 +1,4 @@
 pub mod Causes
 pub mod Known
 pub mod Status
+pub mod Warnings

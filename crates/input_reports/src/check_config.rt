@@ -1,6 +1,6 @@
-//! What is in force in a configuration, and which of its members are passed over.
+//! What is in force in a configuration, which of its members are passed over, and of what it is warned.
 
-ghost use Rattle.std.specs.Prelude.{◌≡◌, ◌↔◌, []};
+ghost use Rattle.std.specs.Prelude.{◌≡◌, ◌≢◌, ◌↔◌, []};
 
 mod alike;
 mod failing;
@@ -13,6 +13,8 @@ mod offset;
 mod passed_over;
 mod report;
 mod spelled;
+mod warning;
+mod warnings;
 mod wrong;
 
 use fault::{Fault, tell};
@@ -22,10 +24,12 @@ use std::io;
 use std::process::ExitCode;
 
 // The exit status of a configuration that is read.
-fn status(passed_over: &str) -> u8
-    ensures { (result ≡ 0) ↔ (passed_over.now ≡ []) }
+fn status(passed_over: &str, warnings: &str) -> u8
+    ensures nothing_told { (result ≡ 0) ↔ (passed_over.now ≡ []) × (warnings.now ≡ []) }
+    ensures told { result ≢ 0 → result ≡ 3 }
 {
-    if passed_over.is_empty() { 0 } else { 3 }
+    let is_silent = passed_over.is_empty() && warnings.is_empty();
+    if is_silent { 0 } else { 3 }
 }
 
 fn print(rt: &HostRuntime, report: &Report) -> io::Result<u8> {
@@ -33,9 +37,10 @@ fn print(rt: &HostRuntime, report: &Report) -> io::Result<u8> {
         Report::Read {
             in_force,
             passed_over,
+            warnings,
         } => {
-            print!(rt; "{in_force}{passed_over}")?;
-            Ok(status(passed_over.as_str()))
+            print!(rt; "{in_force}{passed_over}{warnings}")?;
+            Ok(status(passed_over.as_str(), warnings.as_str()))
         }
         Report::AtFault {
             name,
@@ -66,8 +71,8 @@ fn told(rt: &HostRuntime, fault: &Fault<'_>) -> ExitCode {
     ExitCode::from(fault.status())
 }
 
-/// Tells of the configuration at the path that is the one word behind the command, and gives the exit status: 3 where
-/// members are passed over, 1 where there is a fault, and 2 for words of another form.
+/// Tells of the configuration at the path that is the one word behind the command, and gives the exit status: 3 if
+/// members are passed over or there is a warning, 1 if there is a fault, and 2 for words of another form.
 pub fn tell_config(rt: &HostRuntime, words: &[String]) -> ExitCode {
     match print_report(rt, words) {
         Ok(status) => ExitCode::from(status),

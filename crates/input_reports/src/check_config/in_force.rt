@@ -12,7 +12,8 @@ use ocpi_types::config::{Limits, Operator, PairLimit, Platform, Provider};
 use ocpi_types::{AtMost, Config, Currency, Party};
 use std::alloc::{AllocError, Global};
 
-fn amount<const MOST: u64>(ten_thousandths: &AtMost<MOST>) -> Amount
+/// An amount of so many ten-thousandths.
+pub fn amount<const MOST: u64>(ten_thousandths: &AtMost<MOST>) -> Amount
     requires { MOST ≤ 1_000_000_000_000_000 }
     ensures { result ≡ pos ten_thousandths.now }
 {

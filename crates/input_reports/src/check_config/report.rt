@@ -6,6 +6,7 @@ use super::in_force::in_force;
 use super::no_json::spot_of;
 use super::objects::objects_in;
 use super::passed_over::passed_over;
+use super::warnings::warning_lines;
 use ocpi_json::name::Name;
 use ocpi_json::{Node, ReadFault, Room};
 use ocpi_types::{Config, ConfigFault};
@@ -17,10 +18,11 @@ const MOST_BYTES: usize = 1_048_576;
 /// What is told of a configuration.
 #[derive(Drop)]
 pub enum Report {
-    /// It is read: what is in force, and what is passed over.
+    /// It is read: what is in force, what is passed over, and of what it is warned.
     Read {
         in_force: String,
         passed_over: String,
+        warnings: String,
     },
     /// It has a fault: the member that it names, that member where it was found, and what is passed over.
     AtFault {
@@ -45,6 +47,7 @@ fn of_read(alloc: Global, whole: &Node, config: &Config) -> Result<Report, Alloc
     Ok(Report::Read {
         in_force: in_force(alloc, whole, config)?,
         passed_over: passed_over(alloc, whole, objects.as_slice())?,
+        warnings: warning_lines(alloc, config)?,
     })
 }
 
