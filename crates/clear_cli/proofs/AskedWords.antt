@@ -19,7 +19,7 @@ use Rattle.clear_cli.specs.declared.fault.Fault.{Fault}
 use Rattle.clear_cli.specs.declared.fault.Fault.TheVariants.{NoMemory, Usage}
 use Rattle.clear_cli.specs.declared.words.Job.{Job}
 use Rattle.clear_cli.specs.Inner.Commands.{asked_in, asked_under, clear_command, run_in}
-use Rattle.clear_cli.specs.Words.{Asked, Run, Schedule, asked, asked_by}
+use Rattle.clear_cli.specs.Words.{Asked, Run, Schedule, asked_of_house, asked_by}
 use Rattle.clear_cli.proofs.Turns.{has_fault}
 use Rattle.clear_cli.proofs.PlainWalk.{AllUtf8}
 use Rattle.clear_cli.proofs.ProgramWords.{Parses, is_ready, parses}
@@ -40,10 +40,10 @@ passes words ask (Some known) e p = p.0
 
 -- the words ask for something, and the parse fails
 pub only_memory : (app : App) (words : List Text) (error : Error) → app ≡ clear_command → AllUtf8 words
-    → (is_simple_and_free app ≡ true → HasKind (fault_of app words) error) → (ask : Asked) → asked words ≡ Some ask → kind_of error ≡ OutOfMemory
+    → (is_simple_and_free app ≡ true → HasKind (fault_of app words) error) → (ask : Asked) → asked_of_house words ≡ Some ask → kind_of error ≡ OutOfMemory
 only_memory app words error e u h ask a =
     no_kind (fault_of app words) error
-    (ap (λ (known : App). fault_of known words) e ∙ passes words ask (asked words) a (parses words u)) (h (ap is_simple_and_free e ∙ is_ready))
+    (ap (λ (known : App). fault_of known words) e ∙ passes words ask (asked_of_house words) a (parses words u)) (h (ap is_simple_and_free e ∙ is_ready))
 
 finds : (words : List Text) (answer : Option Asked) → fault_of clear_command words ≡ [] → Parses words answer
     → option_and_then asked_in (subcommand_of clear_command words) ≡ answer
@@ -53,11 +53,11 @@ finds words (Some ask) f p = p.1
 -- the parse passes
 pub met : (app : App) (words : List Text) (matches : ArgMatches) → app ≡ clear_command → AllUtf8 words
     → (is_simple_and_free app ≡ true → fault_of app words ≡ []) → HasMatchesOf app words matches
-    → option_and_then asked_in (subcommand_rows_of matches) ≡ asked words
+    → option_and_then asked_in (subcommand_rows_of matches) ≡ asked_of_house words
 met app words matches e u faults has =
     let ready : is_simple_and_free app ≡ true = ap is_simple_and_free e ∙ is_ready in
     ap (option_and_then asked_in) ((has (both (is_simple app) _ ready).0).1 ∙ ap (λ (known : App). subcommand_of known words) e)
-    ∙ finds words (asked words) (ap (λ (known : App). fault_of known words) (sym e) ∙ faults ready) (parses words u)
+    ∙ finds words (asked_of_house words) (ap (λ (known : App). fault_of known words) (sym e) ∙ faults ready) (parses words u)
 
 pub for_ask : (answer : Option Asked) (P : Asked → Type 0) → ((ask : Asked) → answer ≡ Some ask → P ask) → IfSome answer P
 for_ask None P h = tt

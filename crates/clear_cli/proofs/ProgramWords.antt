@@ -10,7 +10,7 @@ use Rattle.clap.specs.Words.{Text, subcommand_of}
 use Rattle.clap.specs.Faults.{fault_of, is_simple_and_free, turn_fault, walk_fault}
 use Rattle.clap.specs.Kinds.{Kinds, or_else}
 use Rattle.clear_cli.specs.Inner.Commands.{asked_in, clear_command}
-use Rattle.clear_cli.specs.Words.{Asked, asked, plain_words, run_of, schedule_of, script_of}
+use Rattle.clear_cli.specs.Words.{Asked, asked_of_house, plain_words, run_of, schedule_of, script_of}
 use Rattle.clear_cli.proofs.WordKinds.{IsDashes, IsPlain, WordKind, dashes, long, plain, short, word_kind}
 use Rattle.clear_cli.proofs.Turns.{OnlyHelp, dashes_step, dashes_turn, fault_first, has_fault, help_found, long_refused, short_refused}
 use Rattle.clear_cli.proofs.PlainWalk.{AllUtf8, command_fault, open_at_start, start}
@@ -143,7 +143,7 @@ turned name word true e n =
     absurd cc
 
 parses_after : (program word : Text) (rest : List Text) → AllUtf8 (word ∷ rest) → (is_script is_schedule is_run : Bool) → bytes_eq word (codes "script") ≡ is_script
-    → bytes_eq word (codes "schedule") ≡ is_schedule → bytes_eq word (codes "run") ≡ is_run → Parses (program ∷ word ∷ rest) (asked (program ∷ word ∷ rest))
+    → bytes_eq word (codes "schedule") ≡ is_schedule → bytes_eq word (codes "run") ≡ is_run → Parses (program ∷ word ∷ rest) (asked_of_house (program ∷ word ∷ rest))
 parses_after program word rest u true is_schedule is_run e e' e'' =
     rw e (parses_command program (codes "script") word script_shape script_of rest script_enters script_asks u.1 e)
 parses_after program word rest u false true is_run e e' e'' =
@@ -164,7 +164,7 @@ no_words : Refuses []
 unfolding clap_on_literals
 no_words = refl
 
-pub parses : (words : List Text) → AllUtf8 words → Parses words (asked words)
+pub parses : (words : List Text) → AllUtf8 words → Parses words (asked_of_house words)
 parses [] u = no_words
 parses (program ∷ []) u = no_command program
 parses (program ∷ word ∷ rest) u = parses_after program word rest u.1 (bytes_eq word (codes "script")) (bytes_eq word (codes "schedule")) (bytes_eq word (codes "run")) refl refl refl

@@ -1,6 +1,9 @@
 -- What the words of a command line ask for.
-use Rattle.std.specs.Prelude.{ℕ, ◌==◌, Bool, false, List, [], ◌∷◌, Option, Some, None, if◌then◌else◌, codes, length, map, nat_lt, option_map, option_and_then}
+use Rattle.std.specs.Prelude.{ℕ, ◌==◌, ◌||◌, Bool, false, List, [], ◌∷◌, Option, Some, None, if◌then◌else◌, codes, length, map, nat_lt, option_map, option_and_then}
+use Rattle.std.specs.List.{list_any}
+use Rattle.std.specs.Option.{option_or}
 use Rattle.std.specs.Str.{bytes_eq}
+use Rattle.std.specs.String.{string_bytes}
 use Rattle.clear_cli.specs.declared.words.Job.{Job}
 use Rattle.clear_cli.specs.declared.words.Job.TheVariants as job
 
@@ -27,6 +30,57 @@ pub data Asked : Type 0 where
   -- the answers to the lines of the files of these paths, and what their house leaves, in the folder of the second path and under
   -- the configuration of the first
   Run : (config folder : List ℕ) (files : List (List ℕ)) → Asked
+  -- a report by these words, which its command reads, the command's name first
+  Report : (words : List (List ℕ)) → Asked
+  -- the help of the program, or that of the command of this name
+  Help : (command : Option (List ℕ)) → Asked
+  -- the version of the program
+  Version : Asked
+
+-- a command that reports of a configuration, of CDRs, or of a house after its lines
+abbrev pub is_report : List ℕ → Bool
+is_report name = list_any (bytes_eq name)
+    (codes "check_config" ∷ codes "explain_lines" ∷ codes "statements" ∷ codes "balances" ∷ codes "rate" ∷ codes "explain_cost" ∷ codes "re_rate" ∷ [])
+
+-- a command by which a house answers
+abbrev pub is_answering : List ℕ → Bool
+is_answering name = list_any (bytes_eq name) (codes "script" ∷ codes "schedule" ∷ codes "run" ∷ [])
+
+abbrev pub is_command : List ℕ → Bool
+is_command name = is_answering name || is_report name
+
+abbrev pub is_help_flag : List ℕ → Bool
+is_help_flag word = list_any (bytes_eq word) (codes "--help" ∷ codes "-h" ∷ [])
+
+abbrev pub is_version_flag : List ℕ → Bool
+is_version_flag word = list_any (bytes_eq word) (codes "--version" ∷ codes "-V" ∷ [])
+
+-- the help of the command of this name, if there is one
+abbrev pub help_of : List ℕ → Option Asked
+help_of name = if is_command name then Some (Help (Some name)) else None
+
+-- what one word behind the program's name shows: the version, or the help of the program
+abbrev pub shown_alone : List ℕ → Option Asked
+shown_alone word =
+    if is_version_flag word then Some Version
+    else (if is_help_flag word || bytes_eq word (codes "help") then Some (Help None) else None)
+
+-- what two words show: the help of the command of one of them, if the other is `help` before it or a flag behind it
+abbrev pub shown_by_two : List ℕ → List ℕ → Option Asked
+shown_by_two first second =
+    if bytes_eq first (codes "help") then help_of second
+    else (if is_help_flag second then help_of first else None)
+
+-- what the words behind the program's name show, if they ask for help or the version
+abbrev pub shown : List (List ℕ) → Option Asked
+shown (word ∷ []) = shown_alone word
+shown (first ∷ second ∷ []) = shown_by_two first second
+shown words = None
+
+-- what the words behind the program's name ask for, if that is a report
+abbrev pub reported : List (List ℕ) → Option Asked
+reported (name ∷ words) = if is_report name then Some (Report (name ∷ words)) else None
+reported [] = None
 
 -- what the plain words behind `script` ask for
 abbrev pub script_of : List (List ℕ) → Option Asked
@@ -43,15 +97,23 @@ abbrev pub run_of : List (List ℕ) → Option Asked
 run_of (config ∷ folder ∷ file ∷ files) = if nat_lt 128 (length (file ∷ files)) then None else Some (Run config folder (file ∷ files))
 run_of words = None
 
--- what the words ask for, the program's name first
-abbrev pub asked : List (List ℕ) → Option Asked
-asked (program ∷ command ∷ rest) =
+-- what the words ask a house for, the program's name first
+abbrev pub asked_of_house : List (List ℕ) → Option Asked
+asked_of_house (program ∷ command ∷ rest) =
     if bytes_eq command (codes "script") then option_and_then script_of (plain_words rest)
     else (if bytes_eq command (codes "schedule") then option_and_then schedule_of (plain_words rest)
     else (if bytes_eq command (codes "run") then option_and_then run_of (plain_words rest) else None))
-asked words = None
+asked_of_house words = None
+
+-- what the words ask for, the program's name first
+abbrev pub asked : List (List ℕ) → Option Asked
+asked (program ∷ words) = option_or (shown words) (option_or (reported words) (asked_of_house (program ∷ words)))
+asked [] = None
 
 abbrev pub asked_by : Job → Asked
 asked_by (job.Script config) = Script config.now
 asked_by (job.Schedule config file) = Schedule config.now file.now
 asked_by (job.Run config folder files) = Run config.now folder.now (map (λ file. file.now) files.items)
+asked_by (job.Report words) = Report (map string_bytes words.now)
+asked_by (job.Help command) = Help (option_map (λ name. name.now) command)
+asked_by job.Version = Version

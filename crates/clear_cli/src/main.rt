@@ -5,6 +5,7 @@ mod differences;
 mod fault;
 mod files;
 mod folder;
+mod help;
 mod house_run;
 mod opening;
 mod out_folder;
@@ -20,14 +21,14 @@ mod words;
 
 use fault::{Fault, tell};
 use files::{FileId, open_file, open_known, read_known_config};
-use house_program::{given_words, read_config};
+use house_program::{Errors, Output, given_words, read_config};
 use out_folder::{OutFolder, refuse_folder};
-use reports::Report;
 use request_lines::Device;
 use run::run;
 use schedule::schedule;
 use script::script;
 use std::alloc::Global;
+use std::cell::Cell;
 use std::fs::File;
 use std::process::ExitCode;
 use std::sync::Wait;
@@ -37,9 +38,10 @@ use words::{Job, read_words};
 // Answers standard input, and gives the exit status.
 fn answer_input<'a>(rt: &HostRuntime, config: &'a str) -> Result<u8, Fault<'a>> {
     let file = read_config(rt, config)?;
+    let is_gone = Cell::new(false);
     let mut reader = Device::new(rt.stdin());
-    let mut writer = Device::new(rt.stdout());
-    let mut faults = Device::new(rt.stderr());
+    let mut writer = Device::new(Output::new(rt.stdout(), &is_gone));
+    let mut faults = Device::new(Errors::new(rt.stderr(), &is_gone));
     Ok(script(
         rt.alloc(),
         file.as_slice(),
@@ -56,8 +58,9 @@ fn replay_file<'a>(rt: &HostRuntime, config: &'a str, path: &'a str) -> Result<u
         Some(opened) => Some(Device::new(opened)),
         None => None,
     };
-    let mut writer = Device::new(rt.stdout());
-    let mut faults = Device::new(rt.stderr());
+    let is_gone = Cell::new(false);
+    let mut writer = Device::new(Output::new(rt.stdout(), &is_gone));
+    let mut faults = Device::new(Errors::new(rt.stderr(), &is_gone));
     Ok(schedule(
         rt.alloc(),
         path,
@@ -103,8 +106,9 @@ fn answer_files<'a>(
     recorded.push(id)?;
     let files = given_files(rt, rt.alloc(), &mut recorded, paths)?;
     let mut folder = OutFolder::new(rt, folder, recorded);
-    let mut writer = Device::new(rt.stdout());
-    let mut faults = Device::new(rt.stderr());
+    let is_gone = Cell::new(false);
+    let mut writer = Device::new(Output::new(rt.stdout(), &is_gone));
+    let mut faults = Device::new(Errors::new(rt.stderr(), &is_gone));
     Ok(run(
         threads,
         rt.alloc(),
@@ -116,21 +120,36 @@ fn answer_files<'a>(
     ))
 }
 
+// Prints the text, and gives the exit status. That the reader of the output has gone is not told.
+fn print_text(rt: &HostRuntime, text: &str) -> Result<u8, Fault<'static>> {
+    let is_gone = Cell::new(false);
+    let mut writer = Device::new(Output::new(rt.stdout(), &is_gone));
+    match help::show(&mut writer, text) {
+        Ok(()) => Ok(0),
+        Err(fault) if is_gone.get() => Ok(fault.status()),
+        Err(fault) => Err(fault),
+    }
+}
+
 // Does what the words ask for, and gives the exit status.
 fn perform<'a>(
     rt: &HostRuntime,
     threads: &(impl Threads + Wait + Sync),
     words: &'a [String],
-) -> Result<u8, Fault<'a>> {
-    match read_words(rt.alloc(), words)? {
-        Job::Script { config } => answer_input(rt, config),
-        Job::Schedule { config, file } => replay_file(rt, config, file),
+) -> Result<ExitCode, Fault<'a>> {
+    let status = match read_words(rt.alloc(), words)? {
+        Job::Script { config } => answer_input(rt, config)?,
+        Job::Schedule { config, file } => replay_file(rt, config, file)?,
         Job::Run {
             config,
             folder,
             files,
-        } => answer_files(rt, threads, config, folder, files.as_slice()),
-    }
+        } => answer_files(rt, threads, config, folder, files.as_slice())?,
+        Job::Report { words } => return reports::perform(rt, threads, words),
+        Job::Help { command } => print_text(rt, help::help(rt.alloc(), command)?.as_str())?,
+        Job::Version => print_text(rt, help::version(rt.alloc())?.as_str())?,
+    };
+    Ok(ExitCode::from(status))
 }
 
 fn told(rt: &HostRuntime, fault: &Fault<'_>) -> ExitCode {
@@ -143,12 +162,13 @@ fn main(rt: HostRuntime) -> ExitCode {
         Ok(words) => words,
         Err(fault) => return told(&rt, &Fault::from(fault)),
     };
-    let behind = words.as_slice().get(1..).unwrap_or(&[]);
-    if let Some(report) = behind.first().and_then(|name| Report::of(name.as_str())) {
-        return reports::perform(&rt, &rt, report, behind);
-    }
     match perform(&rt, &rt, words.as_slice()) {
-        Ok(status) => ExitCode::from(status),
-        Err(fault) => told(&rt, &fault),
+        Ok(status) => status,
+        Err(fault) => {
+            if fault == Fault::Usage {
+                let _ = help::hint(&rt, words.as_slice().get(1).map(|name| name.as_str()));
+            }
+            told(&rt, &fault)
+        }
     }
 }

@@ -1,5 +1,6 @@
 //! Commands that tell of a configuration, of CDRs, or of a house after its lines, beside those by which a house answers.
 
+use crate::fault::Fault;
 use house_program::only_word;
 use input_reports::{Records, print_amount, print_explanation, tell_config};
 use ocpi_types::Zone;
@@ -8,17 +9,17 @@ use std::io::{self, ErrorKind};
 use std::process::ExitCode;
 use std::thread::Threads;
 
-/// What is to be told of CDRs.
+// What is to be told of CDRs.
 #[derive(Clone, Copy)]
-pub enum Costs {
+enum Costs {
     Rate,
     ExplainCost,
     ReRate,
 }
 
-/// What is to be told.
+// What is to be told.
 #[derive(Clone, Copy)]
-pub enum Report {
+enum Report {
     CheckConfig,
     Costs(Costs),
     House(house_reports::Command),
@@ -33,20 +34,11 @@ impl Costs {
             _ => None,
         }
     }
-
-    // The form of its words.
-    fn words(self) -> &'static str {
-        match self {
-            Costs::Rate => "rate ZONE < CDR",
-            Costs::ExplainCost => "explain_cost ZONE < CDR",
-            Costs::ReRate => "re_rate ZONE < RECORDS",
-        }
-    }
 }
 
 impl Report {
-    /// What the command of this name is to tell.
-    pub fn of(name: &str) -> Option<Report> {
+    // What the command of this name is to tell.
+    fn of(name: &str) -> Option<Report> {
         if name == "check_config" {
             return Some(Report::CheckConfig);
         }
@@ -81,38 +73,37 @@ fn tell_costs(
     }
 }
 
+// Tells the fault, but that the reader of the output has gone, and gives the exit status.
 fn told(rt: &HostRuntime, done: io::Result<u8>) -> ExitCode {
-    match done {
-        Ok(status) => ExitCode::from(status),
-        Err(error) => {
-            let fault = match error.kind() {
-                ErrorKind::OutOfMemory => "no memory",
-                _ => "cannot read or write",
-            };
-            let _ = eprintln!(rt; "clear: {fault}");
-            ExitCode::from(1)
-        }
-    }
+    let fault = match done {
+        Ok(status) => return ExitCode::from(status),
+        Err(error) => match error.kind() {
+            ErrorKind::BrokenPipe => return ExitCode::from(1),
+            ErrorKind::OutOfMemory => "no memory",
+            _ => "cannot read or write",
+        },
+    };
+    let _ = eprintln!(rt; "clear: {fault}");
+    ExitCode::from(1)
 }
 
-fn usage(rt: &HostRuntime, words: &str) -> ExitCode {
-    let _ = eprintln!(rt; "clear: usage: clear {words}");
-    ExitCode::from(2)
-}
-
-/// Tells it by the words, the command's name first, and gives the exit status: 2 for words of another form.
+/// Reports by these words, the command's name first, and gives the exit status.
+///
+/// # Errors
+///
+/// `Usage` if a report of CDRs has words of another form; the other reports print their own line for that, and give 2.
 pub fn perform(
     rt: &HostRuntime,
     threads: &(impl Threads + Sync),
-    report: Report,
     words: &[String],
-) -> ExitCode {
-    match report {
-        Report::CheckConfig => tell_config(rt, words),
-        Report::House(command) => command.done(rt, words),
-        Report::Costs(costs) => match only_word(words).ok().and_then(Zone::read) {
-            Some(zone) => told(rt, tell_costs(rt, threads, costs, &zone)),
-            None => usage(rt, costs.words()),
+) -> Result<ExitCode, Fault<'static>> {
+    match words.first().and_then(|name| Report::of(name.as_str())) {
+        Some(Report::CheckConfig) => Ok(tell_config(rt, words)),
+        Some(Report::House(command)) => Ok(command.done(rt, words)),
+        Some(Report::Costs(costs)) => match only_word(words).ok().and_then(Zone::read) {
+            Some(zone) => Ok(told(rt, tell_costs(rt, threads, costs, &zone))),
+            None => Err(Fault::Usage),
         },
+        None => Err(Fault::Usage),
     }
 }

@@ -1,12 +1,13 @@
 //! What a command line asks for.
 
 ghost use Rattle.std.specs.Prelude.{◌≡◌, ◌≢◌, ◌↔◌, IfErr, IfOk, IfSome, MatchResult, Some, codes, false, map, option_map, option_and_then};
+ghost use Rattle.std.specs.Option.{option_or};
 ghost use Rattle.std.specs.String.{string_bytes};
 ghost use Rattle.clap.specs.Walk.{rule_of};
 ghost use Rattle.clap.specs.Words.{app_of, found_of, kind_of, rows_of, subcommand_rows_of};
 ghost use Rattle.clap.specs.declared.builder.command.Command.TheViews.{out-Command as fields_of};
 ghost use Rattle.clear_cli.specs.Inner.Commands.{asked_in, asked_under, clear_command, clear_script, clear_script_schedule, files_rule, path_rule, run_command, schedule_command, script_command};
-ghost use Rattle.clear_cli.specs.Words.{asked, asked_by};
+ghost use Rattle.clear_cli.specs.Words.{asked, asked_by, asked_of_house, help_of, is_answering, is_command, is_help_flag, is_report, is_version_flag, reported, shown, shown_alone, shown_by_two};
 
 use crate::fault::Fault;
 use clap::error::ErrorKind;
@@ -32,6 +33,16 @@ pub enum Job<'a> {
         folder: &'a str,
         files: Vec<&'a str>,
     },
+    /// Reports by these arguments; the first is the name of the report.
+    Report {
+        words: &'a [String],
+    },
+    /// Prints the help of the program, or that of the command of this name.
+    Help {
+        command: Option<&'a str>,
+    },
+    /// Prints the version of the program.
+    Version,
 }
 
 /// How many files a run answers at most.
@@ -182,16 +193,136 @@ fn job_of<'a>(alloc: Global, matches: &ArgMatches<'a>) -> Result<Option<Job<'a>>
     job_under(alloc, name, config, words)
 }
 
-/// What the words ask for, the program's name first. Another form, help and version are the usage fault.
-pub fn read_words<'a>(alloc: Global, words: &'a [String]) -> Result<Job<'a>, Fault<'static>>
+// What the words ask a house for, the program's name first.
+fn parsed<'a>(alloc: Global, words: &'a [String]) -> Result<Job<'a>, Fault<'static>>
     ensures refused { IfErr result (λ fault. fault ≢ Fault.NoMemory → fault ≡ Fault.Usage) }
-    ensures asked { IfSome (asked (map string_bytes words.now))
+    ensures asked { IfSome (asked_of_house (map string_bytes words.now))
         (λ ask. MatchResult result (λ job. asked_by job ≡ ask) (λ fault. fault ≡ Fault.NoMemory)) }
-    ensures given { IfOk result (λ job. asked (map string_bytes words.now) ≡ Some (asked_by job)) }
+    ensures given { IfOk result (λ job. asked_of_house (map string_bytes words.now) ≡ Some (asked_by job)) }
 {
     let matches = match clear(alloc)?.try_get_matches_from(words) {
         Ok(matches) => matches,
         Err(error) => return Err(fault_of(&error)),
     };
     job_of(alloc, &matches)?.ok_or(Fault::Usage)
+}
+
+fn is_help_flag(word: &str) -> bool
+    ensures { result ≡ is_help_flag word.now }
+{
+    matches!(word, "--help" | "-h")
+}
+
+fn is_version_flag(word: &str) -> bool
+    ensures { result ≡ is_version_flag word.now }
+{
+    matches!(word, "--version" | "-V")
+}
+
+fn is_answering(name: &str) -> bool
+    ensures { result ≡ is_answering name.now }
+{
+    matches!(name, "script" | "schedule" | "run")
+}
+
+fn is_report(name: &str) -> bool
+    ensures { result ≡ is_report name.now }
+{
+    matches!(
+        name,
+        "check_config"
+            | "explain_lines"
+            | "statements"
+            | "balances"
+            | "rate"
+            | "explain_cost"
+            | "re_rate"
+    )
+}
+
+/// Whether the program has a command of this name.
+pub fn is_command(name: &str) -> bool
+    ensures { result ≡ is_command name.now }
+{
+    is_answering(name) || is_report(name)
+}
+
+fn help_of<'a>(name: &'a str) -> Option<Job<'a>>
+    ensures { option_map asked_by result ≡ help_of name.entry.now }
+{
+    if is_command(name) {
+        Some(Job::Help {
+            command: Some(name),
+        })
+    } else {
+        None
+    }
+}
+
+fn shown_alone<'a>(word: &'a str) -> Option<Job<'a>>
+    ensures { option_map asked_by result ≡ shown_alone word.entry.now }
+{
+    if is_version_flag(word) {
+        Some(Job::Version)
+    } else if is_help_flag(word) || word == "help" {
+        Some(Job::Help { command: None })
+    } else {
+        None
+    }
+}
+
+fn shown_by_two<'a>(first: &'a str, second: &'a str) -> Option<Job<'a>>
+    ensures { option_map asked_by result ≡ shown_by_two first.entry.now second.entry.now }
+{
+    if first == "help" {
+        help_of(second)
+    } else if is_help_flag(second) {
+        help_of(first)
+    } else {
+        None
+    }
+}
+
+// The help or the version, if these words behind the program's name ask for it.
+fn shown<'a>(words: &'a [String]) -> Option<Job<'a>>
+    ensures { option_map asked_by result ≡ shown (map string_bytes words.now) }
+{
+    match words {
+        [word] => shown_alone(word.as_str()),
+        [first, second] => shown_by_two(first.as_str(), second.as_str()),
+        _ => None,
+    }
+}
+
+// The report, if these words behind the program's name ask for one.
+fn reported<'a>(words: &'a [String]) -> Option<Job<'a>>
+    ensures { option_map asked_by result ≡ reported (map string_bytes words.now) }
+{
+    match words {
+        [name, ..] if is_report(name.as_str()) => Some(Job::Report { words }),
+        _ => None,
+    }
+}
+
+/// Reads what the words ask for, the program's name first.
+///
+/// # Errors
+///
+/// `Usage` for every other command line, `NoMemory`.
+pub fn read_words<'a>(alloc: Global, words: &'a [String]) -> Result<Job<'a>, Fault<'static>>
+    ensures refused { IfErr result (λ fault. fault ≢ Fault.NoMemory → fault ≡ Fault.Usage) }
+    ensures asked { IfSome (asked (map string_bytes words.now))
+        (λ ask. MatchResult result (λ job. asked_by job ≡ ask) (λ fault. fault ≡ Fault.NoMemory)) }
+    ensures given { IfOk result (λ job. asked (map string_bytes words.now) ≡ Some (asked_by job)) }
+{
+    let [_, behind @ ..] = words else {
+        return Err(Fault::Usage);
+    };
+    if let Some(job) = shown(behind) {
+        return Ok(job);
+    }
+    match reported(behind) {
+        Some(job) => Ok(job),
+        None => parsed(alloc, words),
+    }
 }

@@ -14,19 +14,31 @@ mod terminal_text;
 
 use crate::ended_house::{EndedHouse, Fault, house_of, tell_refused};
 use form::{Form, asked_of};
+use house_program::Output;
 use printed::print;
 use request_lines::Device;
+use std::cell::Cell;
 
-fn print_house(rt: &HostRuntime, ended: &EndedHouse, form: Form) -> Result<(), Fault<'static>> {
-    print(rt.alloc(), &mut Device::new(rt.stdout()), ended, form)?;
+fn print_house(
+    rt: &HostRuntime,
+    is_gone: &Cell<bool>,
+    ended: &EndedHouse,
+    form: Form,
+) -> Result<(), Fault<'static>> {
+    let mut writer = Device::new(Output::new(rt.stdout(), is_gone));
+    print(rt.alloc(), &mut writer, ended, form)?;
     let _ = tell_refused(rt, ended.refused());
     Ok(())
 }
 
 /// Prints it of a house after the lines of standard input; how many lines were refused is told on standard error.
-pub fn perform<'a>(rt: &HostRuntime, words: &'a [String]) -> Result<u8, Fault<'a>> {
+pub fn perform<'a>(
+    rt: &HostRuntime,
+    is_gone: &Cell<bool>,
+    words: &'a [String],
+) -> Result<u8, Fault<'a>> {
     let asked = asked_of(words)?;
     let ended = house_of(rt, asked.path)?;
-    print_house(rt, &ended, asked.form)?;
+    print_house(rt, is_gone, &ended, asked.form)?;
     Ok(0)
 }

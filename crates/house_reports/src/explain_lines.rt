@@ -15,8 +15,9 @@ mod telling;
 mod turned_down;
 
 use crate::ended_house::Fault;
-use house_program::{only_word, read_config};
+use house_program::{Output, only_word, read_config};
 use request_lines::Device;
+use std::cell::Cell;
 use table::explain;
 
 // The exit status, by whether a line is turned down.
@@ -27,10 +28,14 @@ fn status(is_any_turned_down: bool) -> u8
 }
 
 /// Prints it of the lines of standard input, and gives the exit status.
-pub fn perform<'a>(rt: &HostRuntime, words: &'a [String]) -> Result<u8, Fault<'a>> {
+pub fn perform<'a>(
+    rt: &HostRuntime,
+    is_gone: &Cell<bool>,
+    words: &'a [String],
+) -> Result<u8, Fault<'a>> {
     let file = read_config(rt, only_word(words)?)?;
     let mut reader = Device::new(rt.stdin());
-    let mut writer = Device::new(rt.stdout());
+    let mut writer = Device::new(Output::new(rt.stdout(), is_gone));
     let is_any_turned_down = explain(rt.alloc(), file.as_slice(), &mut reader, &mut writer)?;
     Ok(status(is_any_turned_down))
 }

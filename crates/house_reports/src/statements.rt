@@ -3,19 +3,29 @@
 mod printed;
 
 use crate::ended_house::{EndedHouse, Fault, house_of, tell_refused};
-use house_program::only_word;
+use house_program::{Output, only_word};
 use printed::print;
 use request_lines::Device;
+use std::cell::Cell;
 
-fn print_house(rt: &HostRuntime, ended: &EndedHouse) -> Result<(), Fault<'static>> {
-    print(rt.alloc(), &mut Device::new(rt.stdout()), ended)?;
+fn print_house(
+    rt: &HostRuntime,
+    is_gone: &Cell<bool>,
+    ended: &EndedHouse,
+) -> Result<(), Fault<'static>> {
+    let mut writer = Device::new(Output::new(rt.stdout(), is_gone));
+    print(rt.alloc(), &mut writer, ended)?;
     let _ = tell_refused(rt, ended.refused());
     Ok(())
 }
 
 /// Prints them of a house after the lines of standard input; how many lines were refused is told on standard error.
-pub fn perform<'a>(rt: &HostRuntime, words: &'a [String]) -> Result<u8, Fault<'a>> {
+pub fn perform<'a>(
+    rt: &HostRuntime,
+    is_gone: &Cell<bool>,
+    words: &'a [String],
+) -> Result<u8, Fault<'a>> {
     let ended = house_of(rt, only_word(words)?)?;
-    print_house(rt, &ended)?;
+    print_house(rt, is_gone, &ended)?;
     Ok(0)
 }

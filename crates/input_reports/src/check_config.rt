@@ -20,7 +20,7 @@ mod wrong;
 use fault::{Fault, tell};
 use house_program::{only_word, read_config};
 use report::{Report, report_of};
-use std::io;
+use std::io::{self, ErrorKind};
 use std::process::ExitCode;
 
 // The exit status of a configuration that is read.
@@ -62,6 +62,8 @@ fn print_report<'a>(rt: &HostRuntime, words: &'a [String]) -> Result<u8, Fault<'
     let report = report_of(rt.alloc(), bytes.as_slice())?;
     match print(rt, &report) {
         Ok(status) => Ok(status),
+        // the reader of the output has gone
+        Err(error) if error.kind() == ErrorKind::BrokenPipe => Ok(1),
         Err(_) => Err(Fault::CannotWrite),
     }
 }

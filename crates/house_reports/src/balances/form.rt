@@ -29,7 +29,7 @@ pub fn asked_of(words: &[String]) -> Result<Asked<'_>, StartFault<'static>>
 {
     let (path, form) = match words {
         [_, path] => (path, Form::Csv),
-        [_, path, word] if word.as_str() == "-table" => (path, Form::Table),
+        [_, path, word] if matches!(word.as_str(), "--table" | "-table") => (path, Form::Table),
         _ => return Err(StartFault::Usage),
     };
     Ok(Asked {

@@ -103,10 +103,10 @@ pub fn write_text<W: Sink>(writer: &mut W, text: &[u8]) -> Result<(), Fault<'sta
     }
 }
 
-/// Tells the fault in one line on standard error; `words` is the form of the command line.
+/// Tells the fault in one line on standard error, after `words`, the form of the command line, if that has another one.
 pub fn tell<R: Eprint>(rt: &R, words: &str, fault: &Fault<'_>) -> io::Result<()> {
     match *fault {
-        Fault::Usage => eprintln!(rt; "clear: usage: clear {words}"),
+        Fault::Usage => eprintln!(rt; "clear: usage: clear {words}\nclear: usage"),
         Fault::ConfigSyntax => eprintln!(rt; "clear: config: syntax"),
         Fault::ConfigMember { name } => eprintln!(rt; "clear: config: {}", name.key()),
         Fault::CannotRead { path } => eprintln!(rt; "clear: cannot read {path}"),

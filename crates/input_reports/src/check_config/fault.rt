@@ -59,10 +59,10 @@ impl Fault<'_> {
     }
 }
 
-/// Tells the fault in one line on standard error.
+/// Tells the fault in one line on standard error, after the form of the command line, if that has another one.
 pub fn tell(rt: &HostRuntime, fault: &Fault<'_>) -> io::Result<()> {
     match *fault {
-        Fault::Usage => eprintln!(rt; "clear: usage: clear check_config CONFIG"),
+        Fault::Usage => eprintln!(rt; "clear: usage: clear check_config CONFIG\nclear: usage"),
         Fault::CannotRead { path } => eprintln!(rt; "clear: cannot read {path}"),
         Fault::CannotWrite => eprintln!(rt; "clear: cannot write"),
         Fault::TooLong => eprintln!(rt; "clear: longer than 1048576 bytes"),
