@@ -1,6 +1,6 @@
 //! Tells what a configuration has in force, and what CDRs cost by their tariffs:
 //!
-//! - `tell_config` prints what is in force in a configuration, and what of it is passed over;
+//! - `tell_config` prints what is in force in a configuration, what of it is passed over, and of what it is warned;
 //! - `print_amount` prints what the CDR of standard input costs, by the zone of its operator;
 //! - `print_explanation` prints the same row by row, as CSV;
 //! - `Records` are those of standard input, one a line, of which it is told which are not rated at what was booked.
