@@ -5,7 +5,7 @@ ghost use Rattle.std.specs.Prelude.{◌≡◌, IfErr};
 use crate::fault::Fault;
 use house_program::read_start;
 use std::fs::{self, File, Metadata};
-use std::io::{self, Error, ErrorKind};
+use std::io::{self, ErrorKind};
 use std::os::unix::fs::MetadataExt;
 
 /// The identity of a file: two names lead to the same file if and only if device and inode are the same.

@@ -11,7 +11,6 @@ use crate::folder::Folder;
 use crate::schedule_text::WriteFault;
 use crate::script::read_config;
 use request_lines::Device;
-use std::alloc::Global;
 use std::fs::{self, File, OpenOptions};
 use std::io::{self, Error, ErrorKind};
 use std::marker::Model;

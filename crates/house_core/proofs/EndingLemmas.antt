@@ -71,7 +71,7 @@ step_none : (world : PlainWorld) (one : Step) → NoneHas world → NoneHas (ste
 step_none world one none = by (slice_get world.calls one.call) refl
   where
     put : (call : Call) → slice_get world.calls one.call ≡ Some call → (o : Option Change) → change_by world one.call call one.action ≡ o → NoneHas (changed world one.call o)
-    put call is None e = none
+    put call is None e n other there = none n other there
     put call is (Some change) e n other there = ⊎_elim
         (λ (same : n ≡ one.call).
         let it : change.call ≡ other = same_Some change.call other (sym (get-set_same world.calls one.call change.call call is) ∙ ap (slice_get (slice_set world.calls one.call change.call)) (sym same) ∙ there) in

@@ -88,10 +88,6 @@ in_order-append world (one ∷ some) more =
     ap (λ (l : List Ordered). option_to_list (ordered_at world one) ++ l) (in_order-append (step world one) some more)
     ∙ sym (append_assoc (option_to_list (ordered_at world one)) (in_order (step world one) some) (in_order (after (step world one) some) more))
 
-none_then : {X Y : Type 0} (o : Option X) → option_and_then (λ (x : X). None {T = Y}) o ≡ None
-none_then None = refl
-none_then (Some x) = refl
-
 -- ---- the place of each call, by the steps that were taken
 
 module _ (first : PlainWorld) where
@@ -362,7 +358,7 @@ module _ (first : PlainWorld) where
               (λ (same : n ≡ one.call). absurd (none-some other (sym e ∙ ap (slice_get now.calls) (sym same) ∙ there)))
               (λ (apart : n ≢ one.call). beside n other apart there)
               (cases_eq n one.call)
-          by (Some call) e = put call e (change_by now one.call call one.action) refl
+          by (Some call) e n other there = put call e (change_by now one.call call one.action) refl n other there
 
       pub all_stand : AllStand (past ++ one ∷ [])
       all_stand n other there = step_stands n other (ap (λ (w : PlainWorld). slice_get w.calls n) (sym (after-append first past (one ∷ []))) ∙ there)

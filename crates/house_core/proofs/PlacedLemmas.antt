@@ -54,7 +54,7 @@ module _ (config : Config) (commands : List Command) (laws : HouseLaws) (is_conf
   all_named events world [] holds = tt
   all_named events world (one ∷ later) holds =
       each-append (λ (o : Ordered). slice_get commands o.call ≡ Some o.command) (option_to_list (ordered_at world one)) (in_order (step world one) later)
-      (here (orders world one) refl) (all_named _ (step world one) later (keeps config commands laws is_config events world one holds))
+      (here (orders world one) refl) (all_named (events_behind config events (option_to_list (orders world one))) (step world one) later (keeps config commands laws is_config events world one holds))
     where
       here : (o : Option Command) → orders world one ≡ o
           → AllByRecursion (λ (o : Ordered). slice_get commands o.call ≡ Some o.command) (option_to_list (option_map {U = Ordered} (λ (own : Command). record { call = one.call; command = own }) o))

@@ -58,8 +58,8 @@ module _ (world : PlainWorld) (number : ℕ) (call : Call) (is : slice_get world
   -- one action, and the rest
   goes : (a : Action) (now : PlainWorld) (rest : List Action) → changed world number (change_by world number call a) ≡ now → ended_by world number call a ≡ None
       → Ends now number begin point rest → Ends world number begin point (a ∷ rest)
-  goes a now rest e quiet then =
-      let it : Ends (step world (record { call = number; action = a })) number begin point rest = subst (λ (w : PlainWorld). Ends w number begin point rest) (sym (stepped world number call a is ∙ e)) then in
+  goes a now rest e quiet onward =
+      let it : Ends (step world (record { call = number; action = a })) number begin point rest = subst (λ (w : PlainWorld). Ends w number begin point rest) (sym (stepped world number call a is ∙ e)) onward in
       record {
         reply = it.reply;
         ended = ap (λ (o : Option Finished). option_to_list o ++ finished (step world (record { call = number; action = a })) (steps_of number rest)) (tells a ∙ quiet) ∙ it.ended;
@@ -67,11 +67,11 @@ module _ (world : PlainWorld) (number : ℕ) (call : Call) (is : slice_get world
 
   pub moves : (a : Action) (change : Change) (rest : List Action) → change_by world number call a ≡ Some change → ended_by world number call a ≡ None
       → Ends (changed world number (Some change)) number begin point rest → Ends world number begin point (a ∷ rest)
-  moves a change rest e quiet then = goes a (changed world number (Some change)) rest (ap (changed world number) e) quiet then
+  moves a change rest e quiet onward = goes a (changed world number (Some change)) rest (ap (changed world number) e) quiet onward
 
   pub stays : (a : Action) (rest : List Action) → change_by world number call a ≡ None → ended_by world number call a ≡ None
       → Ends world number begin point rest → Ends world number begin point (a ∷ rest)
-  stays a rest e quiet then = goes a world rest (ap (changed world number) e) quiet then
+  stays a rest e quiet onward = goes a world rest (ap (changed world number) e) quiet onward
 
   -- the last
   pub ends : (due : ReplyDue) → reply_due call ≡ Some due → call.begin ≡ begin → due.point ≡ point → Ends world number begin point (action.End ∷ [])
@@ -111,11 +111,11 @@ module _ (number begin point : ℕ) where
       → slice_get world.calls number ≡ Some (call_at book (Some at) has_book true begin (stage.Ordered carried)) → slice_get world.accounts at ≡ Some lock
       → ((now : PlainWorld) → slice_get now.calls number ≡ Some (call_at book (Some at) has_book false begin (stage.Ordered carried)) → now.books ≡ world.books → Ends now number begin point rest)
       → Ends world number begin point (action.PutAccount ∷ rest)
-  ends_by_account world book at has_book lock carried rest is here then =
+  ends_by_account world book at has_book lock carried rest is here onward =
       let call : Call = call_at book (Some at) has_book true begin (stage.Ordered carried) in
       let change : Change = put_account call carried lock in
       moves world number call is begin point action.PutAccount change rest (ap (option_map (put_account call carried)) here) refl
-      (then (changed world number (Some change)) (get-set_same world.calls number change.call call is) (no_lock world.books book))
+      (onward (changed world number (Some change)) (get-set_same world.calls number change.call call is) (no_lock world.books book))
 
   -- ---- the order, of a command that collects no books
 
@@ -128,7 +128,7 @@ module _ (number begin point : ℕ) where
         → ((now : PlainWorld) (carried : Carried) → slice_get now.calls number ≡ Some (call_at book account has_book has_account begin (stage.Ordered carried)) → carried.point ≡ point
         → now.books ≡ world.books → now.accounts ≡ world.accounts → Ends now number begin point rest)
         → Ends world number begin point (action.Order ∷ rest)
-    orders_entry world rest is at then =
+    orders_entry world rest is at onward =
         let known : Known = known_to world begun_call in
         let judged : Verdict = verdict world.config known own in
         let carried : Carried = record { point = known.point; period = known.period; reply = judged.reply; event = judged.event } in
@@ -142,7 +142,7 @@ module _ (number begin point : ℕ) where
         let is_ready : ready begun_call ≡ Some own = ap₂ (λ (b c : Bool). if b && c then Some own else None) its_book its_account in
         moves world number begun_call is begin point action.Order change rest
         (ap (option_map (order world.config known begun_call)) is_ready ∙ ap (λ (o : Outcome). Some (by_outcome o)) (outcome_is world.config known own entry)) refl
-        (then (changed world number (Some change)) carried (get-set_same world.calls number change.call begun_call is) at (no_lock world.books book) (no_lock world.accounts account))
+        (onward (changed world number (Some change)) carried (get-set_same world.calls number change.call begun_call is) at (no_lock world.books book) (no_lock world.accounts account))
 
   -- ---- taking locks
 
@@ -151,12 +151,12 @@ module _ (number begin point : ℕ) where
       → ((now : PlainWorld) → slice_get now.calls number ≡ Some (call_at (Some at) account true false begin (stage.Begun own)) → slice_get now.books at ≡ Some (held number lock)
       → now.accounts ≡ world.accounts → length now.order ≡ length world.order → Ends now number begin point rest)
       → Ends world number begin point (action.TakeBook ∷ rest)
-  takes_the_book world own at account lock rest is here free then =
+  takes_the_book world own at account lock rest is here free onward =
       let call : Call = call_at (Some at) account false false begin (stage.Begun own) in
       let change : Change = of_book (call_at (Some at) account true false begin (stage.Begun own)) (held number lock) in
       moves world number call is begin point action.TakeBook change rest
       (ap (option_and_then (take_book number call)) here ∙ ap (λ (h : Option ℕ). if is_none h then Some change else None) free) refl
-      (then (changed world number (Some change)) (get-set_same world.calls number change.call call is) (get-set_same world.books at (held number lock) lock here)
+      (onward (changed world number (Some change)) (get-set_same world.calls number change.call call is) (get-set_same world.books at (held number lock) lock here)
       (no_lock world.accounts account) (ap length (append-nil world.order)))
 
   takes_the_account : (world : PlainWorld) (own : Command) (book : Option ℕ) (at : ℕ) (has_book : Bool) → (is_none book || has_book) ≡ true → (lock : Lock AccountEntry) (rest : List Action)
@@ -164,13 +164,13 @@ module _ (number begin point : ℕ) where
       → ((now : PlainWorld) → slice_get now.calls number ≡ Some (call_at book (Some at) has_book true begin (stage.Begun own)) → slice_get now.accounts at ≡ Some (held number lock)
       → now.books ≡ world.books → length now.order ≡ length world.order → Ends now number begin point rest)
       → Ends world number begin point (action.TakeAccount ∷ rest)
-  takes_the_account world own book at has_book its_book lock rest is here free then =
+  takes_the_account world own book at has_book its_book lock rest is here free onward =
       let call : Call = call_at book (Some at) has_book false begin (stage.Begun own) in
       let change : Change = of_account (call_at book (Some at) has_book true begin (stage.Begun own)) (held number lock) in
       moves world number call is begin point action.TakeAccount change rest
       (ap (λ (b : Bool). option_and_then (take_account number call) (lock_at world.accounts (if b && true then Some at else None))) its_book
       ∙ ap (option_and_then (take_account number call)) here ∙ ap (λ (h : Option ℕ). if is_none h then Some change else None) free) refl
-      (then (changed world number (Some change)) (get-set_same world.calls number change.call call is) (get-set_same world.accounts at (held number lock) lock here)
+      (onward (changed world number (Some change)) (get-set_same world.calls number change.call call is) (get-set_same world.accounts at (held number lock) lock here)
       (no_lock world.books book) (ap length (append-nil world.order)))
 
 -- ---- collecting
@@ -185,7 +185,10 @@ is_one_of [] i n h = none-some n h
 is_one_of (x ∷ xs) zero n h = inl (sym (same_Some x n h))
 is_one_of (x ∷ xs) (suc i) n h = inr (is_one_of xs i n h)
 
-nothing_either : (b : Bool) → (if b then None {T = Change} else None) ≡ None
+abbrev nothing : Option Change
+nothing = None
+
+nothing_either : (b : Bool) → (if b then nothing else nothing) ≡ nothing
 nothing_either true = refl
 nothing_either false = refl
 
@@ -255,15 +258,15 @@ module _ (number begin point : ℕ) where
             let found = there n e in
             let party : Operator = found.0 in
             let lock : Lock BookEntry = found.1 in
-            let then : T = next world.config party lock.entries table in
+            let onward : T = next world.config party lock.entries table in
             let now : List Bool = slice_set marks n true in
-            let change : Change = of_call (free_call (at now then)) in
+            let change : Change = of_call (free_call (at now onward)) in
             moves world number (free_call (at marks table)) is begin point (action.Collect n) change (map (λ (n : ℕ). action.Collect n) operators ++ action.End ∷ [])
             (ap₂ (collect_at world.config n (free_call (at marks table))) found.2 found.3
             ∙ ap (λ (h : Option ℕ). if is_none h then option_map (λ (s : Stage). of_call (free_call s)) (collected world.config n party lock.entries (at marks table)) else None) found.4
             ∙ ap (option_map (λ (s : Stage). of_call (free_call s))) (collects_it world.config n party lock.entries marks table)
-            ∙ ap (λ (b : Bool). option_map (λ (s : Stage). of_call (free_call s)) (if b then Some (at now then) else None)) e) refl
-            (later (changed world number (Some change)) now then (get-set_same world.calls number change.call (free_call (at marks table)) is)
+            ∙ ap (λ (b : Bool). option_map (λ (s : Stage). of_call (free_call s)) (if b then Some (at now onward) else None)) e) refl
+            (later (changed world number (Some change)) now onward (get-set_same world.calls number change.call (free_call (at marks table)) is)
             (λ m h. there m (open_before marks n m h).1)
             (λ m h. ⊎_elim (λ (same : m ≡ n). absurd ((open_before marks n m h).0 same)) (λ (other : IsOneOf operators m). other) (among m (open_before marks n m h).1)))
 
@@ -271,7 +274,7 @@ module _ (number begin point : ℕ) where
     ends_collecting [] world marks table is there among =
         ends world number (free_call (at marks table)) is begin point (due marks table)
         (due_is marks table ∙ ap (λ (b : Bool). if b then Some (due marks table) else None) (all_collected marks among)) refl (at_point marks table)
-    ends_collecting (n ∷ operators) = gathers_one n operators (ends_collecting operators)
+    ends_collecting (n ∷ operators) world marks table is there among = gathers_one n operators (ends_collecting operators) world marks table is there among
 
   -- a call that was given its reply collects nothing
   ends_replied : (operators : List ℕ) (world : PlainWorld) (carried : Carried) → slice_get world.calls number ≡ Some (free_call (stage.Ordered carried)) → carried.point ≡ point
@@ -318,11 +321,11 @@ module _ (world : PlainWorld) (number : ℕ) (own : Command) (before : ℕ) wher
       → ((now : PlainWorld) → slice_get now.calls number ≡ Some (call_at book account false false begin (stage.Begun own)) → now.config ≡ world.config
       → now.books ≡ world.books → now.accounts ≡ world.accounts → length now.order ≡ begin → Ends now number begin begin rest)
       → Ends world number begin begin (action.Begin ∷ rest)
-  begins_it book account rest is then =
+  begins_it book account rest is onward =
       let call : Call = call_at book account false false before (stage.Waiting own) in
       let change : Change = of_call (call_at book account false false begin (stage.Begun own)) in
       moves world number call is begin begin action.Begin change rest refl refl
-      (then (changed world number (Some change)) (get-set_same world.calls number change.call call is) refl (no_lock world.books book) (no_lock world.accounts account) (ap length (append-nil world.order)))
+      (onward (changed world number (Some change)) (get-set_same world.calls number change.call call is) refl (no_lock world.books book) (no_lock world.accounts account) (ap length (append-nil world.order)))
 
   pub ends_book_row : collects own ≡ false → (at : ℕ) (lock : Lock BookEntry) → slice_get world.calls number ≡ Some (call_at (Some at) None false false before (stage.Waiting own))
       → slice_get world.books at ≡ Some lock → lock.holder ≡ None → Ends world number begin begin by_book

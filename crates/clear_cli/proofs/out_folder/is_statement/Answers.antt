@@ -1,7 +1,7 @@
-use Rattle.std.proofs.Common.{rules, ◌≡◌, List, ℕ, ◌++◌, ◌-◌, codes, length, subst, sym, take}
+use Rattle.std.proofs.Common.{rules, ◌≡◌, List, ℕ, ◌++◌, ◌-◌, codes, length, subst, take}
 use Rattle.std.proofs.lemmas.Bool.Decides.{Decides-eqb}
 use Rattle.std.proofs.lemmas.List.{append_cancel_left}
-use Rattle.std.proofs.lemmas.Slice.Eq.{ends_is, strip_prefix_is}
+use Rattle.std.proofs.lemmas.Slice.Eq.{ends_is}
 use Rattle.clear_cli.proofs.out_folder.is_statement.Goals as goal
 
 pub returns-in-Some : goal.returns-in-Some

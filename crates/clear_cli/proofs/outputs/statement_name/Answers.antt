@@ -1,4 +1,4 @@
-use Rattle.std.proofs.Common.{rules, ◌≡◌, ℕ, List, ◌++◌, ◌∙◌, ap, append_assoc, codes, decimal, string_bytes, subst, sym}
+use Rattle.std.proofs.Common.{rules, ◌≡◌, ℕ, List, ◌++◌, ◌∙◌, ap, append_assoc, codes, decimal, string_bytes, sym}
 use Rattle.std.proofs.lemmas.Result.{IfOk-weaker}
 use Rattle.clear_cli.specs.Outputs.{IsStatementName, statement_name}
 use Rattle.clear_cli.proofs.outputs.statement_name.Goals as goal
