@@ -1,11 +1,9 @@
 -- What follows from the definitions.
-use Rattle.std.specs.Prelude.{◌≡◌, ◌≤◌, ℕ, true, List, Some, length, slice_get}
+use Rattle.std.specs.Prelude.{◌≡◌, ℕ, List, Some, length, slice_get}
 use Rattle.ocpi_types.specs.declared.config.Config.{Config}
-use Rattle.ocpi_types.specs.Currency.{same_currency}
-use Rattle.ocpi_types.specs.Different.{all_different}
 use Rattle.cdr_checks.specs.declared.request.Command.{Command}
 use Rattle.cdr_checks.specs.Admission.{IsAdmitted}
-use Rattle.period_order.specs.Kept.{AreDistinct}
+use Rattle.period_order.specs.Kept.{AreDistinct, IsConfiguration}
 use Rattle.house_core.specs.declared.call.Call.{Call}
 use Rattle.house_core.specs.declared.step.Step.{Step}
 use Rattle.house_core.specs.Calls.{waiting}
@@ -16,13 +14,6 @@ use Rattle.plain_house.specs.Legal.{IsLegal}
 use Rattle.house_core.specs.OneHouse.{KeepsRules, OneHouse, after, finished}
 use Rattle.house_core.specs.Rows.{AreFree, EndsAnswered, HasEach, row, steps_of}
 use Rattle.house_core.specs.Start.{start}
-
--- no two operators, providers or currencies are the same; at most 64 operators, of at most 100,000 CDRs each
-pub record IsConfiguration (config : Config) : Type 0 where
-  pub distinct : AreDistinct config
-  pub currencies : all_different same_currency config.currencies ≡ true
-  pub operators : length config.operators ≤ 64
-  pub cdrs : config.limits.cdrs ≤ 100_000
 
 -- for every list of steps, admitted commands are answered as one house over one list of events answers
 abbrev pub CommandsAreOneHouse : Type 0
