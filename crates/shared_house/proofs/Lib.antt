@@ -1,4 +1,5 @@
 pub mod AnswerLemmas
+pub mod BookedLemmas
 pub mod BoundLemmas
 pub mod CallLemmas
 pub mod CertifiedLemmas

@@ -1,5 +1,5 @@
 -- What is replied to a post.
-use Rattle.std.proofs.Common.{◌≡◌, ◌<◌, ◌<ℤ◌, ℕ, ℤ, pos, neg_ℤ, List, [], ◌∷◌, ◌++◌, Bool, true, false, not, nat_lt, refl, sym, ap, ◌∙◌, subst, arith, if◌then◌else◌, Option, None, Some, Result, Ok, Err}
+use Rattle.std.proofs.Common.{◌≡◌, ◌<◌, ◌≤ℤ◌, ◌<ℤ◌, ℕ, ℤ, pos, neg_ℤ, List, [], ◌∷◌, ◌++◌, Bool, true, false, not, nat_lt, refl, sym, ap, ◌∙◌, subst, arith, if◌then◌else◌, Option, None, Some, Result, Ok, Err}
 use Rattle.std.specs.Option.{option_or}
 use Rattle.std.proofs.lemmas.Bool.{ltb-true}
 use Rattle.std.proofs.lemmas.Int.{ints}
@@ -26,12 +26,14 @@ use Rattle.plain_house.specs.Exposure.{exposure_of, of_pair, of_provider}
 use Rattle.plain_house.specs.Full.{are_cdrs_full, first_full, is_account_full, is_order_full}
 use Rattle.plain_house.specs.House.{cdr_posted, credit_posted, credit_taken, post_of, verdict}
 use Rattle.plain_house.specs.Known.{Known}
+use Rattle.plain_house.specs.LegalEntries.{IsLegalBook, LegalBooksAreTakenBack}
 use Rattle.plain_house.specs.Posting.{above, above_if_any, booked_already, credited_amount, is_in_window, meets_original, original_of, over_limit, taken_back, unless_registered}
 use Rattle.plain_house.specs.Replies.{is_no_memory, is_refusal_no_memory, stamped}
 use Rattle.plain_house.specs.Tariffs.{lacks_registered}
 use Rattle.plain_house.specs.Verdict.{Case, Verdict, accepts, refused_at, refused_for, unless}
 use Rattle.shared_house.specs.Laws.{AcceptedAsDueBack, AcceptedAtTheirCost, IsDueBack, OverLimitsAreAbove}
 use Rattle.shared_house.proofs.AnswerLemmas.{told_answer}
+use Rattle.shared_house.proofs.BookedLemmas.{owed_back}
 
 -- ---- cases
 
@@ -101,25 +103,25 @@ accepted_at_cost config checked cost least replied amount period costs returns i
 
 -- ---- accepted Credit CDRs
 
-module _ (config : Config) (credit : Cdr) where
-  back_due : (period : ℕ) (credited : Bool) (original : Booked) (amount : ℤ) → taken_back config period credit credited original ≡ Ok amount → IsDueBack config credit amount
-  back_due period credited original amount =
+module _ (taken : LegalBooksAreTakenBack) (config : Config) (credit : Cdr) where
+  back_due : (period : ℕ) (credited : Bool) (original : Booked) (amount : ℤ) → (is_credit original.cdr ≡ false → neg_ℤ original.amount ≤ℤ pos 0) → taken_back config period credit credited original ≡ Ok amount → IsDueBack config credit amount
+  back_due period credited original amount at_most =
       by (is_credit original.cdr) (not credited) (is_in_window config.credit_window original.period period) (meets_original config credit original) refl refl
     where
       by : (a b c d : Bool) → is_credit original.cdr ≡ a → meets_original config credit original ≡ d → (ensure (not a) refusal.CreditOfCredit >>= λ _. (ensure b refusal.AlreadyCredited >>= λ _. (ensure c (refusal.TooLate original.period period) >>= λ _.
           (ensure d refusal.CreditDiffers >>= λ _. Ok (neg_ℤ original.amount))))) ≡ Ok amount → IsDueBack config credit amount
-      by false true true true e f g = let same : neg_ℤ original.amount ≡ amount = cc in record { original = original; no_credit = e; negated = sym same; meets = f }
+      by false true true true e f g = let same : neg_ℤ original.amount ≡ amount = cc in record { original = original; no_credit = e; negated = sym same; at_most_0 = subst (λ (a : ℤ). a ≤ℤ pos 0) same (at_most e); meets = f }
       by false true true false e f g = absurd (cc)
       by false true false d e f g = absurd (cc)
       by false false c d e f g = absurd (cc)
       by true b c d e f g = absurd (cc)
 
-  amount_due : (period : ℕ) (entries : List BookEntry) (amount : ℤ) → credited_amount config period credit entries ≡ Ok amount → IsDueBack config credit amount
-  amount_due period entries amount = by (original_of credit entries)
+  amount_due : (period : ℕ) (entries : List BookEntry) (amount : ℤ) → IsLegalBook config entries → credited_amount config period credit entries ≡ Ok amount → IsDueBack config credit amount
+  amount_due period entries amount legal = by (original_of credit entries) refl
     where
-      by : (o : Option Booked) → (or_refusal refusal.UnknownOriginal o >>= λ original. taken_back config period credit (is_credited original.cdr.operator original.cdr.id entries) original) ≡ Ok amount → IsDueBack config credit amount
-      by None e = absurd (cc)
-      by (Some original) e = back_due period (is_credited original.cdr.operator original.cdr.id entries) original amount e
+      by : (o : Option Booked) → original_of credit entries ≡ o → (or_refusal refusal.UnknownOriginal o >>= λ original. taken_back config period credit (is_credited original.cdr.operator original.cdr.id entries) original) ≡ Ok amount → IsDueBack config credit amount
+      by None is e = absurd (cc)
+      by (Some original) is e = back_due period (is_credited original.cdr.operator original.cdr.id entries) original amount (owed_back taken config entries legal credit original is) e
 
   abbrev IsDue : Result Answer Refusal → Type 0
   IsDue reply = (amount : ℤ) (period : ℕ) → reply ≡ Ok (answer.Accepted amount period) → IsDueBack config credit amount
@@ -143,17 +145,17 @@ module _ (config : Config) (credit : Cdr) where
       unless_says IsDue (refused_at full ∷ []) (accepts (answer.Accepted found known.period) (event.Credit credit found)) (full_due full, tt)
       (λ amount period g. let same : found ≡ amount = cc in subst (IsDueBack config credit) same (h found refl))
 
-  credit_due : (known : Known) → IsDue (credit_posted config known credit).reply
-  credit_due known =
+  credit_due : (known : Known) → IsLegalBook config known.book → IsDue (credit_posted config known credit).reply
+  credit_due known legal =
       unless_says IsDue (booked_already credit (booked_as credit.operator credit.id known.book) ∷ []) (credit_taken config known credit (credited_amount config known.period credit known.book))
-      (booked_due (booked_as credit.operator credit.id known.book), tt) (taken_due known (credited_amount config known.period credit known.book) (amount_due known.period known.book))
+      (booked_due (booked_as credit.operator credit.id known.book), tt) (taken_due known (credited_amount config known.period credit known.book) (λ amount. amount_due known.period known.book amount legal))
 
-pub accepted_as_due : AcceptedAsDueBack
-accepted_as_due config checked least replied amount period costs returns is =
+pub accepted_as_due : LegalBooksAreTakenBack → AcceptedAsDueBack
+accepted_as_due taken config checked least replied amount period costs returns is =
     let told = returns.told refl in
     let answered = told_answer replied told.known.point (verdict config told.known (command.Post checked)).reply told.reply_is in
     let posted = ap (λ (o : Option ℕ). (post_of config told.known checked.cdr o).reply) costs in
-    credit_due config checked.cdr told.known amount period (sym posted ∙ answered ∙ ap (λ (a : Answer). Ok a) is)
+    credit_due taken config checked.cdr told.known (told.book refl) amount period (sym posted ∙ answered ∙ ap (λ (a : Answer). Ok a) is)
 
 -- ---- exposures above limits
 

@@ -1,6 +1,6 @@
 -- What is replied to a CDR that is booked already.
-use Rattle.std.proofs.Common.{◌≡◌, ◌⊎◌, inl, inr, ℕ, ℤ, pos, List, [], ◌∷◌, ◌++◌, Bool, true, false, refl, sym, ap, ◌∙◌, subst, cond, find, if◌then◌else◌, Option, None, Some, Result, Ok, Err}
-use Rattle.std.specs.Prelude.{◌&&◌, ◌==◌, is_some, option_and_then, option_map}
+use Rattle.std.proofs.Common.{◌≡◌, ◌⊎◌, inl, inr, ℕ, ℤ, pos, List, [], ◌∷◌, Bool, true, false, refl, sym, ap, ◌∙◌, subst, find, if◌then◌else◌, Option, None, Some, Result, Ok, Err}
+use Rattle.std.specs.Prelude.{◌&&◌, ◌==◌, is_some, option_map}
 use Rattle.std.specs.Cmp.Lexicographic.{pointwise}
 use Rattle.ocpi_json.specs.Folded.{folded}
 use Rattle.ocpi_types.specs.declared.cdr.Cdr.{Cdr}
@@ -24,17 +24,18 @@ use Rattle.plain_house.specs.declared.answer.Answer.TheVariants as answer
 use Rattle.plain_house.specs.declared.entry.BookEntry.{BookEntry}
 use Rattle.plain_house.specs.declared.entry.BookEntry.TheVariants as book
 use Rattle.plain_house.specs.declared.event.Event.TheVariants as event
-use Rattle.plain_house.specs.Booked.{Booked, booked, booked_as, has_id}
+use Rattle.plain_house.specs.Booked.{Booked, booked_as, has_id}
 use Rattle.plain_house.specs.Entries.{charge_of}
 use Rattle.plain_house.specs.Full.{are_cdrs_full, first_full, is_account_full, is_order_full}
 use Rattle.plain_house.specs.House.{cdr_posted, post_of, verdict}
 use Rattle.plain_house.specs.Known.{Known}
 use Rattle.plain_house.specs.LegalEntries.{IsLegalBook, LegalBooksAreCharged, LegalBooksAreTakenBack}
-use Rattle.plain_house.specs.Posting.{booked_already, original_of, over_limit, unless_registered}
+use Rattle.plain_house.specs.Posting.{booked_already, over_limit, unless_registered}
 use Rattle.plain_house.specs.Tariffs.{lacks_registered}
 use Rattle.plain_house.specs.Verdict.{accepts, refused_at, refused_for}
 use Rattle.shared_house.specs.Laws.{RepeatedAtTheirCost}
 use Rattle.shared_house.proofs.AnswerLemmas.{told_answer}
+use Rattle.shared_house.proofs.BookedLemmas.{IsCdrOf, IsCreditOf, entry_of, names_original}
 use Rattle.shared_house.proofs.PostLemmas.{Says, unless_says}
 
 -- ---- what is repeated
@@ -88,50 +89,6 @@ module _ (config : Config) (known : Known) (cdr : Cdr) where
       )
       (λ amount period h. absurd (cc))
 
--- ---- what a book has under an id
-
--- it is a CDR of the book
-record IsCdrOf (entries : List BookEntry) (found : Booked) : Type 0 where
-  before : List BookEntry
-  later : List BookEntry
-  cost : ℕ
-  entries_are : entries ≡ before ++ book.Cdr found.cdr cost found.period ∷ later
-  amount_is : found.amount ≡ pos cost
-
--- it is a Credit CDR of the book
-record IsCreditOf (entries : List BookEntry) (found : Booked) : Type 0 where
-  before : List BookEntry
-  later : List BookEntry
-  entries_are : entries ≡ before ++ book.Credit found.cdr found.amount found.period ∷ later
-
-one_more : (entry : BookEntry) (entries : List BookEntry) (found : Booked) → IsCdrOf entries found ⊎ IsCreditOf entries found → IsCdrOf (entry ∷ entries) found ⊎ IsCreditOf (entry ∷ entries) found
-one_more entry entries found (inl of) =
-    inl (record { before = entry ∷ of.before; later = of.later; cost = of.cost; entries_are = ap (λ (l : List BookEntry). entry ∷ l) of.entries_are; amount_is = of.amount_is })
-one_more entry entries found (inr of) =
-    inr (record { before = entry ∷ of.before; later = of.later; entries_are = ap (λ (l : List BookEntry). entry ∷ l) of.entries_are })
-
-entry_of : (p : Booked → Bool) (entries : List BookEntry) (found : Booked) → find p (booked entries) ≡ Some found → IsCdrOf entries found ⊎ IsCreditOf entries found
-entry_of p [] found h = absurd (cc)
-entry_of p (book.Tariff tariff ∷ entries) found h = one_more (book.Tariff tariff) entries found (entry_of p entries found h)
-entry_of p (book.Cdr cdr cost period ∷ entries) found h =
-    by (p (record { cdr = cdr; amount = pos cost; period = period })) h (entry_of p entries found)
-  where
-    by : (b : Bool) → cond b (Some (let x : Booked = record { cdr = cdr; amount = pos cost; period = period } in x)) (find p (booked entries)) ≡ Some found → (find p (booked entries) ≡ Some found → IsCdrOf entries found ⊎ IsCreditOf entries found) → IsCdrOf (book.Cdr cdr cost period ∷ entries) found ⊎ IsCreditOf (book.Cdr cdr cost period ∷ entries) found
-    by true h rest =
-        let x : Booked = record { cdr = cdr; amount = pos cost; period = period } in
-        let same : x ≡ found = cc in
-        inl (subst (IsCdrOf (book.Cdr cdr cost period ∷ entries)) same (record { before = []; later = entries; cost = cost; entries_are = refl; amount_is = refl }))
-    by false h rest = one_more (book.Cdr cdr cost period) entries found (rest h)
-entry_of p (book.Credit cdr amount period ∷ entries) found h =
-    by (p (record { cdr = cdr; amount = amount; period = period })) h (entry_of p entries found)
-  where
-    by : (b : Bool) → cond b (Some (let x : Booked = record { cdr = cdr; amount = amount; period = period } in x)) (find p (booked entries)) ≡ Some found → (find p (booked entries) ≡ Some found → IsCdrOf entries found ⊎ IsCreditOf entries found) → IsCdrOf (book.Credit cdr amount period ∷ entries) found ⊎ IsCreditOf (book.Credit cdr amount period ∷ entries) found
-    by true h rest =
-        let x : Booked = record { cdr = cdr; amount = amount; period = period } in
-        let same : x ≡ found = cc in
-        inr (subst (IsCreditOf (book.Credit cdr amount period ∷ entries)) same (record { before = []; later = entries; entries_are = refl }))
-    by false h rest = one_more (book.Credit cdr amount period) entries found (rest h)
-
 -- ---- CDRs with the same content
 
 -- both are Credit CDRs, or none is
@@ -149,14 +106,6 @@ operators_alike config a b e = ap of_folded e.operator
     of_folded : Party → Option Operator
     of_folded party =
         find (λ operator. pointwise ◌==◌ (folded operator.party.country_code) party.country_code && pointwise ◌==◌ (folded operator.party.party_id) party.party_id) config.operators
-
--- what a legal book takes back names a CDR, so it is a Credit CDR
-names_original : (credit : Cdr) (entries : List BookEntry) (original : Booked) → original_of credit entries ≡ Some original → is_credit credit ≡ true
-names_original credit entries original = by credit.credit
-  where
-    by : (o : Option (List ℕ)) → option_and_then (λ id. booked_as credit.operator id entries) o ≡ Some original → is_some o ≡ true
-    by None h = absurd (cc)
-    by (Some id) h = refl
 
 -- ---- what is told
 

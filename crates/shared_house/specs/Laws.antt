@@ -81,12 +81,13 @@ OverLimitsAreAbove =
     (config : Config) (checked : Checked) (least : ℕ) (refused : Refused) (exposure limit : ℤ) (pair : Bool) →
     Returns config (command.Post checked) least (Err refused) → refused.refusal ≡ refusal.OverLimit exposure limit pair → limit <ℤ exposure
 
--- a Credit CDR takes back some CDR at its amount, negated: the provider and the currency are the same, and its own total cost is at
--- most 0 and within the tolerance of that
+-- a Credit CDR takes back some CDR at its amount, negated, which is at most 0: the provider and the currency are the same, and its own
+-- total cost is at most 0 and within the tolerance of that
 pub record IsDueBack (config : Config) (credit : Cdr) (amount : ℤ) : Type 0 where
   pub original : Booked
   pub no_credit : is_credit original.cdr ≡ false
   pub negated : amount ≡ neg_ℤ original.amount
+  pub at_most_0 : amount ≤ℤ pos 0
   pub meets : meets_original config credit original ≡ true
 
 -- so is each that is accepted

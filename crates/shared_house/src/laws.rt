@@ -129,11 +129,13 @@ pub fn repeated_cdrs_are_told_at_their_cost()
     same_cdrs_cost_the_same();
 }
 
-/// A Credit CDR is accepted at the negated amount of a CDR of the same provider and currency, and its own total cost is within
-/// the tolerance of that.
+/// A Credit CDR is accepted at the negated amount of a CDR of the same provider and currency, which is at most 0, and its own
+/// total cost is within the tolerance of that.
 pub fn credits_are_accepted_as_due_back()
     ensures { AcceptedAsDueBack }
-{}
+{
+    legal_books_are_taken_back();
+}
 
 /// A CDR that is refused for an exposure above a limit is refused for one that is above it.
 pub fn over_limits_are_above()
