@@ -15,6 +15,7 @@ pub mod NumberLemmas
 pub mod PointLemmas
 pub mod PostLemmas
 pub mod PromiseLemmas
+pub mod QuietLemmas
 pub mod RepeatedLemmas
 pub mod ReplayLemmas
 pub mod StandLemmas

@@ -1,6 +1,6 @@
 //! The end of a house.
 
-ghost use Rattle.std.specs.Prelude.{◌≡◌, ◌≢◌, ◌<◌, ◌↔◌, ℕ, Ok, Err, map, vec_len, IfOk};
+ghost use Rattle.std.specs.Prelude.{◌≡◌, ◌≢◌, ◌<◌, ◌≤◌, ◌↔◌, ℕ, Ok, Err, map, vec_len, IfOk};
 ghost use Rattle.shared_house.specs.Finished.{IsFinished, IsTornInEnd};
 ghost use Rattle.shared_house.specs.declared.certifying.CertifyFault.TheVariants as certify_fault;
 ghost use Rattle.shared_house.specs.declared.finishing.FinishFault.TheVariants as fault;
@@ -63,6 +63,7 @@ impl<N: Names> House<N> {
         requires book_parts { (N.BookEntries.all ≡ N.BookEntries.parts) × (N.BookAmounts.all ≡ N.BookAmounts.parts) }
         requires account_parts { (N.AccountEntries.all ≡ N.AccountEntries.parts) × (N.AccountAmounts.all ≡ N.AccountAmounts.parts) }
         requires pass_parts { N.Events.all ≡ N.Events.parts }
+        requires all { N.Events.all ≤ vec_len passes }
         ensures calls { IfOk result (λ ended. map (λ calls. calls.items) ended.calls.items ≡ map (λ pass. pass.calls) passes.items) }
         ensures ok { IfOk result (λ ended. IsFinished N.BookEntries.config (map (λ pass. pass.calls) passes.items) ended.events.items) }
         ensures torn { (entry : ℕ) → result ≡ Err (certify_fault.Torn entry) → IsTornInEnd N.BookEntries.config (map (λ pass. pass.calls) passes.items) entry }

@@ -1,6 +1,6 @@
 //! What all locks and passes hold in the end.
 
-ghost use Rattle.std.specs.Prelude.{All, ◌≡◌, ◌+◌, ◌≤◌, [], map, length, sum_by, count_by, vec_len, IfOk, OnOk};
+ghost use Rattle.std.specs.Prelude.{All, ◌≡◌, ◌+◌, ◌*◌, ◌^◌, ◌≤◌, [], map, length, sum_by, count_by, vec_len, IfOk, OnOk};
 ghost use Rattle.plain_house.specs.LegalEntries.{IsLegalAccount, IsLegalBook};
 ghost use Rattle.period_order.specs.Order.{names_account, names_book};
 ghost use Rattle.shared_house.specs.Calls.{made_event};
@@ -98,6 +98,7 @@ fn end_passes<N: Names>(
 ) -> Result<Vec<Vec<Made>>, AllocError>
     requires none { (events.old.parts ≡ 0) × (events.old.amount ≡ 0) }
     ensures parts { OnOk result (events.new.parts ≡ vec_len passes) }
+    ensures apart { OnOk result (events.new.parts ≤ N.Events.parts) }
     ensures events { IfOk result (λ all. events.new.amount ≡ sum_by (λ calls. count_by made_event calls.items) all.items) }
     ensures calls { IfOk result (λ all. map (λ calls. calls.items) all.items ≡ map (λ pass. pass.calls) passes.items) }
     ensures admitted { IfOk result (λ all. All (λ calls. AreAdmitted N.BookEntries.config calls.items) all.items) }
@@ -161,8 +162,8 @@ fn gather_accounts<N: Names>(
     Ok(accounts)
 }
 
-// The calls of the passes. The ledger's total is no less than the number of those that added an event, and that number where the
-// passes are all there are.
+// The calls of the passes, of which there are at most as many as the ledger has parts. The ledger's total is no less than the number
+// of those that added an event, and that number where the passes are all there are.
 fn gather_passes<N: Names>(
     alloc: Global,
     passes: Vec<Pass<N>>,
@@ -170,6 +171,7 @@ fn gather_passes<N: Names>(
     mut events: Share<N::Events>,
 ) -> Result<Vec<Vec<Made>>, AllocError>
     requires none { (events.parts ≡ 0) × (events.amount ≡ 0) }
+    ensures no_others { OnOk result (vec_len passes ≤ N.Events.parts) }
     ensures at_most { IfOk result (λ calls. sum_by (λ made. count_by made_event made.items) calls.items ≤ all.total) }
     ensures events { vec_len passes ≡ N.Events.parts → IfOk result (λ calls. all.total ≡ sum_by (λ made. count_by made_event made.items) calls.items) }
     ensures calls { IfOk result (λ calls. map (λ made. made.items) calls.items ≡ map (λ pass. pass.calls) passes.items) }
@@ -191,9 +193,12 @@ fn gather_open<N: Names>(
 ) -> Result<Gathered, AllocError>
     requires books { (vec_len books ≡ N.BookEntries.parts) × (vec_len books ≡ N.BookAmounts.parts) }
     requires accounts { (vec_len accounts ≡ N.AccountEntries.parts) × (vec_len accounts ≡ N.AccountAmounts.parts) }
+    ensures order { IfOk result (λ all. all.entries.items ≡ locked.order.entries) }
     ensures books { IfOk result (λ all. count_by names_book all.entries.items ≡ sum_by (λ book. length book.entries) all.books.items) }
     ensures accounts { IfOk result (λ all. count_by names_account all.entries.items ≡ sum_by (λ account. length account.entries) all.accounts.items) }
     ensures amounts { IfOk result (λ all. sum_by (λ book. total_of_book book.entries) all.books.items ≡ sum_by (λ account. total_of_account account.entries) all.accounts.items) }
+    ensures bounded { IfOk result (λ all. sum_by (λ book. total_of_book book.entries) all.books.items ≤ 10 ^ 12 * vec_len all.entries) }
+    ensures no_others { OnOk result (vec_len passes ≤ N.Events.parts) }
     ensures at_most { IfOk result (λ all. sum_by (λ calls. count_by made_event calls.items) all.calls.items ≤ vec_len all.entries) }
     ensures events { vec_len passes ≡ N.Events.parts → IfOk result (λ all. vec_len all.entries ≡ sum_by (λ calls. count_by made_event calls.items) all.calls.items) }
     ensures calls { IfOk result (λ all. map (λ calls. calls.items) all.calls.items ≡ map (λ pass. pass.calls) passes.items) }
@@ -255,6 +260,8 @@ pub(crate) fn gather_locks<N: Names>(
     ensures books { IfOk result (λ all. count_by names_book all.entries.items ≡ sum_by (λ book. length book.entries) all.books.items) }
     ensures accounts { IfOk result (λ all. count_by names_account all.entries.items ≡ sum_by (λ account. length account.entries) all.accounts.items) }
     ensures amounts { IfOk result (λ all. sum_by (λ book. total_of_book book.entries) all.books.items ≡ sum_by (λ account. total_of_account account.entries) all.accounts.items) }
+    ensures bounded { IfOk result (λ all. sum_by (λ book. total_of_book book.entries) all.books.items ≤ 10 ^ 12 * vec_len all.entries) }
+    ensures no_others { OnOk result (vec_len passes ≤ N.Events.all) }
     ensures at_most { IfOk result (λ all. sum_by (λ calls. count_by made_event calls.items) all.calls.items ≤ vec_len all.entries) }
     ensures events { vec_len passes ≡ N.Events.all → IfOk result (λ all. vec_len all.entries ≡ sum_by (λ calls. count_by made_event calls.items) all.calls.items) }
     ensures calls { IfOk result (λ all. map (λ calls. calls.items) all.calls.items ≡ map (λ pass. pass.calls) passes.items) }
@@ -282,8 +289,9 @@ pub(crate) fn gather_locks<N: Names>(
 /// What all locks of a house and these passes hold.
 ///
 /// The order counts what the locks hold: it names a book for each entry of the books, and an account for each entry of the
-/// accounts; what is booked in the books and in the accounts is one amount, in ten-thousandths. It has an entry for each call
-/// of the passes that added an event, and no others where these are all passes of the house.
+/// accounts; what is booked in the books and in the accounts is one amount, in ten-thousandths, of at most 10^12 for each entry
+/// of the order. It has an entry for each call of the passes that added an event, and no others where these are all passes of
+/// the house. There are no more passes than those that were made with the house.
 ///
 /// # Errors
 ///
@@ -299,6 +307,8 @@ pub fn gather<N: Names>(
     ensures books { IfOk result (λ all. count_by names_book all.entries.items ≡ sum_by (λ book. length book.entries) all.books.items) }
     ensures accounts { IfOk result (λ all. count_by names_account all.entries.items ≡ sum_by (λ account. length account.entries) all.accounts.items) }
     ensures amounts { IfOk result (λ all. sum_by (λ book. total_of_book book.entries) all.books.items ≡ sum_by (λ account. total_of_account account.entries) all.accounts.items) }
+    ensures bounded { IfOk result (λ all. sum_by (λ book. total_of_book book.entries) all.books.items ≤ 10 ^ 12 * vec_len all.entries) }
+    ensures no_others { OnOk result (vec_len passes ≤ N.Events.all) }
     ensures at_most { IfOk result (λ all. sum_by (λ calls. count_by made_event calls.items) all.calls.items ≤ vec_len all.entries) }
     ensures events { vec_len passes ≡ N.Events.all → IfOk result (λ all. vec_len all.entries ≡ sum_by (λ calls. count_by made_event calls.items) all.calls.items) }
     ensures calls { IfOk result (λ all. map (λ calls. calls.items) all.calls.items ≡ map (λ pass. pass.calls) passes.items) }

@@ -4,6 +4,7 @@ ghost use Rattle.shared_house.specs.Inner.Collecting.{CollectingLaws, DuesAreBou
 ghost use Rattle.shared_house.specs.Inner.HouseLaws.{HouseLaws};
 ghost use Rattle.std.specs.Prelude.{◌≡◌, ◌≤◌, ◌*◌, ◌^◌, count_by, length};
 ghost use Rattle.period_order.specs.Order.{names_account, names_book};
+ghost use Rattle.shared_house.specs.Finished.{NothingIsTornWithoutEvents};
 ghost use Rattle.shared_house.specs.Laws.{AcceptedAsDueBack, AcceptedAtTheirCost, ClosesBalance, ExposuresAreWithinLimits, KeepsBookRules, KeepsLimitsThroughout, OverLimitsAreAbove, RepeatedAtTheirCost, RepliesOfCallsFit};
 
 use crate::ledgers::{Configured, Names, Part};
@@ -141,3 +142,10 @@ pub fn credits_are_accepted_as_due_back()
 pub fn over_limits_are_above()
     ensures { OverLimitsAreAbove }
 {}
+
+/// Calls that are one history without an event are torn nowhere: a house that ends so is not said to be torn.
+pub fn nothing_is_torn_without_events()
+    ensures { NothingIsTornWithoutEvents }
+{
+    replies_tell_events();
+}

@@ -28,8 +28,8 @@ pub use house::{Blanks, House};
 pub use laws::{
     cdrs_are_accepted_at_their_cost, closes_balance, credits_are_accepted_as_due_back,
     exposures_are_within_limits, locked_accounts_keep_limits, locked_books_keep_rules,
-    locked_orders_are_counted, over_limits_are_above, repeated_cdrs_are_told_at_their_cost,
-    replies_of_calls_fit,
+    locked_orders_are_counted, nothing_is_torn_without_events, over_limits_are_above,
+    repeated_cdrs_are_told_at_their_cost, replies_of_calls_fit,
 };
 pub use ledgers::{Configured, Names, Part};
 pub use locked::{LockedAccount, LockedBook, LockedOrder};
