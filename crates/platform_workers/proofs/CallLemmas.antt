@@ -17,16 +17,16 @@ not_both : (reply : Reply) → is_no_memory reply ≡ false → reply ≡ no_mem
 not_both reply found same = let both : is_no_memory no_memory ≡ false = sym (ap is_no_memory same) ∙ found in cc
 
 -- a call that found memory is kept
-kept : (old : List Made) (command : Command) (reply : Reply) (new : List Made) → is_no_memory reply ≡ false → Keeps old command reply new
-    → new ≡ old ++ record { command = command; reply = reply } ∷ []
-kept old command reply new found (inl same) = same
-kept old command reply new found (inr none) = absurd (not_both reply found none.1)
+kept : (command : Command) (before after : PassView) (reply : Reply) → is_no_memory reply ≡ false → Keeps before command reply after
+    → after.calls ≡ before.calls ++ record { command = command; reply = reply } ∷ []
+kept command before after reply found (inl same) = same
+kept command before after reply found (inr nothing) = absurd (not_both reply found nothing.refused)
 
 first_called : (config : Config) (found : Result Command Refusal) (before after : PassView) (reply : Reply) → is_no_memory reply ≡ false → IsReplied config found before reply after
     → HasCalled (command_before found []) before after
 first_called config (Ok command) before after reply found call = record {
   made = record { command = command; reply = reply } ∷ [];
-  calls_are = kept before.calls command reply after.calls found call.calls;
+  calls_are = kept command before after reply found call.calls;
   one_each = refl;
   found_memory = All-cons FoundMemory (record { command = command; reply = reply }) [] found (All-nil FoundMemory);
   number_kept = call.number;

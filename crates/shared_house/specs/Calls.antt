@@ -66,14 +66,21 @@ pub record Returns (config : Config) (command : Command) (least : ℕ) (reply : 
 
 -- ---- what a pass keeps
 
--- the call with what it returned; where memory was refused to the pass itself, nothing, and the call returns want of memory
-abbrev pub Keeps : List Made → Command → Reply → List Made → Type 0
-Keeps old command reply new =
-    (new ≡ old ++ record { command = command; reply = reply } ∷ []) ⊎ ((new ≡ old) × (reply ≡ no_memory))
+-- nothing: the pass had no place for the call and got none, and the call returns want of memory
+pub record KeepsNothing (before after : PassView) (reply : Reply) : Type 0 where
+  pub calls : after.calls ≡ before.calls
+  pub had_no_place : before.places ≡ 0
+  pub has_no_place : after.places ≡ 0
+  pub refused : reply ≡ no_memory
+
+-- the call with what it returned, want of memory too; nothing only where there is no place for it
+abbrev pub Keeps : PassView → Command → Reply → PassView → Type 0
+Keeps before command reply after =
+    (after.calls ≡ before.calls ++ record { command = command; reply = reply } ∷ []) ⊎ KeepsNothing before after reply
 
 -- a call with a pass: what it returns, and the pass after it
 pub record IsCall (config : Config) (command : Command) (before after : PassView) (reply : Reply) : Type 0 where
   pub number : after.number ≡ before.number
-  pub calls : Keeps before.calls command reply after.calls
+  pub calls : Keeps before command reply after
   pub share : after.share ≡ before.share + event_count reply
   pub returns : Returns config command before.share reply

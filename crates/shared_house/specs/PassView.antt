@@ -2,8 +2,9 @@
 use Rattle.std.specs.Prelude.{ℕ, List}
 use Rattle.shared_house.specs.declared.made.Made.{Made}
 
--- its number, its calls in the order in which they were made, and how many events they added
+-- its number, its calls in the order in which they were made, how many events they added, and for how many more calls it has a place
 pub record PassView : Type 0 where
   pub number : ℕ
   pub calls : List Made
   pub share : ℕ
+  pub places : ℕ

@@ -12,18 +12,19 @@ pub struct Pass<N: Names> {
 }
 
 impl<N: Names> Model for Pass<N> {
+    ghost use Rattle.std.specs.Prelude.{◌-◌, vec_capacity, vec_len};
     ghost use Rattle.shared_house.specs.PassView.{PassView};
     ghost use Rattle.shared_house.specs.Inner.PassKeeps.{PassKeeps};
 
     ghost Value = { PassView };
 
-    ghost view = { λ pass. record { number = pass.number; calls = pass.calls.items; share = pass.events.amount } };
+    ghost view = { λ pass. record { number = pass.number; calls = pass.calls.items; share = pass.events.amount; places = vec_capacity pass.calls - vec_len pass.calls } };
 
     ghost invariant = { λ pass. PassKeeps N.BookEntries.config pass.calls.items pass.events.parts pass.events.amount };
 }
 
 impl<N: Names> Pass<N> {
-    ghost use Rattle.std.specs.Prelude.{◌≡◌, count_by};
+    ghost use Rattle.std.specs.Prelude.{◌≡◌, ◌<◌, ◌↔◌, count_by, IsTrue};
     ghost use Rattle.shared_house.specs.Calls.{made_event};
     ghost use Rattle.shared_house.specs.Points.{AreAdmitted};
 
@@ -34,12 +35,19 @@ impl<N: Names> Pass<N> {
         self.number
     }
 
-    /// The calls that were made with the pass, the first one first, but those for which the pass found no memory.
+    /// The calls that were made with the pass, the first one first, but those for which it had no place and got none.
     pub fn calls(&self) -> &[Made]
         ensures calls { result.now ≡ self.now.calls }
         ensures share { self.now.share ≡ count_by made_event self.now.calls }
         ensures admitted { AreAdmitted N.BookEntries.config self.now.calls }
     {
         self.calls.as_slice()
+    }
+
+    /// Whether the pass has a place for one more call, so that it keeps the next one whatever that returns.
+    pub fn has_place(&self) -> bool
+        ensures { IsTrue result ↔ 0 < self.now.places }
+    {
+        self.calls.len() < self.calls.capacity()
     }
 }

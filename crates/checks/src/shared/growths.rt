@@ -97,7 +97,34 @@ fn outcome_of<D: Doing>(
     }
 }
 
-/// How the first of the passes does the lines, each by the call of its name where it is done once more.
+// How the pass does the lines.
+fn called<N: Names, R: Wait>(
+    rt: &HostRuntime,
+    locks: &R,
+    house: &House<N>,
+    pass: &mut Pass<N>,
+    trial: &Trial<'_>,
+    is_again: bool,
+) -> Outcome {
+    let mut calls = Calls {
+        locks,
+        house,
+        pass,
+        is_by_name: is_again,
+    };
+    outcome_of(rt, house.config(), &mut calls, trial, is_again)
+}
+
+// Whether the pass keeps the call of this number as one that was refused memory. It need not if it has no place for it.
+fn is_kept<N: Names>(pass: &Pass<N>, number: usize) -> bool {
+    match pass.calls().get(number) {
+        Some(made) => is_out_of_memory(&made.reply),
+        None => !pass.has_place(),
+    }
+}
+
+/// How the first of the passes does the lines, each by the call of its name where it is done once more. Where memory was refused to
+/// the last one and it is not done once more, the pass is to keep it so.
 pub fn outcome<N: Names, R: Wait>(
     rt: &HostRuntime,
     locks: &R,
@@ -109,13 +136,13 @@ pub fn outcome<N: Names, R: Wait>(
     let Some(pass) = passes.first_mut() else {
         return Outcome::Otherwise;
     };
-    let mut calls = Calls {
-        locks,
-        house,
-        pass,
-        is_by_name: is_again,
-    };
-    outcome_of(rt, house.config(), &mut calls, trial, is_again)
+    match called(rt, locks, house, pass, trial, is_again) {
+        Outcome::Unchanged => {
+            let is_kept = is_kept(pass, trial.before.len());
+            Outcome::only_if(is_kept, Outcome::Unchanged)
+        }
+        outcome => outcome,
+    }
 }
 
 /// Tells how the last line was done by a pass of a house that ended so. The events are to be those that are expected then.

@@ -4,21 +4,21 @@ ghost use Rattle.cdr_checks.specs.Admission.{IsAdmitted};
 ghost use Rattle.shared_house.specs.Calls.{IsCall};
 
 use super::collecting::is_configuration;
-use super::keeping::{filled, room_for_call};
+use super::keeping::{filled, refused, room_for_call};
 use super::locks::House;
 use crate::gate::Gate;
 use crate::laws::replies_of_calls_fit;
 use crate::ledgers::{Configured, Names, Part};
 use crate::pass::Pass;
 use cdr_checks::Command;
-use plain_house::{Refused, Replied, out_of_memory};
+use plain_house::{Refused, Replied};
 use std::sync::Wait;
 
 impl<N: Names> House<N> {
     /// Replies to a command that the house's configuration admits, and keeps the call in the pass. It may wait for locks.
     ///
     /// `NoMemory` where memory is refused: that comes before the command's place in the order, and changes nothing but that
-    /// the pass keeps the call; where memory is refused to the pass itself, it does not.
+    /// the pass keeps the call. The pass does not keep it if it has no place for it and is refused the memory for one.
     pub fn call<R: Wait, G: Gate>(
         &self,
         rt: &R,
@@ -37,7 +37,7 @@ impl<N: Names> House<N> {
             events,
         } = pass;
         let Ok(kept) = room_for_call(&self.config, calls, &command) else {
-            return Err(out_of_memory());
+            return refused(calls, command);
         };
         let reply = self.reply(rt, *number, events, gate, command);
         calls.push_reserved(filled(kept, &reply));

@@ -1,13 +1,14 @@
 //! What a pass keeps of a call, for which the memory is taken before the call.
 
-ghost use Rattle.std.specs.Prelude.{◌≡◌, ◌≤◌, ◌<◌, vec_capacity, vec_len, IfOk, OnOk};
+ghost use Rattle.std.specs.Prelude.{◌≡◌, ◌≤◌, ◌<◌, ◌∷◌, ◌++◌, [], vec_capacity, vec_len, IfOk, OnOk};
 ghost use Rattle.plain_house.specs.Laws.{most_rows};
+ghost use Rattle.plain_house.specs.Replies.{no_memory};
 ghost use Rattle.plain_house.specs.ReplyRoom.{FitsIn};
 
 use crate::made::Made;
 use cdr_checks::Command;
 use ocpi_types::{Config, TryCopy};
-use plain_house::{Refused, Replied, ReplyRoom};
+use plain_house::{Refused, Replied, ReplyRoom, out_of_memory};
 use std::alloc::AllocError;
 
 /// A call that is about to be made: its command, and room for what it returns.
@@ -17,13 +18,15 @@ pub struct CallRoom {
     pub room: ReplyRoom,
 }
 
-/// Takes memory for one call more and what it returns; the calls so far are as before.
+/// Takes memory for one call more, its place first, and what it returns; the calls so far are as before.
 pub fn room_for_call(
     config: &Config,
     calls: &mut Vec<Made>,
     command: &Command,
 ) -> Result<CallRoom, AllocError>
     ensures same { calls.new.items ≡ calls.old.items }
+    ensures len { vec_len calls.new ≡ vec_len calls.old }
+    ensures capacity { vec_capacity calls.old ≤ vec_capacity calls.new }
     ensures place { OnOk result (vec_len calls.new < vec_capacity calls.new) }
     ensures command { IfOk result (λ kept. kept.command ≡ command.now) }
     ensures room { IfOk result (λ kept. most_rows config.now ≤ kept.room) }
@@ -33,6 +36,21 @@ pub fn room_for_call(
     let room = ReplyRoom::new(alloc, config)?;
     let command = command.copy(alloc)?;
     Ok(CallRoom { command, room })
+}
+
+/// Refuses a call that has not been made, for want of memory. It is kept so if there is a place for it.
+pub fn refused(calls: &mut Vec<Made>, command: Command) -> Result<Replied, Refused>
+    ensures kept { vec_len calls.old < vec_capacity calls.old → calls.new.items ≡ calls.old.items ++ record { command = command; reply = no_memory } ∷ [] }
+    ensures not_kept { vec_capacity calls.old ≤ vec_len calls.old → (calls.new.items ≡ calls.old.items) × (vec_capacity calls.new ≤ vec_len calls.new) }
+    ensures refused { result ≡ no_memory }
+{
+    if calls.len() < calls.capacity() {
+        calls.push_reserved(Made {
+            command,
+            reply: Err(out_of_memory()),
+        });
+    }
+    Err(out_of_memory())
 }
 
 /// The call with what it returned, without taking memory.
