@@ -1,5 +1,5 @@
 -- A call that waits is ended by its row, where the locks are free.
-use Rattle.std.proofs.Common.{◌≡◌, ◌≢◌, ◌<◌, ℕ, zero, suc, List, [], ◌∷◌, Bool, true, false, true≢false, refl, sym, ap, subst, ◌∙◌, length, map, replicate, Option, None, Some, option_map, slice_get, slice_set, arith, ⊎_elim}
+use Rattle.std.proofs.Common.{◌≡◌, ◌≢◌, ℕ, zero, suc, List, [], ◌∷◌, true, false, true≢false, refl, sym, ap, subst, ◌∙◌, length, map, replicate, Option, None, Some, option_map, slice_get, slice_set, arith, ⊎_elim}
 use Rattle.std.specs.Option.{option_and_then}
 use Rattle.std.proofs.lemmas.Bool.{cases_eq}
 use Rattle.std.proofs.lemmas.Option.{none-some, same_Some, slice_get_within, slice_get-map}
@@ -24,13 +24,12 @@ use Rattle.house_core.specs.declared.step.Step.{Step}
 use Rattle.house_core.specs.Calls.{collects, waiting}
 use Rattle.house_core.specs.Collections.{is_open}
 use Rattle.house_core.specs.Events.{whole_account, whole_book}
-use Rattle.house_core.specs.Holders.{holder_at}
 use Rattle.house_core.specs.Inner.HouseLaws.{HouseLaws}
 use Rattle.house_core.specs.Inner.Sound.{Holds, IsAt}
-use Rattle.house_core.specs.Laws.{CallsCanEnd, IsConfiguration}
+use Rattle.house_core.specs.Laws.{CallsCanEnd}
 use Rattle.house_core.specs.Locks.{Lock}
 use Rattle.house_core.specs.OneHouse.{after}
-use Rattle.house_core.specs.Rows.{AreFree, EndsAnswered, HasEach, by_account, by_all_books, by_book, by_both, row, steps_of}
+use Rattle.house_core.specs.Rows.{AreFree, HasEach, by_account, by_all_books, by_book, by_both, row}
 use Rattle.house_core.specs.Start.{start}
 use Rattle.house_core.specs.Steps.{Change, change_by, changed, step}
 use Rattle.house_core.specs.World.{PlainWorld}

@@ -1,5 +1,5 @@
 -- Locks and the calls that have them, behind every list of steps.
-use Rattle.std.proofs.Common.{◌≡◌, ℕ, List, sym, ◌∙◌, Option, Some, slice_get}
+use Rattle.std.proofs.Common.{ℕ, List, sym, ◌∙◌, Option}
 use Rattle.std.proofs.lemmas.Option.{same_Some}
 use Rattle.ocpi_types.specs.declared.config.Config.{Config}
 use Rattle.cdr_checks.specs.declared.request.Command.{Command}

@@ -6,7 +6,7 @@ use Rattle.cdr_checks.specs.declared.request.Command.{Command}
 use Rattle.plain_house.specs.declared.entry.AccountEntry.{AccountEntry}
 use Rattle.plain_house.specs.declared.entry.BookEntry.{BookEntry}
 use Rattle.plain_house.specs.declared.event.Event.{Event}
-use Rattle.period_order.specs.Resolved.{accounts_of, books_of}
+use Rattle.period_order.specs.Resolved.{accounts_of}
 use Rattle.period_order.specs.Resolves.{OrdersResolve, Resolves}
 use Rattle.period_order.specs.Places.{order_of}
 use Rattle.period_order.specs.declared.order_entry.OrderEntry.{OrderEntry}

@@ -22,7 +22,7 @@ use Rattle.house_core.specs.declared.step.Action.TheVariants as action
 use Rattle.house_core.specs.Calls.{begun, for_account, for_book, held_account, held_book, ready, reply_due, waiting, wanted_account, wanted_book}
 use Rattle.house_core.specs.StepTable.{ChangesNoMore, HasEntries, StepsAreDecided, StepsChangeNoMore}
 use Rattle.house_core.specs.Locks.{Lock, freed, held, lock_at}
-use Rattle.house_core.specs.Steps.{Change, abandon, begin, collect_at, collected, end, known_to, of_account, of_book, of_call, order, put_account, put_book, take_account, take_book}
+use Rattle.house_core.specs.Steps.{abandon, begin, collect_at, collected, end, known_to, of_account, of_book, of_call, order, put_account, put_book, take_account, take_book}
 use Rattle.house_core.proofs.PutLemmas.{due_account, due_book}
 use Rattle.house_core.proofs.TimeLemmas.{made, made_then, where_free}
 

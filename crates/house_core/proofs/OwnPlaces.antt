@@ -1,5 +1,5 @@
 -- Each call has its place by its own Order step, and each call that ends does so once.
-use Rattle.std.proofs.Common.{◌≡◌, ◌≢◌, ◌≤◌, ℕ, zero, suc, List, [], ◌∷◌, ◌++◌, Bool, true, false, if◌then◌else◌, refl, sym, ap, subst, ◌∙◌, length, map, append_assoc, append-nil, Option, None, Some, is_none, option_map, option_to_list, slice_get, slice_set, arith, ⊎_elim}
+use Rattle.std.proofs.Common.{◌≡◌, ◌≢◌, ◌≤◌, ℕ, zero, suc, List, [], ◌∷◌, ◌++◌, Bool, true, false, if◌then◌else◌, refl, sym, ap, subst, ◌∙◌, length, map, append_assoc, Option, None, Some, is_none, option_map, option_to_list, slice_get, slice_set, arith, ⊎_elim}
 use Rattle.std.specs.List.{AllByRecursion}
 use Rattle.std.specs.Option.{option_and_then}
 use Rattle.std.proofs.lemmas.Bool.{cases_eq}
@@ -20,10 +20,8 @@ use Rattle.house_core.specs.declared.finished.Done.{Done}
 use Rattle.house_core.specs.declared.finished.Done.TheVariants as done
 use Rattle.house_core.specs.declared.finished.Finished.{Finished}
 use Rattle.house_core.specs.declared.stage.Carried.{Carried}
-use Rattle.house_core.specs.declared.stage.Netting.{Netting}
 use Rattle.house_core.specs.declared.stage.Stage.{Stage}
 use Rattle.house_core.specs.declared.stage.Stage.TheVariants as stage
-use Rattle.house_core.specs.declared.stage.Stating.{Stating}
 use Rattle.house_core.specs.declared.step.Action.{Action}
 use Rattle.house_core.specs.declared.step.Action.TheVariants as action
 use Rattle.house_core.specs.declared.step.Step.{Step}
@@ -34,7 +32,7 @@ use Rattle.house_core.specs.Steps.{Change, abandon, change_by, changed, collect_
 use Rattle.house_core.specs.World.{PlainWorld}
 use Rattle.house_core.proofs.Folds.{each-append}
 use Rattle.house_core.proofs.RankLemmas.{end_rank, ended_later, only_when, order_rank, ordered_later, rank_at}
-use Rattle.house_core.proofs.TimeLemmas.{each_then, made, made_then, only_if, where_free}
+use Rattle.house_core.proofs.TimeLemmas.{made, made_then, only_if, where_free}
 use Rattle.house_core.proofs.Wholes.{get-set_other, get-set_same}
 
 -- ---- numbers of which none stands twice

@@ -1,5 +1,5 @@
 -- How far a call is, as a number that no step makes smaller.
-use Rattle.std.proofs.Common.{◌≡◌, ◌≢◌, ◌≤◌, ◌<◌, ℕ, List, [], ◌∷◌, Bool, true, false, if◌then◌else◌, refl, sym, ap, subst, ◌∙◌, length, Option, None, Some, is_none, option_map, option_to_list, slice_get, slice_set, arith, ⊎_elim}
+use Rattle.std.proofs.Common.{◌≡◌, ◌≢◌, ◌≤◌, ◌<◌, ℕ, List, [], ◌∷◌, Bool, true, false, if◌then◌else◌, refl, sym, ap, ◌∙◌, length, Option, None, Some, is_none, option_map, option_to_list, slice_get, slice_set, arith, ⊎_elim}
 use Rattle.std.specs.List.{AllByRecursion}
 use Rattle.std.specs.Option.{option_and_then, option_map_or}
 use Rattle.std.proofs.lemmas.Bool.{cases_eq}
@@ -24,10 +24,10 @@ use Rattle.house_core.specs.declared.stage.Stage.TheVariants as stage
 use Rattle.house_core.specs.declared.step.Action.{Action}
 use Rattle.house_core.specs.declared.step.Action.TheVariants as action
 use Rattle.house_core.specs.declared.step.Step.{Step}
-use Rattle.house_core.specs.Calls.{begun, for_account, for_book, has_its_account, has_its_book, held_account, held_book, ordered, ready, reply_due, reply_due_at, waiting, wanted_account, wanted_book}
+use Rattle.house_core.specs.Calls.{begun, for_account, for_book, held_account, held_book, ordered, ready, reply_due, reply_due_at, waiting, wanted_account, wanted_book}
 use Rattle.house_core.specs.Locks.{Lock, held, lock_at}
 use Rattle.house_core.specs.OneHouse.{Ordered, finished, in_order, ordered_at}
-use Rattle.house_core.specs.Steps.{Change, abandon, change_by, changed, collect_at, collected, end, ended, ended_by, finishes, known_to, of_account, of_book, of_call, order, ordered_by, orders, put_account, put_book, stage_after, step, take_account, take_book}
+use Rattle.house_core.specs.Steps.{Change, abandon, change_by, changed, collect_at, collected, end, ended, ended_by, finishes, known_to, of_account, of_book, of_call, order, orders, put_account, put_book, stage_after, step, take_account, take_book}
 use Rattle.house_core.specs.World.{PlainWorld}
 use Rattle.house_core.proofs.EventLemmas.{orders_is}
 use Rattle.house_core.proofs.Folds.{each-append}

@@ -1,16 +1,13 @@
 -- The steps of a command's row end its call.
-use Rattle.std.proofs.Common.{◌≡◌, ◌≢◌, ◌≤◌, ◌<◌, ◌⊎◌, ◌||◌, ◌&&◌, inl, inr, ℕ, zero, suc, List, [], ◌∷◌, ◌++◌, Bool, true, false, true≢false, if◌then◌else◌, not, refl, sym, ap, ap₂, subst, ◌∙◌, length, map, replicate, append-nil, Option, None, Some, Result, Ok, is_none, option_map, option_to_list, slice_get, slice_set, arith, ⊎_elim}
-use Rattle.std.specs.Option.{option_and_then, option_map_or}
-use Rattle.std.proofs.lemmas.Bool.{cases_eq}
-use Rattle.std.proofs.lemmas.Option.{none-some, same_Some, slice_get_within}
+use Rattle.std.proofs.Common.{◌≡◌, ◌≢◌, ◌⊎◌, ◌||◌, ◌&&◌, inl, inr, ℕ, zero, suc, List, [], ◌∷◌, ◌++◌, Bool, true, false, true≢false, if◌then◌else◌, refl, sym, ap, ap₂, subst, ◌∙◌, length, map, replicate, append-nil, Option, None, Some, Ok, is_none, option_map, option_to_list, slice_get, slice_set, arith, ⊎_elim}
+use Rattle.std.specs.Option.{option_and_then}
+use Rattle.std.proofs.lemmas.Option.{none-some, same_Some}
 use Rattle.ocpi_types.specs.declared.config.Config.{Config}
 use Rattle.ocpi_types.specs.declared.config.Operator.{Operator}
-use Rattle.ocpi_types.specs.declared.refusal.Refusal.{Refusal}
 use Rattle.cdr_checks.specs.declared.request.Command.{Command}
 use Rattle.netting_positions.specs.Netting.{net_positions}
 use Rattle.netting_positions.specs.State.{PlainPositions, PlainStatement}
 use Rattle.netting_positions.specs.Statement.{statement_rows}
-use Rattle.plain_house.specs.declared.answer.Answer.{Answer}
 use Rattle.plain_house.specs.declared.answer.Answer.TheVariants as answer
 use Rattle.plain_house.specs.declared.entry.AccountEntry.{AccountEntry}
 use Rattle.plain_house.specs.declared.entry.BookEntry.{BookEntry}
@@ -31,7 +28,6 @@ use Rattle.house_core.specs.declared.stage.Stage.{Stage}
 use Rattle.house_core.specs.declared.stage.Stage.TheVariants as stage
 use Rattle.house_core.specs.declared.step.Action.{Action}
 use Rattle.house_core.specs.declared.step.Action.TheVariants as action
-use Rattle.house_core.specs.declared.step.Step.{Step}
 use Rattle.house_core.specs.Calls.{collects, ready, reply_due, reply_due_at}
 use Rattle.house_core.specs.Collections.{is_complete, is_open, no_positions, no_statement, positions_with, statement_with, sums}
 use Rattle.house_core.specs.Locks.{Lock, held, lock_at}
@@ -41,7 +37,7 @@ use Rattle.house_core.specs.Steps.{Change, change_by, changed, collect_at, colle
 use Rattle.house_core.specs.World.{PlainWorld}
 use Rattle.house_core.proofs.Placing.{outcome_is}
 use Rattle.house_core.proofs.StepLemmas.{no_lock, stepped}
-use Rattle.house_core.proofs.Wholes.{get-set_other, get-set_same}
+use Rattle.house_core.proofs.Wholes.{get-set_same}
 
 -- the steps end the call that began at such a number of events, with a reply of such a point
 pub record Ends (world : PlainWorld) (number begin point : ℕ) (actions : List Action) : Type 0 where
