@@ -1,6 +1,6 @@
 //! What a worker is given, and what it leaves.
 
-ghost use Rattle.std.specs.Prelude.{◌≡◌, ◌≤◌, [], map, vec_capacity, vec_len};
+ghost use Rattle.std.specs.Prelude.{◌≡◌, ◌≤◌, [], Some, map, vec_capacity, vec_len};
 
 use request_lines::{Count, ScriptFault, Sink, Source};
 use shared_house::{Names, Pass};
@@ -13,36 +13,57 @@ pub enum WorkerEnd {
     Failed(ScriptFault),
 }
 
-/// A pass with the reader and the writer of its worker, and how the worker ended.
+/// The passes and the pairs of workers that did not begin.
 #[derive(Drop)]
-pub struct Job<N: Names, I: Source + Drop, O: Sink + Drop> {
+pub struct NotBegun<N: Names, I: Source + Drop, O: Sink + Drop> {
+    pub passes: Vec<Pass<N>>,
+    pub pairs: Vec<(I, O)>,
+}
+
+/// A pass, what its worker is given, and how the worker ended.
+#[derive(Drop)]
+pub struct Job<N: Names, P: Drop> {
     pub pass: Pass<N>,
-    pub reader: I,
-    pub writer: O,
+    pub given: P,
     pub end: WorkerEnd,
 }
 
-/// A job of each pass and its pair, in a list that has places for them. None has begun.
-pub fn jobs_of<N: Names, I: Source + Drop, O: Sink + Drop>(
-    mut jobs: Vec<Job<N, I, O>>,
-    passes: Vec<Pass<N>>,
+/// The pairs, each of which can be taken, in a list that has places for them.
+pub fn to_take<I: Source + Drop, O: Sink + Drop>(
+    mut taken: Vec<Option<(I, O)>>,
     pairs: Vec<(I, O)>,
-) -> Vec<Job<N, I, O>>
-    requires len { vec_len passes ≡ vec_len pairs }
+) -> Vec<Option<(I, O)>>
+    requires empty { taken.items ≡ [] }
+    requires places { vec_len pairs ≤ vec_capacity taken }
+    ensures pairs { result.items ≡ map Some pairs.items }
+    ensures len { vec_len result ≡ vec_len pairs }
+{
+    for pair in pairs {
+        taken.push_reserved(Some(pair));
+    }
+    taken
+}
+
+/// A job of each pass and what its worker is given, in a list that has places for them. None has begun.
+pub fn jobs_of<N: Names, P: Drop>(
+    mut jobs: Vec<Job<N, P>>,
+    passes: Vec<Pass<N>>,
+    given: Vec<P>,
+) -> Vec<Job<N, P>>
+    requires len { vec_len passes ≡ vec_len given }
     requires empty { jobs.items ≡ [] }
     requires places { vec_len passes ≤ vec_capacity jobs }
     ensures passes { map (λ job. job.pass) result.items ≡ passes.items }
-    ensures pairs { map (λ job. (job.reader, job.writer)) result.items ≡ pairs.items }
+    ensures given { map (λ job. job.given) result.items ≡ given.items }
 {
-    let mut rest = pairs.into_iter();
+    let mut rest = given.into_iter();
     for pass in passes {
-        let Some((reader, writer)) = rest.next() else {
+        let Some(given) = rest.next() else {
             unreachable!();
         };
         jobs.push_reserved(Job {
             pass,
-            reader,
-            writer,
+            given,
             end: WorkerEnd::Failed(ScriptFault::NoMemory),
         });
     }
@@ -50,9 +71,9 @@ pub fn jobs_of<N: Names, I: Source + Drop, O: Sink + Drop>(
 }
 
 /// The passes of the jobs, each with how its worker ended, in a list that has places for them.
-pub fn ended<N: Names, I: Source + Drop, O: Sink + Drop>(
+pub fn ended<N: Names, P: Drop>(
     mut ended: Vec<(Pass<N>, WorkerEnd)>,
-    jobs: Vec<Job<N, I, O>>,
+    jobs: Vec<Job<N, P>>,
 ) -> Vec<(Pass<N>, WorkerEnd)>
     requires empty { ended.items ≡ [] }
     requires places { vec_len jobs ≤ vec_capacity ended }

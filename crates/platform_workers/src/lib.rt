@@ -6,6 +6,6 @@ mod laws;
 mod platform;
 mod workers;
 
-pub use jobs::WorkerEnd;
+pub use jobs::{NotBegun, WorkerEnd};
 pub use laws::calls_are_those_of_lines;
 pub use workers::run_platforms;

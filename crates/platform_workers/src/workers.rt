@@ -1,9 +1,10 @@
 //! One worker for each pass.
 
 ghost use Rattle.std.specs.Prelude.{◌≡◌, ℕ, ◌<◌, IfErr, IfOk, slice_index_or, vec_len};
+ghost use Rattle.platform_workers.specs.Inner.Jobs.{JobRan};
 ghost use Rattle.platform_workers.specs.Workers.{EachRan, Streams, WorkerRan, end_of};
 
-use super::jobs::{Job, WorkerEnd, ended, jobs_of};
+use super::jobs::{Job, NotBegun, WorkerEnd, ended, jobs_of, to_take};
 use super::platform::Platform;
 use ocpi_json::Room;
 use request_lines::{Count, ScriptFault, Sink, Source, run_lines};
@@ -42,13 +43,14 @@ fn run_platform<N: Names, I: Source, O: Sink, R: Wait, G: Gate>(
     run_lines(alloc, reader, writer, &mut platform)
 }
 
-/// Runs the worker of a job.
+/// Runs the worker of a job, and drops its reader and its writer when it ends: a process at the other end of a pipe then does not wait
+/// for the other workers.
 fn work<N: Names, I: Source + Drop, O: Sink + Drop, R: Wait, G: Gate>(
     rt: &R,
     alloc: Global,
     house: &House<N>,
     gate: &G,
-    job: &mut Job<N, I, O>,
+    job: &mut Job<N, Option<(I, O)>>,
 )
     ensures { let streams : Streams I O = record {
       gives = I.gives;
@@ -56,15 +58,14 @@ fn work<N: Names, I: Source + Drop, O: Sink + Drop, R: Wait, G: Gate>(
       reader_failed = I.failed;
       takes = O.takes;
       writer_failed = O.failed;
-    } in WorkerRan streams N.BookEntries.config job.old.pass (job.old.reader, job.old.writer) job.new.pass job.new.end }
+    } in JobRan streams N.BookEntries.config job.old.pass job.old.given job.new.pass job.new.given job.new.end }
 {
-    let Job {
-        pass,
-        reader,
-        writer,
-        end,
-    } = job;
-    *end = match run_platform(rt, alloc, house, gate, pass, reader, writer) {
+    let Some((mut reader, mut writer)) = job.given.take() else {
+        return;
+    };
+    let pass = &mut job.pass;
+    let ran = run_platform(rt, alloc, house, gate, pass, &mut reader, &mut writer);
+    job.end = match ran {
         Ok(count) => WorkerEnd::Done(count),
         Err(fault) => WorkerEnd::Failed(fault),
     };
@@ -77,7 +78,7 @@ fn run_jobs<
     O: Sink + Drop + Send,
     R: Threads + Wait + Sync,
     G: Gate + Sync,
->(rt: &R, alloc: Global, house: &House<N>, gate: &G, jobs: &mut Vec<Job<N, I, O>>)
+>(rt: &R, alloc: Global, house: &House<N>, gate: &G, jobs: &mut Vec<Job<N, Option<(I, O)>>>)
 where
     N::BookEntries: Send + Sync,
     N::BookAmounts: Send + Sync,
@@ -92,9 +93,8 @@ where
       takes = O.takes;
       writer_failed = O.failed;
     } in (place : ℕ) (job : _) → place < vec_len jobs.old →
-        WorkerRan streams N.BookEntries.config (slice_index_or jobs.old.items place job).pass
-        ((slice_index_or jobs.old.items place job).reader, (slice_index_or jobs.old.items place job).writer)
-        (slice_index_or jobs.new.items place job).pass (slice_index_or jobs.new.items place job).end }
+        JobRan streams N.BookEntries.config (slice_index_or jobs.old.items place job).pass (slice_index_or jobs.old.items place job).given
+        (slice_index_or jobs.new.items place job).pass (slice_index_or jobs.new.items place job).given (slice_index_or jobs.new.items place job).end }
 {
     let threads = jobs.len();
     if threads > 0 {
@@ -108,11 +108,12 @@ where
 }
 
 /// Answers the lines of each pair's reader onto its writer, with the pass in the same place: each pair in a thread of its own, or
-/// one after another where no thread can be made. The passes come back in their order, each with how its worker ended.
+/// one after another where no thread can be made. A worker that ends drops its pair at once. The passes come back in their order,
+/// each with how its worker ended.
 ///
 /// # Errors
 ///
-/// The passes, where memory is refused: no worker has begun then, and the pairs are dropped.
+/// The passes and the pairs as they were given, if an allocation fails: no worker begins then.
 pub fn run_platforms<
     N: Names + Send + Sync,
     I: Source + Drop + Send,
@@ -126,7 +127,7 @@ pub fn run_platforms<
     passes: Vec<Pass<N>>,
     pairs: Vec<(I, O)>,
     gate: &G,
-) -> Result<Vec<(Pass<N>, WorkerEnd)>, Vec<Pass<N>>>
+) -> Result<Vec<(Pass<N>, WorkerEnd)>, NotBegun<N, I, O>>
 where
     N::BookEntries: Send + Sync,
     N::BookAmounts: Send + Sync,
@@ -142,16 +143,20 @@ where
       writer_failed = O.failed;
     } in IfOk result (λ ended. EachRan streams N.BookEntries.config passes.items pairs.items ended.items) }
     ensures len { IfOk result (λ ended. vec_len ended ≡ vec_len passes) }
-    ensures err { IfErr result (λ unchanged. unchanged.items ≡ passes.items) }
+    ensures passes_kept { IfErr result (λ unchanged. unchanged.passes.items ≡ passes.items) }
+    ensures pairs_kept { IfErr result (λ unchanged. unchanged.pairs.items ≡ pairs.items) }
 {
     let count = passes.len();
     let Ok(jobs) = Vec::with_capacity(alloc, count) else {
-        return Err(passes);
+        return Err(NotBegun { passes, pairs });
     };
     let Ok(places) = Vec::with_capacity(alloc, count) else {
-        return Err(passes);
+        return Err(NotBegun { passes, pairs });
     };
-    let mut jobs = jobs_of(jobs, passes, pairs);
+    let Ok(taken) = Vec::with_capacity(alloc, count) else {
+        return Err(NotBegun { passes, pairs });
+    };
+    let mut jobs = jobs_of(jobs, passes, to_take(taken, pairs));
     run_jobs(rt, alloc, house, gate, &mut jobs);
     Ok(ended(places, jobs))
 }
