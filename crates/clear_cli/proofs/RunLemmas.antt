@@ -138,15 +138,7 @@ module _ {O V W U : Type 0} (words : FolderWords O V) (writes : W → List ℕ �
 
 -- ---- a house that was opened
 
--- `?` passes the fault on
-work_left : {I O V W : Type 0} (words : RunWords I O V W) (config : Config) (calls : List (List Made)) (folder folder' : O) (writer writer' : W) (lines : List (List ℕ)) (fault : Fault) (result : Result Bool Fault) →
-    IsErrAnd result (λ e. e ≡ fault) → IsLeftOpen (folder_words words) words.writes words.writer_failed config calls folder folder' writer writer' fault →
-    WorkEnds words config calls folder folder' writer writer' lines result
-work_left words config calls folder folder' writer writer' lines fault (Ok done) is left = absurd is
-work_left words config calls folder folder' writer writer' lines fault (Err same) is left =
-    subst (λ (f : Fault). IsLeftOpen (folder_words words) words.writes words.writer_failed config calls folder folder' writer writer' f) (sym is) left
-
-module _ {I O V W S : Type 0} (words : RunWords I O V W) (takes : S → List ℕ → S → Type 0) (failed : S → Bool) (config : Config) (named : List PlainNamed) (pairs : List (I × V))
+module _ {I O V W S : Type 0} (words : RunWords I O V W) (takes : S → List ℕ → S → Type 0) (failed : S → Bool) (config : Config) (named : List PlainNamed) (pairs unanswered : List (I × V))
     (folder folder' : O) (writer writer' : W) (s t : S) (ends : List WorkerEnd) {X : Type 0} (events_of : X → List Event) (finished : Result X FinishFault) where
   -- the house is one of an equal configuration
   pub has_worked : (given : Config) (result : Result Bool Fault) → given ≡ config →
@@ -154,48 +146,47 @@ module _ {I O V W S : Type 0} (words : RunWords I O V W) (takes : S → List ℕ
       AreTold takes failed s (worker_lines named ends) t →
       ((calls : List (List Made)) → MatchResult finished (λ x. IsFinished config calls (events_of x)) (λ fault. IsUnfinished config calls fault) →
       WorkEnds words config calls folder folder' writer writer' (worker_lines named ends) result) →
-      HasWorked words takes failed config named pairs folder folder' writer writer' s t result
-  has_worked given result same ran told end =
+      unanswered ≡ [] →
+      HasWorked words takes failed config named pairs unanswered folder folder' writer writer' s t result
+  has_worked given result same ran told end none =
       let under = subst (λ (k : Config). (calls : List (List Made)) × HaveWorked (worker_streams words) k pairs ends calls
       × MatchResult finished (λ x. IsFinished k calls (events_of x)) (λ fault. IsUnfinished k calls fault)) same ran in
-      record { calls = under.0; ends = ends; worked = under.1; told = told; end = end under.0 under.2 }
-
-  -- the house did not end
-  pub has_worked_in_vain : (given : Config) (fault : Fault) (result : Result Bool Fault) → IsErrAnd result (λ e. e ≡ fault) → given ≡ config →
-      (calls : List (List Made)) × HaveWorked (worker_streams words) given pairs ends calls × MatchResult finished (λ x. IsFinished given calls (events_of x)) (λ fault. IsUnfinished given calls fault) →
-      AreTold takes failed s (worker_lines named ends) t →
-      ((calls : List (List Made)) → MatchResult finished (λ x. IsFinished config calls (events_of x)) (λ fault. IsUnfinished config calls fault) →
-      IsLeftOpen (folder_words words) words.writes words.writer_failed config calls folder folder' writer writer' fault) →
-      HasWorked words takes failed config named pairs folder folder' writer writer' s t result
-  has_worked_in_vain given fault result is same ran told left =
-      has_worked given result same ran told (λ calls ended. work_left words config calls folder folder' writer writer' (worker_lines named ends) fault result is (left calls ended))
+      record { calls = under.0; ends = ends; worked = under.1; told = told; end = end under.0 under.2; none_left = none }
 
 -- ---- a run under its configuration
 
-module _ {I O V W S : Type 0} (words : RunWords I O V W) (takes : S → List ℕ → S → Type 0) (failed : S → Bool) (config : Config) (run : Run I O W) where
+module _ {I O V W S : Type 0} (words : RunWords I O V W) (takes : S → List ℕ → S → Type 0) (failed : S → Bool) (config : Config) (run : Run I O V W) where
   module _ (folder : O) (named : List PlainNamed) (pairs : List (I × V)) (lines : List (List ℕ)) (s t : S) where
     answered : AreOpened (folder_words words) run.files run.folder folder named pairs lines → (writer writer' : W) (folder' : O) (u v : S) (result : Result Bool Fault) →
-        (worked : HasWorked words takes failed config named pairs folder folder' writer writer' u v result) →
+        (worked : HasWorked words takes failed config named pairs run.unanswered folder folder' writer writer' u v result) →
         AreAnswered words config run folder worked.calls (lines ++ worker_lines named worked.ends)
-    answered opened writer writer' folder' u v result worked =
-        record { named = named; pairs = pairs; before = lines; opened = opened; ends = worked.ends; worked = worked.worked; lines_are = refl }
+    answered opened writer writer' folder' u v result worked = record {
+      named = named;
+      pairs = pairs;
+      before = lines;
+      opened = opened;
+      ends = worked.ends;
+      worked = worked.worked;
+      lines_are = refl;
+      none_left = worked.none_left;
+    }
 
+    -- the house was not made or did not end
     stops_by : (u : S) (fault : Fault) → AreOpened (folder_words words) run.files run.folder folder named pairs lines → AreTold takes failed s lines t →
-        HasNotBegun folder run.folder' run.writer run.writer' t u (Err fault) ⊎ HasWorked words takes failed config named pairs folder run.folder' run.writer run.writer' t u (Err fault) →
+        HasNotBegun pairs run.unanswered folder run.folder' run.writer run.writer' t u (Err fault)
+        ⊎ HasWorked words takes failed config named pairs run.unanswered folder run.folder' run.writer run.writer' t u (Err fault) →
         RunsUnder words takes failed config run s u (Err fault)
     stops_by u fault opened told (inl none) = record {
       lines = lines;
       told = subst (λ (x : S). AreTold takes failed s lines x) (sym none.faults_are) told;
       end = inl (
         cc,
-        inr (
-          pairs,
-          record {
-            named = named;
-            opened = subst (λ (x : O). AreOpened (folder_words words) run.files run.folder x named pairs lines) (sym none.folder_is) opened;
-            writer_is = none.writer_is;
-          },
-        ),
+        inr (record {
+          named = named;
+          opened = subst (λ (x : O). AreOpened (folder_words words) run.files run.folder x named run.unanswered lines) (sym none.folder_is)
+              (subst (λ (x : List (I × V)). AreOpened (folder_words words) run.files run.folder folder named x lines) (sym none.pairs_are) opened);
+          writer_is = none.writer_is;
+        }),
       );
     }
     stops_by u fault opened told (inr worked) = record {
@@ -209,22 +200,22 @@ module _ {I O V W S : Type 0} (words : RunWords I O V W) (takes : S → List ℕ
       });
     }
 
-    -- the house was not made or did not end, and `?` passes the fault on
-    pub stops : (u : S) (fault : Fault) (result : Result Bool Fault) → IsErrAnd result (λ e. e ≡ fault) → AreOpened (folder_words words) run.files run.folder folder named pairs lines →
-        AreTold takes failed s lines t →
-        HasNotBegun folder run.folder' run.writer run.writer' t u (Err fault) ⊎ HasWorked words takes failed config named pairs folder run.folder' run.writer run.writer' t u (Err fault) →
-        RunsUnder words takes failed config run s u result
-    stops u fault (Ok is_done) is opened told ended = absurd is
-    stops u fault (Err same) is opened told ended =
-        subst (λ (f : Fault). RunsUnder words takes failed config run s u (Err f)) (sym is) (stops_by u fault opened told ended)
+    pub stops : (u : S) (fault : Fault) (result : Result Bool Fault) → result ≡ Err fault → AreOpened (folder_words words) run.files run.folder folder named pairs lines → AreTold takes failed s lines t →
+        HasNotBegun pairs run.unanswered folder run.folder' run.writer run.writer' t u result
+        ⊎ HasWorked words takes failed config named pairs run.unanswered folder run.folder' run.writer run.writer' t u result →
+        RunsUnder words takes failed config run s u (Err fault)
+    stops u fault result is opened told ended = stops_by u fault opened told
+        (subst (λ (r : Result Bool Fault). HasNotBegun pairs run.unanswered folder run.folder' run.writer run.writer' t u r
+        ⊎ HasWorked words takes failed config named pairs run.unanswered folder run.folder' run.writer run.writer' t u r) is ended)
 
     -- the house ended; the run is done where each file was opened and no worker failed
-    pub ends : (u : S) (are_done is_done : Bool) → AreOpened (folder_words words) run.files run.folder folder named pairs lines → AreTold takes failed s lines t →
+    ends_by : (u : S) (are_done is_done : Bool) → AreOpened (folder_words words) run.files run.folder folder named pairs lines → AreTold takes failed s lines t →
         ((is_done ≡ true) ↔ ((length named ≡ length run.files) × (are_done ≡ true))) →
-        HasNotBegun folder run.folder' run.writer run.writer' t u (Ok are_done) ⊎ HasWorked words takes failed config named pairs folder run.folder' run.writer run.writer' t u (Ok are_done) →
+        HasNotBegun pairs run.unanswered folder run.folder' run.writer run.writer' t u (Ok are_done)
+        ⊎ HasWorked words takes failed config named pairs run.unanswered folder run.folder' run.writer run.writer' t u (Ok are_done) →
         RunsUnder words takes failed config run s u (Ok is_done)
-    ends u are_done is_done opened told all (inl none) = absurd cc
-    ends u are_done is_done opened told all (inr worked) =
+    ends_by u are_done is_done opened told all (inl none) = absurd cc
+    ends_by u are_done is_done opened told all (inr worked) =
         let more : List (List ℕ) = worker_lines named worked.ends in
         let is_run : IsRun words config run (lines ++ more) = record {
           folder = folder;
@@ -250,29 +241,41 @@ module _ {I O V W S : Type 0} (words : RunWords I O V W) (takes : S → List ℕ
                 absurd cc,
           )
 
+    pub ends : (u : S) (are_done is_done : Bool) (result : Result Bool Fault) → result ≡ Ok are_done → AreOpened (folder_words words) run.files run.folder folder named pairs lines → AreTold takes failed s lines t →
+        ((is_done ≡ true) ↔ ((length named ≡ length run.files) × (are_done ≡ true))) →
+        HasNotBegun pairs run.unanswered folder run.folder' run.writer run.writer' t u result
+        ⊎ HasWorked words takes failed config named pairs run.unanswered folder run.folder' run.writer run.writer' t u result →
+        RunsUnder words takes failed config run s u (Ok is_done)
+    ends u are_done is_done result is opened told all ended = ends_by u are_done is_done opened told all
+        (subst (λ (r : Result Bool Fault). HasNotBegun pairs run.unanswered folder run.folder' run.writer run.writer' t u r
+        ⊎ HasWorked words takes failed config named pairs run.unanswered folder run.folder' run.writer run.writer' t u r) is ended)
+
   -- no file is answered
-  pub none_is_answered : (named : List PlainNamed) (pairs : List (I × V)) (lines : List (List ℕ)) (s t : S) → AreOpened (folder_words words) run.files run.folder run.folder' named pairs lines →
-      AreTold takes failed s lines t → pairs ≡ [] → run.writer' ≡ run.writer → RunsUnder words takes failed config run s t (Ok false)
-  none_is_answered named pairs lines s t opened told none same = record {
+  pub none_is_answered : (named : List PlainNamed) (lines : List (List ℕ)) (s t : S) → AreOpened (folder_words words) run.files run.folder run.folder' named run.unanswered lines →
+      AreTold takes failed s lines t → run.unanswered ≡ [] → run.writer' ≡ run.writer → RunsUnder words takes failed config run s t (Ok false)
+  none_is_answered named lines s t opened told none same = record {
     lines = lines;
     told = told;
-    end = inl (record { named = named; opened = subst (λ (x : List (I × V)). AreOpened (folder_words words) run.files run.folder run.folder' named x lines) none opened; writer_is = same });
+    end = inl (record { named = named; opened = opened; writer_is = same }, none);
   }
 
   -- ---- a run
 
-  pub fails : (file : List ℕ) (is_done : Bool) (s t : S) → is_done ≡ false → reading file ≡ Ok config → RunsUnder words takes failed config run s t (Ok is_done) →
+  pub fails : (file : List ℕ) (result : Result Bool Fault) (s t : S) → result ≡ Ok false → reading file ≡ Ok config → RunsUnder words takes failed config run s t result →
       (lines : List (List ℕ)) × Fails words run file lines × AreTold takes failed s lines t
-  fails file true s t not reads under = absurd cc
-  fails file false s t not reads under = (under.lines, inr (record { config = config; reads = reads; ended = placed under.end }), under.told) where
+  fails file result s t not reads ran = (under.lines, inr (record { config = config; reads = reads; ended = placed under.end }), under.told) where
+    under : RunsUnder words takes failed config run s t (Ok false)
+    under = subst (λ (r : Result Bool Fault). RunsUnder words takes failed config run s t r) not ran
+
     placed : {A B C : Type 0} → A ⊎ B → A ⊎ (B ⊎ C)
     placed (inl a) = inl a
     placed (inr b) = inr (inl b)
 
-  pub fails_by : (file : List ℕ) (fault : Fault) (s t u : S) → reading file ≡ Ok config → RunsUnder words takes failed config run s t (Err fault) → IsTold takes failed t (fault_line fault) u →
+  pub fails_by : (file : List ℕ) (fault : Fault) (result : Result Bool Fault) (s t u : S) → result ≡ Err fault → reading file ≡ Ok config → RunsUnder words takes failed config run s t result → IsTold takes failed t (fault_line fault) u →
       (lines : List (List ℕ)) × Fails words run file lines × AreTold takes failed s lines u
-  fails_by file fault s t u reads under told = (
-    under.lines ++ fault_line fault ∷ [],
-    inr (record { config = config; reads = reads; ended = inr (inr (under.lines, fault, under.end, refl)) }),
-    told_more takes failed under.lines (fault_line fault ∷ []) s t u under.told (told_one takes failed (fault_line fault) t u told),
-  )
+  fails_by file fault result s t u is reads ran told =
+      let under : RunsUnder words takes failed config run s t (Err fault) = subst (λ (r : Result Bool Fault). RunsUnder words takes failed config run s t r) is ran in (
+        under.lines ++ fault_line fault ∷ [],
+        inr (record { config = config; reads = reads; ended = inr (inr (under.lines, fault, under.end, refl)) }),
+        told_more takes failed under.lines (fault_line fault ∷ []) s t u under.told (told_one takes failed (fault_line fault) t u told),
+      )

@@ -49,9 +49,11 @@ worker_streams words = record {
   writer_failed = words.file_failed;
 }
 
--- the files of a run, and the folder and the writer before and after it
-pub record Run (I O W : Type 0) : Type 0 where
+-- the files of a run, the folder and the writer before and after it, and the pairs of a reader and an answer file that came back,
+-- as no worker began with them
+pub record Run (I O V W : Type 0) : Type 0 where
   pub files : List (GivenFile I)
+  pub unanswered : List (I × V)
   pub folder : O
   pub folder' : O
   pub writer : W
@@ -90,15 +92,16 @@ IsLineWritten writes failed line writer writer' = writes writer line writer' × 
 
 -- ---- the stages
 
--- the files were opened and nothing else was done; these lines were told
-pub record AreOnlyOpened {I O V W : Type 0} (words : RunWords I O V W) (run : Run I O W) (pairs : List (I × V)) (lines : List (List ℕ)) : Type 0 where
+-- the files were opened and nothing else was done: each reader and each answer file came back as the opening left it; these lines
+-- were told
+pub record AreOnlyOpened {I O V W : Type 0} (words : RunWords I O V W) (run : Run I O V W) (lines : List (List ℕ)) : Type 0 where
   pub named : List PlainNamed
-  pub opened : AreOpened (folder_words words) run.files run.folder run.folder' named pairs lines
+  pub opened : AreOpened (folder_words words) run.files run.folder run.folder' named run.unanswered lines
   pub writer_is : run.writer' ≡ run.writer
 
 -- the files were opened, and the lines of those that are answered were answered by workers of one house, whose passes have these
 -- calls; these lines were told, and this is the folder then
-pub record AreAnswered {I O V W : Type 0} (words : RunWords I O V W) (config : Config) (run : Run I O W) (folder : O) (calls : List (List Made)) (lines : List (List ℕ)) : Type 0 where
+pub record AreAnswered {I O V W : Type 0} (words : RunWords I O V W) (config : Config) (run : Run I O V W) (folder : O) (calls : List (List Made)) (lines : List (List ℕ)) : Type 0 where
   pub named : List PlainNamed
   pub pairs : List (I × V)
   pub before : List (List ℕ)
@@ -106,6 +109,7 @@ pub record AreAnswered {I O V W : Type 0} (words : RunWords I O V W) (config : C
   pub ends : List WorkerEnd
   pub worked : HaveWorked (worker_streams words) config pairs ends calls
   pub lines_are : lines ≡ before ++ worker_lines named ends
+  pub none_left : run.unanswered ≡ []
 
 -- the house finished with these calls, and its files and the last line are written
 pub record IsEnded {O V W : Type 0} (words : FolderWords O V) (writes : W → List ℕ → W → Type 0) (failed : W → Bool) (config : Config) (calls : List (List Made)) (folder folder' : O) (writer writer' : W) : Type 0 where
@@ -115,14 +119,14 @@ pub record IsEnded {O V W : Type 0} (words : FolderWords O V) (writes : W → Li
   pub counted : IsLineWritten writes failed (counts_of config events) writer writer'
 
 -- the files are answered, and the house ended; these lines were told
-pub record IsRun {I O V W : Type 0} (words : RunWords I O V W) (config : Config) (run : Run I O W) (lines : List (List ℕ)) : Type 0 where
+pub record IsRun {I O V W : Type 0} (words : RunWords I O V W) (config : Config) (run : Run I O V W) (lines : List (List ℕ)) : Type 0 where
   pub folder : O
   pub calls : List (List Made)
   pub answered : AreAnswered words config run folder calls lines
   pub ended : IsEnded (folder_words words) words.writes words.writer_failed config calls folder run.folder' run.writer run.writer'
 
 -- and no line was told: each file was opened, its answer file was made, and its worker was done
-pub record IsDone {I O V W : Type 0} (words : RunWords I O V W) (run : Run I O W) (file : List ℕ) : Type 0 where
+pub record IsDone {I O V W : Type 0} (words : RunWords I O V W) (run : Run I O V W) (file : List ℕ) : Type 0 where
   pub config : Config
   pub reads : reading file ≡ Ok config
   pub is_run : IsRun words config run []
@@ -163,38 +167,37 @@ IsLeftOpen words writes failed config calls folder folder' writer writer' fault 
     ⊎ CountsAreLeft words writes failed config calls folder folder' writer writer' fault)
 
 -- the files are answered, and the house did not end; these lines were told before the fault
-pub record IsCutShort {I O V W : Type 0} (words : RunWords I O V W) (config : Config) (run : Run I O W) (lines : List (List ℕ)) (fault : Fault) : Type 0 where
+pub record IsCutShort {I O V W : Type 0} (words : RunWords I O V W) (config : Config) (run : Run I O V W) (lines : List (List ℕ)) (fault : Fault) : Type 0 where
   pub folder : O
   pub calls : List (List Made)
   pub answered : AreAnswered words config run folder calls lines
   pub left : IsLeftOpen (folder_words words) words.writes words.writer_failed config calls folder run.folder' run.writer run.writer' fault
 
 -- nothing is done, and no line was told
-pub record IsUntouched {I O W : Type 0} (run : Run I O W) (lines : List (List ℕ)) : Type 0 where
+pub record IsUntouched {I O V W : Type 0} (run : Run I O V W) (lines : List (List ℕ)) : Type 0 where
   pub folder_is : run.folder' ≡ run.folder
   pub writer_is : run.writer' ≡ run.writer
   pub no_lines : lines ≡ []
 
--- under a configuration that reads, these lines were told, and then a fault: there was no memory before the first line was
--- answered, or the house did not end
-abbrev pub StopsBy : {I O V W : Type 0} → RunWords I O V W → Config → Run I O W → List (List ℕ) → Fault → Type 0
-StopsBy {I} {O} {V} words config run lines fault =
-    ((fault ≡ NoMemory) × (IsUntouched run lines ⊎ ((pairs : List (I × V)) × AreOnlyOpened words run pairs lines)))
-    ⊎ IsCutShort words config run lines fault
+-- under a configuration that reads, these lines were told, and then a fault: there was no memory and no line was answered, or
+-- the files are answered and the house did not end
+abbrev pub StopsBy : {I O V W : Type 0} → RunWords I O V W → Config → Run I O V W → List (List ℕ) → Fault → Type 0
+StopsBy words config run lines fault =
+    ((fault ≡ NoMemory) × (IsUntouched run lines ⊎ AreOnlyOpened words run lines)) ⊎ IsCutShort words config run lines fault
 
--- none of the files is answered
-abbrev pub NoneIsAnswered : {I O V W : Type 0} → RunWords I O V W → Run I O W → List (List ℕ) → Type 0
-NoneIsAnswered words run lines = AreOnlyOpened words run [] lines
+-- none of the files is answered, since none has a reader and an answer file
+abbrev pub NoneIsAnswered : {I O V W : Type 0} → RunWords I O V W → Run I O V W → List (List ℕ) → Type 0
+NoneIsAnswered words run lines = AreOnlyOpened words run lines × (run.unanswered ≡ [])
 
 -- the configuration reads, and these lines were told in all
-pub record FailsUnder {I O V W : Type 0} (words : RunWords I O V W) (run : Run I O W) (file : List ℕ) (lines : List (List ℕ)) : Type 0 where
+pub record FailsUnder {I O V W : Type 0} (words : RunWords I O V W) (run : Run I O V W) (file : List ℕ) (lines : List (List ℕ)) : Type 0 where
   pub config : Config
   pub reads : reading file ≡ Ok config
   pub ended : NoneIsAnswered words run lines ⊎ ((IsRun words config run lines × (lines ≢ []))
       ⊎ ((before : List (List ℕ)) × (fault : Fault) × StopsBy words config run before fault × (lines ≡ before ++ fault_line fault ∷ [])))
 
 -- nothing is done, since the configuration does not read or there is no memory, and its fault alone was told
-pub record IsRefused {I O W : Type 0} (run : Run I O W) (file : List ℕ) (lines : List (List ℕ)) : Type 0 where
+pub record IsRefused {I O V W : Type 0} (run : Run I O V W) (file : List ℕ) (lines : List (List ℕ)) : Type 0 where
   pub fault : Fault
   pub folder_is : run.folder' ≡ run.folder
   pub writer_is : run.writer' ≡ run.writer
@@ -202,5 +205,5 @@ pub record IsRefused {I O W : Type 0} (run : Run I O W) (file : List ℕ) (lines
   pub lines_are : lines ≡ fault_line fault ∷ []
 
 -- these lines were told in all
-abbrev pub Fails : {I O V W : Type 0} → RunWords I O V W → Run I O W → List ℕ → List (List ℕ) → Type 0
+abbrev pub Fails : {I O V W : Type 0} → RunWords I O V W → Run I O V W → List ℕ → List (List ℕ) → Type 0
 Fails words run file lines = IsRefused run file lines ⊎ FailsUnder words run file lines

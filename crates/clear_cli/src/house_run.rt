@@ -1,6 +1,6 @@
 //! The house of a run.
 
-ghost use Rattle.std.specs.Prelude.{◌≡◌, ◌≤◌, List, [], All, IfOk, MatchResult, length, map, vec_capacity, vec_len};
+ghost use Rattle.std.specs.Prelude.{◌≡◌, ◌≤◌, List, [], All, IfErr, IfOk, MatchResult, length, map, vec_capacity, vec_len};
 ghost use Rattle.platform_workers.specs.Workers.{Streams};
 ghost use Rattle.shared_house.specs.declared.made.Made.{Made};
 ghost use Rattle.shared_house.specs.Finished.{IsFinished};
@@ -9,7 +9,7 @@ ghost use Rattle.clear_cli.specs.HouseRun.{HaveWorked, IsUnfinished};
 
 use ocpi_types::Config;
 use plain_house::Event;
-use platform_workers::{WorkerEnd, run_platforms};
+use platform_workers::{NotBegun, WorkerEnd, run_platforms};
 use request_lines::{Sink, Source};
 use shared_house::{Blanks, Configured, FinishFault, House, Names, NoGate, Part, Pass};
 use std::alloc::{AllocError, Global};
@@ -85,7 +85,8 @@ fn finish<N: Names, R: Threads + Sync>(
     }
 }
 
-// Answers each pair's lines with the pass of a house in its place.
+// Answers each pair's lines with the pass of a house in its place. If an allocation fails before that, the passes and the pairs come
+// back as they were given.
 fn run_workers<
     N: Names + Send + Sync,
     I: Source + Drop + Send,
@@ -97,7 +98,7 @@ fn run_workers<
     house: &House<N>,
     passes: Vec<Pass<N>>,
     pairs: Vec<(I, V)>,
-) -> Result<Ended<N>, AllocError>
+) -> Result<Ended<N>, NotBegun<N, I, V>>
 where
     N::BookEntries: Send + Sync,
     N::BookAmounts: Send + Sync,
@@ -114,15 +115,19 @@ where
       writer_failed = V.failed;
     } in IfOk result (λ ended. HaveWorked streams N.BookEntries.config pairs.items ended.ends.items (map (λ pass. pass.calls) ended.passes.items)) }
     ensures len { IfOk result (λ ended. (vec_len ended.passes ≡ vec_len passes) × (vec_len ended.ends ≡ vec_len pairs)) }
+    ensures passes_kept { IfErr result (λ unchanged. unchanged.passes.items ≡ passes.items) }
+    ensures pairs_kept { IfErr result (λ unchanged. unchanged.pairs.items ≡ pairs.items) }
 {
-    let places = with_places(alloc, passes.len())?;
+    let Ok(places) = with_places(alloc, passes.len()) else {
+        return Err(NotBegun { passes, pairs });
+    };
     match run_platforms(rt, alloc, house, passes, pairs, &NoGate) {
         Ok(workers) => Ok(split(places, workers)),
-        Err(_passes) => Err(AllocError),
+        Err(unchanged) => Err(unchanged),
     }
 }
 
-// The same by a new house, which ends then.
+// The same by a new house, which ends then. The pairs come back as they were given if an allocation fails before a line is answered.
 fn work<
     N: Names + Send + Sync,
     I: Source + Drop + Send,
@@ -134,7 +139,7 @@ fn work<
     house: House<N>,
     passes: Vec<Pass<N>>,
     pairs: Vec<(I, V)>,
-) -> Result<HouseRun, AllocError>
+) -> Result<HouseRun, Vec<(I, V)>>
 where
     N::BookEntries: Send + Sync,
     N::BookAmounts: Send + Sync,
@@ -155,8 +160,12 @@ where
     } in IfOk result (λ run. (calls : List (List Made)) × HaveWorked streams N.BookEntries.config pairs.items run.ends.items calls
         × MatchResult run.finished (λ events. IsFinished N.BookEntries.config calls events.items) (λ fault. IsUnfinished N.BookEntries.config calls fault)) }
     ensures len { IfOk result (λ run. vec_len run.ends ≡ vec_len pairs) }
+    ensures kept { IfErr result (λ unchanged. unchanged.items ≡ pairs.items) }
 {
-    let Ended { passes, ends } = run_workers(rt, alloc, &house, passes, pairs)?;
+    let Ended { passes, ends } = match run_workers(rt, alloc, &house, passes, pairs) {
+        Ok(ended) => ended,
+        Err(NotBegun { pairs, .. }) => return Err(pairs),
+    };
     let finished = finish(rt, alloc, house, passes);
     Ok(HouseRun { ends, finished })
 }
@@ -177,7 +186,7 @@ fn work_under<
     config: Config,
     blanks: Blanks,
     pairs: Vec<(I, V)>,
-) -> Result<HouseRun, AllocError>
+) -> Result<HouseRun, Vec<(I, V)>>
     requires config { config ≡ B.config }
     requires book_entries { IsLedgerOf blanks.book_entries B.name B.parts B.all (length config.operators) }
     requires book_amounts { IsLedgerOf blanks.book_amounts X.name X.parts X.all (length config.operators) }
@@ -193,21 +202,28 @@ fn work_under<
     } in IfOk result (λ run. (calls : List (List Made)) × HaveWorked streams config pairs.items run.ends.items calls
         × MatchResult run.finished (λ events. IsFinished config calls events.items) (λ fault. IsUnfinished config calls fault)) }
     ensures len { IfOk result (λ run. vec_len run.ends ≡ vec_len pairs) }
+    ensures kept { IfErr result (λ unchanged. unchanged.items ≡ pairs.items) }
 {
-    let (house, passes) = House::<(B, X, A, Y, E)>::new(alloc, config, pairs.len(), blanks)?;
+    let made = House::<(B, X, A, Y, E)>::new(alloc, config, pairs.len(), blanks);
+    let Ok((house, passes)) = made else {
+        return Err(pairs);
+    };
     work(rt, alloc, house, passes, pairs)
 }
 
 /// Answers the lines of each pair's reader onto its answer file, each pair with a pass of a new house of this configuration, and
 /// ends the house. The pairs are answered in threads of their own, or one after another where no thread can be made.
 ///
-/// `AllocError` where memory is refused before a line is answered.
+/// # Errors
+///
+/// The pairs as they were given, if an allocation fails before a line is answered. If one fails later, `finished` or the ends of
+/// the workers say so.
 pub fn run_house<I: Source + Drop + Send, V: Sink + Drop + Send, R: Threads + Wait + Sync>(
     rt: &R,
     alloc: Global,
     config: Config,
     pairs: Vec<(I, V)>,
-) -> Result<HouseRun, AllocError>
+) -> Result<HouseRun, Vec<(I, V)>>
     ensures worked { let streams : Streams I V = record {
       gives = I.gives;
       at_end = I.at_end;
@@ -217,6 +233,7 @@ pub fn run_house<I: Source + Drop + Send, V: Sink + Drop + Send, R: Threads + Wa
     } in IfOk result (λ run. (calls : List (List Made)) × HaveWorked streams config pairs.items run.ends.items calls
         × MatchResult run.finished (λ events. IsFinished config calls events.items) (λ fault. IsUnfinished config calls fault)) }
     ensures len { IfOk result (λ run. vec_len run.ends ≡ vec_len pairs) }
+    ensures kept { IfErr result (λ unchanged. unchanged.items ≡ pairs.items) }
 {
     let blanks = Blanks::new(&config, pairs.len());
     work_under::<Brand, Brand, Brand, Brand, Brand, I, V, R>(rt, alloc, config, blanks, pairs)

@@ -109,7 +109,7 @@ fn answer_files<'a>(
     let is_gone = Cell::new(false);
     let mut writer = Device::new(Output::new(rt.stdout(), &is_gone));
     let mut faults = Device::new(Errors::new(rt.stderr(), &is_gone));
-    Ok(run(
+    let ended = run(
         threads,
         rt.alloc(),
         file.as_slice(),
@@ -117,7 +117,8 @@ fn answer_files<'a>(
         &mut folder,
         &mut writer,
         &mut faults,
-    ))
+    );
+    Ok(ended.status)
 }
 
 // Prints the text, and gives the exit status. That the reader of the output has gone is not told.

@@ -32,6 +32,14 @@ use std::sync::Wait;
 use std::thread::Threads;
 use std::{mem, thread};
 
+/// The exit status of a run, and the pairs of a reader and an answer file that were opened and with which no worker began. They
+/// come back, so that the contract of `run` says that they were neither read nor written.
+#[derive(Drop)]
+pub struct RunEnd<I: Source + Drop, V: Sink + Drop> {
+    pub status: u8,
+    pub unanswered: Vec<(I, V)>,
+}
+
 // Why a worker failed, whose file has this path.
 fn worker_fault<'a>(path: &'a str, fault: ScriptFault) -> Fault<'a>
     ensures { fault_text result ≡ worker_text path.now fault }
@@ -190,7 +198,8 @@ fn end_house<R: Threads + Sync, O: Folder, W: Sink>(
     }
 }
 
-// Answers the files that were opened, tells which workers failed, and ends the house. True where none failed.
+// Answers the files that were opened, tells which workers failed, and ends the house. True where none failed. If an allocation
+// fails before a line is answered, the pairs come back as they were opened; none comes back otherwise.
 fn run_opened<R: Threads + Wait + Sync, I: Source + Drop + Send, O: Folder, W: Sink, F: Sink>(
     rt: &R,
     alloc: Global,
@@ -199,7 +208,7 @@ fn run_opened<R: Threads + Wait + Sync, I: Source + Drop + Send, O: Folder, W: S
     folder: &mut O,
     writer: &mut W,
     faults: &mut F,
-) -> Result<bool, Fault<'static>>
+) -> (Result<bool, Fault<'static>>, Vec<(I, O::File)>)
     requires { vec_len opened.named ≡ vec_len opened.pairs }
     ensures ended { let words : RunWords I O O.File W = record {
       gives = I.gives;
@@ -211,15 +220,30 @@ fn run_opened<R: Threads + Wait + Sync, I: Source + Drop + Send, O: Folder, W: S
       file_failed = O.File.failed;
       writes = W.takes;
       writer_failed = W.failed;
-    } in HasNotBegun folder.old folder.new writer.old writer.new faults.old faults.new result
-        ⊎ HasWorked words F.takes F.failed config.now opened.named.items opened.pairs.items folder.old folder.new writer.old writer.new faults.old faults.new result }
-    ensures status { IfErr result (λ fault. exit_status fault ≡ 1) }
+    } in HasNotBegun opened.pairs.items result.1.items folder.old folder.new writer.old writer.new faults.old faults.new result.0
+        ⊎ HasWorked words F.takes F.failed config.now opened.named.items opened.pairs.items result.1.items folder.old folder.new writer.old writer.new faults.old faults.new result.0 }
+    ensures status { IfErr result.0 (λ fault. exit_status fault ≡ 1) }
 {
     let Opened { named, pairs } = opened;
-    let HouseRun { ends, finished } = run_house(rt, alloc, config.copy(alloc)?, pairs)?;
+    let Ok(copied) = config.copy(alloc) else {
+        return (Err(Fault::NoMemory), pairs);
+    };
+    let HouseRun { ends, finished } = match run_house(rt, alloc, copied, pairs) {
+        Ok(run) => run,
+        Err(pairs) => return (Err(Fault::NoMemory), pairs),
+    };
     let are_done = tell_failed(faults, named.as_slice(), ends.as_slice());
-    end_house(rt, alloc, config, finished, folder, writer)?;
-    Ok(are_done)
+    match end_house(rt, alloc, config, finished, folder, writer) {
+        Ok(()) => (Ok(are_done), Vec::new(alloc)),
+        Err(fault) => (Err(fault), Vec::new(alloc)),
+    }
+}
+
+// Whether each of the given files was answered, and no worker failed.
+fn is_whole(answered: usize, given: usize, are_done: bool) -> bool
+    ensures { (result ≡ true) ↔ ((answered ≡ given) × (are_done ≡ true)) }
+{
+    answered == given && are_done
 }
 
 // The same from the opening on. True where no line was told.
@@ -231,7 +255,7 @@ fn run_under<R: Threads + Wait + Sync, I: Source + Drop + Send, O: Folder, W: Si
     folder: &mut O,
     writer: &mut W,
     faults: &mut F,
-) -> Result<bool, Fault<'static>>
+) -> (Result<bool, Fault<'static>>, Vec<(I, O::File)>)
     ensures ended { let words : RunWords I O O.File W = record {
       gives = I.gives;
       at_end = I.at_end;
@@ -242,23 +266,28 @@ fn run_under<R: Threads + Wait + Sync, I: Source + Drop + Send, O: Folder, W: Si
       file_failed = O.File.failed;
       writes = W.takes;
       writer_failed = W.failed;
-    } in let run : Run I O W = record {
+    } in let run : Run I O O.File W = record {
       files = map (λ file. record { path = string_bytes file.0; reader = file.1 }) files.items;
+      unanswered = result.1.items;
       folder = folder.old;
       folder' = folder.new;
       writer = writer.old;
       writer' = writer.new;
-    } in RunsUnder words F.takes F.failed config.now run faults.old faults.new result }
-    ensures status { IfErr result (λ fault. exit_status fault ≡ 1) }
+    } in RunsUnder words F.takes F.failed config.now run faults.old faults.new result.0 }
+    ensures status { IfErr result.0 (λ fault. exit_status fault ≡ 1) }
 {
     let count = files.len();
-    let opened = open(alloc, folder, faults, files)?;
+    let Ok(opened) = open(alloc, folder, faults, files) else {
+        return (Err(Fault::NoMemory), Vec::new(alloc));
+    };
     if opened.pairs.is_empty() {
-        return Ok(false);
+        return (Ok(false), opened.pairs);
     }
-    let are_opened = opened.named.len() == count;
-    let are_done = run_opened(rt, alloc, config, opened, folder, writer, faults)?;
-    Ok(are_opened && are_done)
+    let answered = opened.named.len();
+    match run_opened(rt, alloc, config, opened, folder, writer, faults) {
+        (Ok(are_done), unanswered) => (Ok(is_whole(answered, count, are_done)), unanswered),
+        (Err(fault), unanswered) => (Err(fault), unanswered),
+    }
 }
 
 /// Answers the lines of the files by one house of the configuration of these bytes, each file by a thread of its own where one can
@@ -272,8 +301,8 @@ pub fn run<R: Threads + Wait + Sync, I: Source + Drop + Send, O: Folder, W: Sink
     folder: &mut O,
     writer: &mut W,
     faults: &mut F,
-) -> u8
-    ensures status { result ≤ 1 }
+) -> RunEnd<I, O::File>
+    ensures status { result.status ≤ 1 }
     ensures done { let words : RunWords I O O.File W = record {
       gives = I.gives;
       at_end = I.at_end;
@@ -284,14 +313,15 @@ pub fn run<R: Threads + Wait + Sync, I: Source + Drop + Send, O: Folder, W: Sink
       file_failed = O.File.failed;
       writes = W.takes;
       writer_failed = W.failed;
-    } in let run : Run I O W = record {
+    } in let run : Run I O O.File W = record {
       files = map (λ file. record { path = string_bytes file.0; reader = file.1 }) files.items;
+      unanswered = result.unanswered.items;
       folder = folder.old;
       folder' = folder.new;
       writer = writer.old;
       writer' = writer.new;
-    } in result ≡ 0 → IsDone words run config.now }
-    ensures silent { result ≡ 0 → faults.new ≡ faults.old }
+    } in result.status ≡ 0 → IsDone words run config.now }
+    ensures silent { result.status ≡ 0 → faults.new ≡ faults.old }
     ensures fault { let words : RunWords I O O.File W = record {
       gives = I.gives;
       at_end = I.at_end;
@@ -302,28 +332,41 @@ pub fn run<R: Threads + Wait + Sync, I: Source + Drop + Send, O: Folder, W: Sink
       file_failed = O.File.failed;
       writes = W.takes;
       writer_failed = W.failed;
-    } in let run : Run I O W = record {
+    } in let run : Run I O O.File W = record {
       files = map (λ file. record { path = string_bytes file.0; reader = file.1 }) files.items;
+      unanswered = result.unanswered.items;
       folder = folder.old;
       folder' = folder.new;
       writer = writer.old;
       writer' = writer.new;
-    } in result ≡ 1 → (lines : List (List ℕ)) × Fails words run config.now lines
+    } in result.status ≡ 1 → (lines : List (List ℕ)) × Fails words run config.now lines
         × AreTold F.takes F.failed faults.old lines faults.new }
 {
     let config = match read_config(alloc, config) {
         Ok(config) => config,
         Err(fault) => {
             tell(faults, &fault);
-            return fault.status();
+            return RunEnd {
+                status: fault.status(),
+                unanswered: Vec::new(alloc),
+            };
         }
     };
     match run_under(rt, alloc, &config, files, folder, writer, faults) {
-        Ok(true) => 0,
-        Ok(false) => 1,
-        Err(fault) => {
+        (Ok(true), unanswered) => RunEnd {
+            status: 0,
+            unanswered,
+        },
+        (Ok(false), unanswered) => RunEnd {
+            status: 1,
+            unanswered,
+        },
+        (Err(fault), unanswered) => {
             tell(faults, &fault);
-            fault.status()
+            RunEnd {
+                status: fault.status(),
+                unanswered,
+            }
         }
     }
 }

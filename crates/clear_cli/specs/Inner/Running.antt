@@ -17,29 +17,31 @@ WorkEnds words config calls folder folder' writer writer' lines (Ok are_done) =
 WorkEnds words config calls folder folder' writer writer' lines (Err fault) =
     IsLeftOpen (folder_words words) words.writes words.writer_failed config calls folder folder' writer writer' fault
 
--- the workers ran, those that failed were told, and the house ended or not
-pub record HasWorked {I O V W S : Type 0} (words : RunWords I O V W) (takes : S → List ℕ → S → Type 0) (failed : S → Bool) (config : Config) (named : List PlainNamed) (pairs : List (I × V))
+-- the workers ran and none of the pairs came back, those that failed were told, and the house ended or not
+pub record HasWorked {I O V W S : Type 0} (words : RunWords I O V W) (takes : S → List ℕ → S → Type 0) (failed : S → Bool) (config : Config) (named : List PlainNamed) (pairs unanswered : List (I × V))
     (folder folder' : O) (writer writer' : W) (faults faults' : S) (result : Result Bool Fault) : Type 0 where
   pub calls : List (List Made)
   pub ends : List WorkerEnd
   pub worked : HaveWorked (worker_streams words) config pairs ends calls
   pub told : AreTold takes failed faults (worker_lines named ends) faults'
   pub end : WorkEnds words config calls folder folder' writer writer' (worker_lines named ends) result
+  pub none_left : unanswered ≡ []
 
--- no worker began, since there is no memory
-pub record HasNotBegun {O W S : Type 0} (folder folder' : O) (writer writer' : W) (faults faults' : S) (result : Result Bool Fault) : Type 0 where
+-- no worker began, since there is no memory, and the pairs came back as they were given
+pub record HasNotBegun {I O V W S : Type 0} (pairs unanswered : List (I × V)) (folder folder' : O) (writer writer' : W) (faults faults' : S) (result : Result Bool Fault) : Type 0 where
+  pub pairs_are : unanswered ≡ pairs
   pub folder_is : folder' ≡ folder
   pub writer_is : writer' ≡ writer
   pub faults_are : faults' ≡ faults
   pub result_is : result ≡ Err NoMemory
 
-abbrev pub RunEnds : {I O V W : Type 0} → RunWords I O V W → Config → Run I O W → List (List ℕ) → Result Bool Fault → Type 0
+abbrev pub RunEnds : {I O V W : Type 0} → RunWords I O V W → Config → Run I O V W → List (List ℕ) → Result Bool Fault → Type 0
 RunEnds words config run lines (Ok true) = (lines ≡ []) × IsRun words config run lines
 RunEnds words config run lines (Ok false) = NoneIsAnswered words run lines ⊎ (IsRun words config run lines × (lines ≢ []))
 RunEnds words config run lines (Err fault) = StopsBy words config run lines fault
 
 -- under a configuration that reads, these lines were told before the result
-pub record RunsUnder {I O V W S : Type 0} (words : RunWords I O V W) (takes : S → List ℕ → S → Type 0) (failed : S → Bool) (config : Config) (run : Run I O W)
+pub record RunsUnder {I O V W S : Type 0} (words : RunWords I O V W) (takes : S → List ℕ → S → Type 0) (failed : S → Bool) (config : Config) (run : Run I O V W)
     (faults faults' : S) (result : Result Bool Fault) : Type 0 where
   pub lines : List (List ℕ)
   pub told : AreTold takes failed faults lines faults'

@@ -1,4 +1,4 @@
-use Rattle.std.proofs.Common.{[], ◌∷◌, inl, refl}
+use Rattle.std.proofs.Common.{rules, [], ◌∷◌, inl, refl}
 use Rattle.clear_cli.specs.Fault.{fault_line}
 use Rattle.clear_cli.proofs.LineInParts.{told_one}
 use Rattle.clear_cli.proofs.RunLemmas.{fails, fails_by}
@@ -11,11 +11,11 @@ returns-in-Err-clause-fault g c = λ one. (
   told_one g.F.Sink.takes g.F.Sink.failed (fault_line c.in-Err.fault) c.args.faults.now c.tell.new.faults c.tell.ensures,
 )
 
-pub returns-in-Ok-false-clause-fault : goal.returns-in-Ok-false-clause-fault
-returns-in-Ok-false-clause-fault g c = λ one.
-    fails _ g.F.Sink.takes g.F.Sink.failed c.in-Ok.config _ c.args.config.now c.in-Ok-false.field-0 c.args.faults.now c.run_under.new.faults (cc) c.in-Ok.ensures.ok c.in-Ok-false.ensures.ended
+pub returns-in-Ok-false-default-clause-fault : goal.returns-in-Ok-false-default-clause-fault
+returns-in-Ok-false-default-clause-fault g c = λ one.
+    fails _ g.F.Sink.takes g.F.Sink.failed c.in-Ok.config _ c.args.config.now c.run_under.result.0 c.args.faults.now c.run_under.new.faults (search rules) c.in-Ok.ensures.ok c.run_under.ensures.ended
 
 pub returns-clause-fault : goal.returns-clause-fault
 returns-clause-fault g c = λ one.
-    fails_by _ g.F.Sink.takes g.F.Sink.failed c.in-Ok.config _ c.args.config.now c.in-Err-run_under.fault c.args.faults.now c.run_under.new.faults c.tell-in-Err-run_under.new.faults
-    c.in-Ok.ensures.ok c.in-Err-run_under.ensures.ended c.tell-in-Err-run_under.ensures
+    fails_by _ g.F.Sink.takes g.F.Sink.failed c.in-Ok.config _ c.args.config.now c.in-Err-default.fault c.run_under.result.0 c.args.faults.now c.run_under.new.faults c.tell-in-Err-default.new.faults
+    c.in-Err-default.is-0 c.in-Ok.ensures.ok c.run_under.ensures.ended c.tell-in-Err-default.ensures
