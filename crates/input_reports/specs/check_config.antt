@@ -1,4 +1,5 @@
 pub mod Causes
+pub mod Expectations
 pub mod Known
 pub mod Status
 pub mod Warnings

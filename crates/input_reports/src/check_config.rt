@@ -3,6 +3,7 @@
 ghost use Rattle.std.specs.Prelude.{◌≡◌, ◌≢◌, ◌↔◌, []};
 
 mod alike;
+mod expected;
 mod failing;
 mod fault;
 mod in_force;
@@ -13,6 +14,7 @@ mod offset;
 mod passed_over;
 mod report;
 mod spelled;
+mod standing;
 mod warning;
 mod warnings;
 mod wrong;

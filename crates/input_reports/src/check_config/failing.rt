@@ -1,12 +1,14 @@
 //! Which member of a configuration a fault means.
 
 use super::alike::second_alike;
+use super::expected::{Expected, expected_of};
 use super::objects::{Found, Listing, Place};
+use super::standing::standing;
 use super::wrong::{Wrong, wrong_party, wrong_value};
 use ocpi_json::name::Name;
 use ocpi_json::{Node, Nodes, fields};
 use ocpi_types::Currency;
-use std::fmt;
+use std::alloc::{AllocError, Global};
 
 /// What is wrong with a member, and with which item of it where it is one.
 #[derive(Clone, Copy)]
@@ -15,23 +17,73 @@ struct Finding {
     wrong: Wrong,
 }
 
-/// A member that is at fault.
+/// A member that is at fault, of the object there.
 #[derive(Clone, Copy)]
-pub struct Failing {
+struct Failing<'o, 'a> {
     place: Place,
+    object: &'o Node<'a>,
     name: Name,
     finding: Finding,
 }
 
-impl fmt::Display for Failing {
-    fn fmt<W: fmt::Write>(&self, f: &mut fmt::Formatter<W>) -> fmt::Result {
+impl<'a> Failing<'_, 'a> {
+    ghost use Rattle.std.specs.Prelude.{◌≡◌, is_some};
+    ghost use Rattle.input_reports.specs.check_config.Expectations.{expected_at};
+
+    // What the member has to be, or that item of it.
+    fn expected(&self) -> Option<Expected>
+        ensures { result ≡ expected_at self.now.place self.now.name (is_some self.now.finding.item) }
+    {
+        let expected = expected_of(self.place, self.name)?;
+        match self.finding.item {
+            Some(_) => expected.item(),
+            None => Some(expected),
+        }
+    }
+
+    // What stands there.
+    fn value(&self) -> Option<Node<'a>> {
+        let member = self.object.get(self.name.key())?;
+        match self.finding.item {
+            Some(item) => member.items()?.nth(item),
+            None => Some(member),
+        }
+    }
+
+    fn write_path(&self, line: &mut String) -> Result<(), AllocError> {
         let place = self.place;
         let key = self.name.key();
-        let wrong = self.finding.wrong;
         match self.finding.item {
-            Some(item) => write!(f, "{place}{key}[{item}]: {wrong}"),
-            None => write!(f, "{place}{key}: {wrong}"),
+            Some(item) => write!(line, "{place}{key}[{item}]: "),
+            None => write!(line, "{place}{key}: "),
         }
+    }
+
+    fn write_expected(&self, alloc: Global, line: &mut String) -> Result<(), AllocError> {
+        let standing = standing(alloc, self.value().as_ref())?;
+        match self.expected() {
+            Some(expected) => write!(line, "expected {expected}, found {standing}"),
+            None => write!(line, "found {standing}"),
+        }
+    }
+
+    fn write_wrong(&self, alloc: Global, line: &mut String) -> Result<(), AllocError> {
+        match self.finding.wrong {
+            Wrong::Missing => line.push_str("missing"),
+            Wrong::Twice => line.push_str("stands twice"),
+            Wrong::Unfit => self.write_expected(alloc, line),
+            Wrong::NotConfigured => {
+                line.push_str("not configured: ")?;
+                self.write_expected(alloc, line)
+            }
+        }
+    }
+
+    fn line(&self, alloc: Global) -> Result<String, AllocError> {
+        let mut line = String::new(alloc);
+        self.write_path(&mut line)?;
+        self.write_wrong(alloc, &mut line)?;
+        Ok(line)
     }
 }
 
@@ -140,25 +192,48 @@ fn or_missing(finding: Finding, node: &Node, name: Name) -> Finding {
     }
 }
 
-fn failing_in<'a>(whole: &Node<'a>, place: Place, node: &Node<'a>, name: Name) -> Option<Failing> {
+fn failing_in<'o, 'a>(
+    whole: &Node<'a>,
+    place: Place,
+    object: &'o Node<'a>,
+    name: Name,
+) -> Option<Failing<'o, 'a>> {
     if !place.members().contains(&name) {
         return None;
     }
-    let finding = wrong_member(whole, place, node, name)?;
+    let finding = wrong_member(whole, place, object, name)?;
     Some(Failing {
         place,
+        object,
         name,
-        finding: or_missing(finding, node, name),
+        finding: or_missing(finding, object, name),
     })
 }
 
-/// The first member of that name, in the order of reading, that is not as it has to be. Of the names of the configuration's
-/// own members other objects have `limits` alone, and the providers' are read before it.
-pub fn failing_member<'a>(whole: &Node<'a>, objects: &[Found<'a>], name: Name) -> Option<Failing> {
+// The first member of that name, in the order of reading, that is not as it has to be. Of the names of the configuration's
+// own members other objects have `limits` alone, and the providers' are read before it.
+fn failing_member<'o, 'a>(
+    whole: &'o Node<'a>,
+    objects: &'o [Found<'a>],
+    name: Name,
+) -> Option<Failing<'o, 'a>> {
     for found in objects {
         if let Some(failing) = failing_in(whole, found.place, &found.node, name) {
             return Some(failing);
         }
     }
     failing_in(whole, Place::Whole, whole, name)
+}
+
+/// Where the member stands that a fault of that name means, and what is wrong with it, if there is one.
+pub fn failing_line(
+    alloc: Global,
+    whole: &Node,
+    objects: &[Found],
+    name: Name,
+) -> Result<Option<String>, AllocError> {
+    match failing_member(whole, objects, name) {
+        Some(failing) => Ok(Some(failing.line(alloc)?)),
+        None => Ok(None),
+    }
 }

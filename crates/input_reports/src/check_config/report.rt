@@ -1,6 +1,6 @@
 //! What is told of a configuration.
 
-use super::failing::{Failing, failing_member};
+use super::failing::failing_line;
 use super::fault::Fault;
 use super::in_force::in_force;
 use super::no_json::spot_of;
@@ -24,10 +24,10 @@ pub enum Report {
         passed_over: String,
         warnings: String,
     },
-    /// It has a fault: the member that it names, that member where it was found, and what is passed over.
+    /// It has a fault: the member that it names, what is said of that member where it was found, and what is passed over.
     AtFault {
         name: Name,
-        failing: Option<Failing>,
+        failing: Option<String>,
         passed_over: String,
     },
 }
@@ -55,7 +55,7 @@ fn of_fault(alloc: Global, whole: &Node, name: Name) -> Result<Report, AllocErro
     let objects = objects_in(alloc, whole)?;
     Ok(Report::AtFault {
         name,
-        failing: failing_member(whole, objects.as_slice(), name),
+        failing: failing_line(alloc, whole, objects.as_slice(), name)?,
         passed_over: passed_over(alloc, whole, objects.as_slice())?,
     })
 }

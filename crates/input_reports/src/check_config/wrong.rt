@@ -6,7 +6,6 @@ use ocpi_json::{Node, fields};
 use ocpi_types::config::{CreditLimit, HoldAmount};
 use ocpi_types::members::{at_most, currency, party, party_in};
 use ocpi_types::{Currency, Party, Zone};
-use std::fmt;
 
 /// What is wrong with a member.
 #[derive(Clone, Copy, PartialEq, Eq)]
@@ -18,17 +17,6 @@ pub enum Wrong {
     NotConfigured,
     /// An item before it says the same.
     Twice,
-}
-
-impl fmt::Display for Wrong {
-    fn fmt<W: fmt::Write>(&self, f: &mut fmt::Formatter<W>) -> fmt::Result {
-        f.write_str(match self {
-            Wrong::Missing => "missing",
-            Wrong::Unfit => "of a wrong kind or out of bounds",
-            Wrong::NotConfigured => "not configured",
-            Wrong::Twice => "stands twice",
-        })
-    }
 }
 
 fn has_currency(whole: &Node, sought: &Currency) -> bool {
