@@ -46,7 +46,12 @@ fn booking_in(endings: &[Ending], event: &Event, period: u64) -> Option<Booking>
             Some(booking_of(cdr, amount, period, is_settled))
         }
         Event::Credit { cdr, amount } => Some(booking_of(cdr, *amount, period, false)),
-        _ => None,
+        Event::Tariff(_)
+        | Event::Token(_)
+        | Event::Authorised(_)
+        | Event::Released(_)
+        | Event::Settled(_)
+        | Event::Closed { .. } => None,
     }
 }
 

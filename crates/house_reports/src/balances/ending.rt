@@ -31,7 +31,12 @@ fn ending_in(event: &Event) -> Option<Ending>
             original: cdr.credit,
         }),
         Event::Settled(settlement) => Some(Ending::Settled(*settlement)),
-        _ => None,
+        Event::Tariff(_)
+        | Event::Token(_)
+        | Event::Authorised(_)
+        | Event::Released(_)
+        | Event::Cdr { .. }
+        | Event::Closed { .. } => None,
     }
 }
 

@@ -87,7 +87,13 @@ impl Fault<'_> {
     {
         match self {
             Fault::Usage => 2,
-            _ => 1,
+            Fault::ConfigSyntax
+            | Fault::ConfigMember { .. }
+            | Fault::CannotRead { .. }
+            | Fault::CannotReadInput
+            | Fault::CannotWrite
+            | Fault::LineTooLong { .. }
+            | Fault::NoMemory => 1,
         }
     }
 }

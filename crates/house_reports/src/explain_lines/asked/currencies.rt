@@ -64,7 +64,15 @@ pub fn wrong_currency(config: &Config, ask: &Ask) -> Option<WrongCurrency>
     }
     match ask {
         Ask::Post(cdr) => other_than_its_own(cdr),
-        _ => None,
+        Ask::PutTariff(_)
+        | Ask::PutToken(_)
+        | Ask::Authorize(_)
+        | Ask::Release(_)
+        | Ask::Close(_)
+        | Ask::Settle(_)
+        | Ask::Exposure(_)
+        | Ask::Find(_)
+        | Ask::Statement(_) => None,
     }
 }
 
@@ -73,7 +81,14 @@ fn holder(ask: &Ask) -> Place {
     match ask {
         Ask::PutTariff(_) => Place::at(Name::Tariff),
         Ask::Post(_) => Place::at(Name::Cdr),
-        _ => Place::nowhere(),
+        Ask::PutToken(_)
+        | Ask::Authorize(_)
+        | Ask::Release(_)
+        | Ask::Close(_)
+        | Ask::Settle(_)
+        | Ask::Exposure(_)
+        | Ask::Find(_)
+        | Ask::Statement(_) => Place::nowhere(),
     }
 }
 

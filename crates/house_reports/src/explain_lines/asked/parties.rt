@@ -1,7 +1,7 @@
 //! The party of a request that is not configured.
 
 ghost use Rattle.std.specs.Prelude.{◌≡◌};
-ghost use Rattle.house_reports.specs.explain_lines.Parties.{named_parties, unknown_party};
+ghost use Rattle.house_reports.specs.explain_lines.Parties.{named_parties, unknown_either, unknown_operator, unknown_party, unknown_provider};
 
 use crate::explain_lines::place::Place;
 use crate::explain_lines::telling::{Cause, Told, Value};
@@ -55,20 +55,43 @@ fn named_parties(ask: &Ask) -> NamedParties
     }
 }
 
+fn unknown_operator(config: &Config, operator: Option<Party>) -> Option<UnknownParty>
+    ensures { result ≡ unknown_operator config.now operator }
+{
+    let operator = operator?;
+    if config.is_operator(&operator) {
+        return None;
+    }
+    Some(UnknownParty::Operator(operator))
+}
+
+fn unknown_provider(config: &Config, provider: Option<Party>) -> Option<UnknownParty>
+    ensures { result ≡ unknown_provider config.now provider }
+{
+    let provider = provider?;
+    if config.is_provider(&provider) {
+        return None;
+    }
+    Some(UnknownParty::Provider(provider))
+}
+
+fn unknown_either(config: &Config, party: Option<Party>) -> Option<UnknownParty>
+    ensures { result ≡ unknown_either config.now party }
+{
+    let party = party?;
+    if config.is_party(&party) {
+        return None;
+    }
+    Some(UnknownParty::Either(party))
+}
+
 /// The first of the parties that is not configured as what it is named, the operator before the provider.
 pub fn unknown_party(config: &Config, named: &NamedParties) -> Option<UnknownParty>
     ensures { result ≡ unknown_party config.now named.now }
 {
-    match (named.operator, named.provider, named.either) {
-        (Some(operator), _, _) if !config.is_operator(&operator) => {
-            Some(UnknownParty::Operator(operator))
-        }
-        (_, Some(provider), _) if !config.is_provider(&provider) => {
-            Some(UnknownParty::Provider(provider))
-        }
-        (_, _, Some(party)) if !config.is_party(&party) => Some(UnknownParty::Either(party)),
-        _ => None,
-    }
+    unknown_operator(config, named.operator)
+        .or(unknown_provider(config, named.provider))
+        .or(unknown_either(config, named.either))
 }
 
 // Where the request names that party.

@@ -117,6 +117,13 @@ pub fn not_supported(ask: &Ask) -> Option<Told> {
             let place = Place::at(Name::Cdr).then(Name::Tariffs, Some(number));
             of_tariff(place, tariffs.get(number)?)
         }
-        _ => None,
+        Ask::PutToken(_)
+        | Ask::Authorize(_)
+        | Ask::Release(_)
+        | Ask::Close(_)
+        | Ask::Settle(_)
+        | Ask::Exposure(_)
+        | Ask::Find(_)
+        | Ask::Statement(_) => None,
     }
 }

@@ -17,7 +17,12 @@ fn books(event: &Event, operator: &Party, id: &CiText<39>) -> bool
     match event {
         Event::Cdr { cdr, .. } => cdr.operator.is(operator) && cdr.id == *id,
         Event::Credit { cdr, .. } => cdr.operator.is(operator) && cdr.id == *id,
-        _ => false,
+        Event::Tariff(_)
+        | Event::Token(_)
+        | Event::Authorised(_)
+        | Event::Released(_)
+        | Event::Settled(_)
+        | Event::Closed { .. } => false,
     }
 }
 
@@ -33,7 +38,13 @@ fn credits(event: &Event, operator: &Party, id: &CiText<39>) -> bool
 {
     match event {
         Event::Credit { cdr, .. } => cdr.operator.is(operator) && names(id, &cdr.credit),
-        _ => false,
+        Event::Tariff(_)
+        | Event::Token(_)
+        | Event::Authorised(_)
+        | Event::Released(_)
+        | Event::Cdr { .. }
+        | Event::Settled(_)
+        | Event::Closed { .. } => false,
     }
 }
 
@@ -54,7 +65,12 @@ pub fn conflict(events: &[Event], cdr: &Cdr) -> Option<Told> {
             BookedAmount::of_cost(*cost),
         ),
         Event::Credit { cdr: other, amount } => (differing_in_cdr(cdr, other), *amount),
-        _ => return None,
+        Event::Tariff(_)
+        | Event::Token(_)
+        | Event::Authorised(_)
+        | Event::Released(_)
+        | Event::Settled(_)
+        | Event::Closed { .. } => return None,
     };
     let told = Told::new(
         of_cdr.then(name, None),

@@ -74,7 +74,13 @@ pub fn of_credit(events: &[Event], credit: &Cdr) -> Option<Told> {
 fn credit_id(events: &[Event], at: usize) -> Option<CiText<39>> {
     match events.get(at)? {
         Event::Credit { cdr, .. } => Some(cdr.id),
-        _ => None,
+        Event::Tariff(_)
+        | Event::Token(_)
+        | Event::Authorised(_)
+        | Event::Released(_)
+        | Event::Cdr { .. }
+        | Event::Settled(_)
+        | Event::Closed { .. } => None,
     }
 }
 

@@ -20,7 +20,13 @@ fn authorises(event: &Event, release: &Release) -> bool
         Event::Authorised(hold) => {
             hold.provider.is(&release.provider) && hold.reference == release.reference
         }
-        _ => false,
+        Event::Tariff(_)
+        | Event::Token(_)
+        | Event::Released(_)
+        | Event::Cdr { .. }
+        | Event::Credit { .. }
+        | Event::Settled(_)
+        | Event::Closed { .. } => false,
     }
 }
 
@@ -51,7 +57,12 @@ fn ends(event: &Event, hold: &Hold) -> bool
                 && release.reference == hold.reference
         }
         Event::Cdr { cdr, .. } => is_used_by(hold, cdr),
-        _ => false,
+        Event::Tariff(_)
+        | Event::Token(_)
+        | Event::Authorised(_)
+        | Event::Credit { .. }
+        | Event::Settled(_)
+        | Event::Closed { .. } => false,
     }
 }
 
@@ -63,19 +74,25 @@ pub fn ended_at(events: &[Event], hold: &Hold) -> Option<usize>
 }
 
 // By the event that ended the hold.
-fn told_of_end(told: Told, event: &Event) -> Told {
+fn told_of_end(told: Told, event: &Event) -> Option<Told> {
     match event {
         Event::Cdr { cdr, .. } => {
             let told = Told {
                 cause: Cause::NoHold(NoHold::UsedUp),
                 ..told
             };
-            told.against(Value::Id(cdr.id))
+            Some(told.against(Value::Id(cdr.id)))
         }
-        _ => Told {
+        Event::Released(_) => Some(Told {
             cause: Cause::NoHold(NoHold::ReleasedAlready),
             ..told
-        },
+        }),
+        Event::Tariff(_)
+        | Event::Token(_)
+        | Event::Authorised(_)
+        | Event::Credit { .. }
+        | Event::Settled(_)
+        | Event::Closed { .. } => None,
     }
 }
 
@@ -92,7 +109,7 @@ fn told_of_hold(events: &[Event], at: usize, told: Told, release: &Release) -> O
         return Some(told.against(Value::Party(hold.operator)).by_event(Some(at)));
     }
     let at = ended_at(events, hold)?;
-    Some(told_of_end(told, events.get(at)?).by_event(Some(at)))
+    Some(told_of_end(told, events.get(at)?)?.by_event(Some(at)))
 }
 
 /// Why no open hold has this reference.

@@ -18,7 +18,13 @@ fn settles(event: &Event, settlement: &Settlement) -> bool
                 && other.currency.is(&settlement.currency)
                 && other.period == settlement.period
         }
-        _ => false,
+        Event::Tariff(_)
+        | Event::Token(_)
+        | Event::Authorised(_)
+        | Event::Released(_)
+        | Event::Cdr { .. }
+        | Event::Credit { .. }
+        | Event::Closed { .. } => false,
     }
 }
 

@@ -10,7 +10,14 @@ fn operator_of(ask: &Ask) -> Option<Party> {
     match ask {
         Ask::PutTariff(tariff) => Some(tariff.operator),
         Ask::Post(cdr) => Some(cdr.operator),
-        _ => None,
+        Ask::PutToken(_)
+        | Ask::Authorize(_)
+        | Ask::Release(_)
+        | Ask::Close(_)
+        | Ask::Settle(_)
+        | Ask::Exposure(_)
+        | Ask::Find(_)
+        | Ask::Statement(_) => None,
     }
 }
 
@@ -22,7 +29,8 @@ fn provider_of(ask: &Ask) -> Option<Party> {
         Ask::Release(asked) => Some(asked.provider),
         Ask::Post(cdr) => Some(cdr.cdr_token.provider),
         Ask::Settle(asked) => Some(asked.provider),
-        _ => None,
+        Ask::PutTariff(_) | Ask::Close(_) | Ask::Exposure(_) | Ask::Find(_) | Ask::Statement(_) =>
+            None,
     }
 }
 

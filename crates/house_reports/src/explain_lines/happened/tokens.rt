@@ -15,7 +15,13 @@ fn puts(event: &Event, asked: &Authorize) -> bool
 {
     match event {
         Event::Token(token) => token.provider.is(&asked.provider) && token.uid == asked.uid,
-        _ => false,
+        Event::Tariff(_)
+        | Event::Authorised(_)
+        | Event::Released(_)
+        | Event::Cdr { .. }
+        | Event::Credit { .. }
+        | Event::Settled(_)
+        | Event::Closed { .. } => false,
     }
 }
 
@@ -30,7 +36,13 @@ pub fn put_at(events: &[Event], asked: &Authorize) -> Option<usize>
 fn kind_at(events: &[Event], at: usize) -> Option<TokenKind> {
     match events.get(at)? {
         Event::Token(token) => Some(token.kind),
-        _ => None,
+        Event::Tariff(_)
+        | Event::Authorised(_)
+        | Event::Released(_)
+        | Event::Cdr { .. }
+        | Event::Credit { .. }
+        | Event::Settled(_)
+        | Event::Closed { .. } => None,
     }
 }
 

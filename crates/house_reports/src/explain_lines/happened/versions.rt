@@ -20,7 +20,13 @@ fn stores(event: &Event, tariff: &Tariff) -> bool
                 && stored.id == tariff.id
                 && stored.last_updated.as_nanosecond() == tariff.last_updated.as_nanosecond()
         }
-        _ => false,
+        Event::Token(_)
+        | Event::Authorised(_)
+        | Event::Released(_)
+        | Event::Cdr { .. }
+        | Event::Credit { .. }
+        | Event::Settled(_)
+        | Event::Closed { .. } => false,
     }
 }
 
@@ -36,7 +42,13 @@ fn registers(event: &Event, operator: &Party, tariff: &Tariff) -> bool
 {
     match event {
         Event::Tariff(stored) => stored.operator.is(operator) && same_tariff(stored, tariff),
-        _ => false,
+        Event::Token(_)
+        | Event::Authorised(_)
+        | Event::Released(_)
+        | Event::Cdr { .. }
+        | Event::Credit { .. }
+        | Event::Settled(_)
+        | Event::Closed { .. } => false,
     }
 }
 
