@@ -1,12 +1,13 @@
 """Where a refused line is at fault, and why, by docs/FORMATS.md alone (the program explain_lines): over the lines that added the events
 of a plain house, each looked through from the first.
 """
+import datetime
 import json
 
 import plain_rules
 from plain_rules import Number, Refused, fold, money, no_number, number, request_of
 
-PLAIN_MEMBER = plain_rules.member
+PLAIN_MEMBER, PLAIN_RESTRICTIONS = plain_rules.member, plain_rules.restrictions_of
 COUNTED = ('ENERGY', 'TIME', 'PARKING_TIME', 'RESERVATION_TIME')
 BOUNDS = ('min_current', 'max_current', 'min_power', 'max_power')
 
@@ -37,7 +38,38 @@ def items(least, most, first, read):
     return read_all
 
 
-plain_rules.member, plain_rules.items = member, items
+DAYS = 'MONDAY TUESDAY WEDNESDAY THURSDAY FRIDAY SATURDAY SUNDAY'.split()
+
+
+def date(value):
+    try:
+        return plain_rules.spelled('[0-9]{4}-[0-9]{2}-[0-9]{2}')(value) and datetime.date.fromisoformat(value)
+    except ValueError:
+        return None
+
+
+def days(value):
+    if type(value) is not list:
+        return None
+    for index, item in enumerate(value):
+        if item not in DAYS or type(item) is not str:
+            refused = Refused('Field', field='day_of_week')
+            refused.path = [index]
+            raise refused
+    return value
+
+
+def restrictions_of(v):
+    """All members, where plain_rules needs some."""
+    clock, length = plain_rules.spelled('([01][0-9]|2[0-3]):[0-5][0-9]'), plain_rules.whole(10**18)
+    for kind, names in ((clock, 'start_time end_time'), (date, 'start_date end_date'), (plain_rules.num0, 'min_kwh max_kwh'),
+                        (length, 'min_duration max_duration'), (days, 'day_of_week')):
+        for name in names.split():
+            member(kind, name, v, True)
+    return PLAIN_RESTRICTIONS(v)
+
+
+plain_rules.member, plain_rules.items, plain_rules.restrictions_of = member, items, restrictions_of
 
 
 def spelled_path(path):
@@ -52,17 +84,91 @@ def negative_volume(cdr):
     raise ValueError(cdr)
 
 
-def at(value, path):
-    """What stands at the path, and whether anything does."""
+MISSING = object()
+
+
+def standing(value, path):
+    """What stands at the path."""
     for step in path:
         inside = type(step) is int if type(value) is list else type(value) is dict and step in value
         if not inside:
-            return False
+            return MISSING
         value = value[step]
-    return True
+    return value
 
 
+# What each member has to be, by the last name of the path of its object.
+
+def string(most):
+    return f'a string of 1 to {most} printable ASCII characters'
+
+
+def whole(most):
+    return f'a whole number from 0 to {most} in digits alone'
+
+
+def objects(least, most):
+    return f'a list of {least} to {most} objects'
+
+
+OBJECT, TEXT, FLAG, WORDS = 'an object', 'a string', 'true or false', 'one of '
+PARTY = 'a string of two letters and / and three letters or digits as NL/CPA'
+CURRENCY = 'a string of three letters A to Z as EUR'
+NUMBER = 'a decimal without exponent of 1 to 9 digits and up to 30 decimals'
+AT_LEAST_0 = NUMBER + ' and at least 0'
+DATE, CLOCK = 'a string with a date as 2024-07-01', 'a string with a time from 00:00 to 23:59'
+MOMENT = 'a string with a moment in UTC as 2024-07-01T10:00:00Z'
+TOKEN_TYPE = WORDS + 'AD_HOC_USER APP_USER OTHER RFID'
+PARTY_MEMBERS = {'country_code': string(2), 'party_id': string(3)}
+SESSION_TOKEN = PARTY_MEMBERS | {'uid': string(36), 'type': TOKEN_TYPE, 'contract_id': string(36)}
+TARIFF = PARTY_MEMBERS | {'id': string(36), 'currency': CURRENCY, 'min_price': OBJECT, 'max_price': OBJECT,
+                          'elements': objects(1, 100), 'last_updated': MOMENT}
+EXPECTED = {
+    None: {'platform': string(36), 'do': WORDS + ' '.join(plain_rules.MEMBERS), 'tariff': OBJECT, 'token': OBJECT, 'cdr': OBJECT,
+           'operator': PARTY, 'provider': PARTY, 'party': PARTY, 'uid': string(36), 'reference': string(36), 'id': string(39),
+           'type': TOKEN_TYPE, 'currency': CURRENCY, 'period': whole(10**18 - 1)},
+    'token': SESSION_TOKEN | {'valid': FLAG, 'whitelist': TEXT, 'last_updated': MOMENT},
+    'tariff': TARIFF,
+    'tariffs': TARIFF,
+    'min_price': {'excl_vat': AT_LEAST_0},
+    'max_price': {'excl_vat': AT_LEAST_0},
+    'elements': {'price_components': objects(1, 16), 'restrictions': OBJECT},
+    'price_components': {'type': WORDS + 'ENERGY FLAT PARKING_TIME TIME', 'price': AT_LEAST_0, 'step_size': whole(10**9)},
+    'restrictions': {'start_time': CLOCK, 'end_time': CLOCK, 'start_date': DATE, 'end_date': DATE, 'min_kwh': AT_LEAST_0,
+                     'max_kwh': AT_LEAST_0, 'min_duration': whole(10**18 - 1), 'max_duration': whole(10**18 - 1),
+                     'day_of_week': 'a list of days', 'reservation': TEXT} | dict.fromkeys(BOUNDS, NUMBER),
+    'cdr': PARTY_MEMBERS | {'id': string(39), 'start_date_time': MOMENT, 'end_date_time': MOMENT, 'cdr_token': OBJECT,
+                            'auth_method': WORDS + 'AUTH_REQUEST COMMAND WHITELIST', 'authorization_reference': string(36),
+                            'currency': CURRENCY, 'tariffs': objects(0, 10), 'charging_periods': objects(1, 1000),
+                            'total_cost': OBJECT, 'total_energy': NUMBER, 'total_time': NUMBER, 'credit': FLAG,
+                            'credit_reference_id': string(39), 'last_updated': MOMENT},
+    'cdr_token': SESSION_TOKEN,
+    'charging_periods': {'start_date_time': MOMENT, 'dimensions': objects(1, 100), 'tariff_id': string(36)},
+    'dimensions': {'type': TEXT, 'volume': NUMBER},
+    'total_cost': {'excl_vat': NUMBER},
+}
 UNFIT = 'of a wrong kind or out of bounds'
+
+
+def cut(begin, text, end):
+    """Characters other than printable ASCII as escapes; what is longer than 50 bytes is cut."""
+    for character in text:
+        if len(begin) > 50:
+            return begin + '..'
+        plain = ' ' <= character <= '~'
+        begin += '\\' + character if character in '"\\' else character if plain else f'\\u{{{ord(character):x}}}'
+    return begin + end
+
+
+def written(value):
+    """What stands in a line, as it is told."""
+    if type(value) is list:
+        return f'a list of {len(value)}'
+    if type(value) is str:
+        return cut('"', value, '"')
+    if type(value) is Number:
+        return cut('', value, '')
+    return OBJECT if type(value) is dict else {None: 'null', True: 'true', False: 'false', MISSING: 'nothing'}[value]
 
 
 def row(place, cause, found='', against='', event=None):
@@ -72,9 +178,16 @@ def row(place, cause, found='', against='', event=None):
 def field_row(value, refused):
     name = refused.values['field']
     path = getattr(refused, 'path', [])[::-1]
+    if path[-2:-1] == ['day_of_week']:
+        return row(spelled_path(path), UNFIT, written(standing(value, path)), WORDS + ' '.join(DAYS))
     if not path or path[-1] != name:
-        return row(spelled_path(['cdr', *(negative_volume(value['cdr']) if name == 'volume' else [name])]), UNFIT)
-    return row(spelled_path(path), UNFIT if at(value, path) else 'missing')
+        path = ['cdr', *(negative_volume(value['cdr']) if name == 'volume' else [name])]
+        bound = 'at most 36 characters' if name == 'id' else 'at least 0'
+        return row(spelled_path(path), UNFIT, written(standing(value, path)), f'{bound} without credit true')
+    inside = [step for step in path[:-1] if type(step) is str]
+    found = standing(value, path)
+    cause = 'missing' if found is MISSING else UNFIT
+    return row(spelled_path(path), cause, written(found), EXPECTED[inside[-1] if inside else None][name])
 
 
 # ---- A request ----

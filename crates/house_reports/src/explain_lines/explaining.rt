@@ -7,7 +7,7 @@ use crate::explain_lines::happened::{
 use crate::explain_lines::line::{failing, no_json};
 use crate::explain_lines::place::Place;
 use crate::explain_lines::telling::{Cause, Told, Value};
-use cdr_checks::{Ask, Request};
+use cdr_checks::{Ask, Authorize, Release, Request, Settlement};
 use ocpi_json::name::Name;
 use ocpi_json::{ReadFault, Room};
 use ocpi_types::{Cdr, Config, Refusal};
@@ -15,87 +15,132 @@ use plain_house::{Answer, Event, Refused, Replied};
 use request_lines::request_of;
 use std::alloc::{AllocError, Global};
 
-// Why a CDR is refused before a house is asked.
-fn of_session(cdr: &Cdr, refusal: Refusal) -> Option<Told> {
+fn cdr_of(ask: &Ask) -> Option<&Cdr> {
+    let Ask::Post(cdr) = ask else {
+        return None;
+    };
+    Some(cdr)
+}
+
+fn authorize_of(ask: &Ask) -> Option<&Authorize> {
+    let Ask::Authorize(asked) = ask else {
+        return None;
+    };
+    Some(asked)
+}
+
+fn release_of(ask: &Ask) -> Option<&Release> {
+    let Ask::Release(release) = ask else {
+        return None;
+    };
+    Some(release)
+}
+
+fn settlement_of(ask: &Ask) -> Option<&Settlement> {
+    let Ask::Settle(settlement) = ask else {
+        return None;
+    };
+    Some(settlement)
+}
+
+// What is stored or booked otherwise.
+fn conflict(events: &[Event], ask: &Ask) -> Option<Told> {
+    match ask {
+        Ask::PutTariff(tariff) => versions::conflict(events, Place::at(Name::Tariff), tariff),
+        Ask::Post(cdr) => bookings::conflict(events, cdr),
+        Ask::PutToken(_)
+        | Ask::Authorize(_)
+        | Ask::Release(_)
+        | Ask::Close(_)
+        | Ask::Settle(_)
+        | Ask::Exposure(_)
+        | Ask::Find(_)
+        | Ask::Statement(_) => None,
+    }
+}
+
+// The period or the id by which a request asks.
+fn period_of(ask: &Ask) -> Option<u64> {
+    match ask {
+        Ask::Close(close) => Some(close.period),
+        Ask::Settle(settlement) => Some(settlement.period),
+        Ask::Statement(asked) => Some(asked.period),
+        Ask::PutTariff(_)
+        | Ask::PutToken(_)
+        | Ask::Authorize(_)
+        | Ask::Release(_)
+        | Ask::Post(_)
+        | Ask::Exposure(_)
+        | Ask::Find(_) => None,
+    }
+}
+
+fn not_found(ask: &Ask) -> Option<Told> {
+    let Ask::Find(find) = ask else {
+        return None;
+    };
+    Some(bookings::not_booked(Place::at(Name::Id), find.id))
+}
+
+// Why a request is refused, after these events.
+fn of_refusal(
+    config: &Config,
+    events: &[Event],
+    request: &Request,
+    refusal: Refusal,
+) -> Option<Told> {
+    let ask = &request.ask;
+    let cdr = cdr_of(ask);
     match refusal {
-        Refusal::TariffNotGiven => tariffs::not_given(cdr),
-        Refusal::Reservation => volumes::reserved(cdr),
-        Refusal::EnergyMismatch => Some(volumes::energy(cdr)),
+        Refusal::Syntax | Refusal::Field { .. } | Refusal::NoMemory => None,
+        Refusal::UnknownParty => parties::told(config, ask),
+        Refusal::NotYours => rights::told(config, request),
+        Refusal::WrongCurrency => currencies::told(config, ask),
+        Refusal::BadDates => dates::told(cdr?),
+        Refusal::TariffNotGiven => tariffs::not_given(cdr?),
+        Refusal::UnsupportedRestriction => tariffs::not_supported(ask),
+        Refusal::Reservation => volumes::reserved(cdr?),
+        Refusal::EnergyMismatch => Some(volumes::energy(cdr?)),
         Refusal::AmountTooLarge => Some(volumes::too_large()),
-        Refusal::CostMismatch { rated } => Some(volumes::mismatch(cdr, rated)),
-        _ => None,
-    }
-}
-
-// Why a request is refused before a house is asked.
-fn of_request(config: &Config, request: &Request, refusal: Refusal) -> Option<Told> {
-    match (refusal, &request.ask) {
-        (Refusal::UnknownParty, ask) => parties::told(config, ask),
-        (Refusal::NotYours, _) => rights::told(config, request),
-        (Refusal::WrongCurrency, ask) => currencies::told(config, ask),
-        (Refusal::BadDates, ask) => dates::told(ask),
-        (Refusal::UnsupportedRestriction, ask) => tariffs::not_supported(ask),
-        (_, Ask::Post(cdr)) => of_session(cdr, refusal),
-        _ => None,
-    }
-}
-
-// Why a house refuses a CDR or a Credit CDR.
-fn of_cdr(config: &Config, events: &[Event], cdr: &Cdr, refusal: Refusal) -> Option<Told> {
-    match refusal {
-        Refusal::Conflict => bookings::conflict(events, cdr),
-        Refusal::TariffNotRegistered => versions::not_registered(events, cdr),
-        Refusal::UnknownOriginal => credits::without_original(cdr),
-        Refusal::CreditOfCredit => credits::of_credit(events, cdr),
-        Refusal::AlreadyCredited => credits::credited_already(events, cdr),
-        Refusal::CreditDiffers => credits::differs(config, events, cdr),
-        Refusal::TooLate { original, current } => Some(credits::too_late(original, current)),
+        Refusal::CostMismatch { rated } => Some(volumes::mismatch(cdr?, rated)),
+        Refusal::Conflict => conflict(events, ask),
+        Refusal::TariffNotRegistered => versions::not_registered(events, cdr?),
+        Refusal::UnknownToken => tokens::unknown(events, authorize_of(ask)?),
+        Refusal::UnknownHold => holds::told(events, release_of(ask)?),
+        Refusal::UnknownOriginal => credits::without_original(cdr?),
+        Refusal::CreditOfCredit => credits::of_credit(events, cdr?),
+        Refusal::AlreadyCredited => credits::credited_already(events, cdr?),
+        Refusal::CreditDiffers => credits::differs(config, events, cdr?),
+        Refusal::NotCurrent { current } => Some(periods::not_current(period_of(ask)?, current)),
+        Refusal::PeriodOpen => Some(periods::open(events, period_of(ask)?)),
+        Refusal::AlreadySettled => Some(periods::settled(events, settlement_of(ask)?)),
+        Refusal::UnknownCdr => not_found(ask),
+        Refusal::Full { what } => Some(stores::full(config, ask, what)),
         Refusal::OverLimit {
             exposure,
             limit,
             pair,
         } => Some(limits::over_limit(exposure, limit, pair)),
-        _ => None,
-    }
-}
-
-// Why a house refuses what is asked, after these events.
-fn of_house(config: &Config, events: &[Event], ask: &Ask, refusal: Refusal) -> Option<Told> {
-    if let Refusal::Full { what } = refusal {
-        return Some(stores::full(config, ask, what));
-    }
-    match (ask, refusal) {
-        (Ask::PutTariff(tariff), Refusal::Conflict) => {
-            versions::conflict(events, Place::at(Name::Tariff), tariff)
-        }
-        (Ask::Authorize(asked), Refusal::UnknownToken) => tokens::unknown(events, asked),
-        (Ask::Release(release), Refusal::UnknownHold) => holds::told(events, release),
-        (Ask::Post(cdr), _) => of_cdr(config, events, cdr, refusal),
-        (Ask::Close(close), Refusal::NotCurrent { current }) => {
-            Some(periods::not_current(close.period, current))
-        }
-        (Ask::Settle(settlement), Refusal::AlreadySettled) => {
-            Some(periods::settled(events, settlement))
-        }
-        (Ask::Settle(settlement), Refusal::PeriodOpen) => Some(periods::open(
-            events,
-            settlement.period,
-        )),
-        (Ask::Find(find), Refusal::UnknownCdr) => Some(bookings::not_booked(
-            Place::at(Name::Id),
-            find.id,
-        )),
-        (Ask::Statement(asked), Refusal::PeriodOpen) => Some(periods::open(events, asked.period)),
-        _ => None,
+        Refusal::TooLate { original, current } => Some(credits::too_late(original, current)),
     }
 }
 
 // Why a request is answered so, where that turns it down.
 fn of_answer(config: &Config, ask: &Ask, answer: &Answer) -> Option<Told> {
-    match (answer, ask) {
-        (Answer::Blocked, Ask::Authorize(asked)) => Some(tokens::blocked(asked)),
-        (Answer::NoCredit, Ask::Authorize(asked)) => Some(limits::no_credit(config, asked)),
-        _ => None,
+    match answer {
+        Answer::Blocked => Some(tokens::blocked(authorize_of(ask)?)),
+        Answer::NoCredit => Some(limits::no_credit(config, authorize_of(ask)?)),
+        Answer::Stored
+        | Answer::Unchanged
+        | Answer::Allowed { .. }
+        | Answer::Released { .. }
+        | Answer::Accepted { .. }
+        | Answer::Repeated { .. }
+        | Answer::Closed { .. }
+        | Answer::Settled { .. }
+        | Answer::Exposure { .. }
+        | Answer::Found { .. }
+        | Answer::Statement { .. } => None,
     }
 }
 
@@ -108,24 +153,21 @@ fn of_reply(
 ) -> Option<Told> {
     match reply {
         Ok(replied) => of_answer(config, &request.ask, &replied.answer),
-        Err(refused) if refused.at.is_some() => {
-            of_house(config, events, &request.ask, refused.refusal)
-        }
-        Err(refused) => of_request(config, request, refused.refusal),
+        Err(refused) => of_refusal(config, events, request, refused.refusal),
     }
 }
 
-// What is told of a line that has no value, or a member that is not as it has to be.
-fn of_value(
+// What is told of a member that is not as it has to be.
+fn of_member(
     alloc: Global,
     room: &mut Room,
     line: &[u8],
-    at: Option<Name>,
-) -> Result<Told, AllocError> {
-    match (room.read(line), at) {
-        (Ok(read), Some(at)) => failing::told(alloc, read.value(), at),
-        (Err(ReadFault::NoMemory), _) => Err(AllocError),
-        _ => no_json::told(alloc, line),
+    at: Name,
+) -> Result<Option<Told>, AllocError> {
+    match room.read(line) {
+        Ok(read) => failing::told(alloc, read.value(), at),
+        Err(ReadFault::NoMemory) => Err(AllocError),
+        Err(ReadFault::Syntax) => Ok(None),
     }
 }
 
@@ -141,8 +183,8 @@ pub fn of_line(
     let told = match request_of(alloc, room, line) {
         Ok(request) => of_reply(config, events, &request, reply),
         Err(Refusal::NoMemory) => return Err(AllocError),
-        Err(Refusal::Field { name: at }) => return of_value(alloc, room, line, Some(at)),
-        Err(_) => return of_value(alloc, room, line, None),
+        Err(Refusal::Field { name: at }) => of_member(alloc, room, line, at)?,
+        Err(_) => return no_json::told(alloc, line),
     };
     Ok(told.unwrap_or(Told::new(Place::nowhere(), Cause::Untold, Value::Nothing)))
 }

@@ -1,5 +1,6 @@
 //! What is told of a line: where it is at fault, why, and by which values.
 
+use crate::explain_lines::line::member::Expected;
 use crate::explain_lines::place::Place;
 use exact_money::{Amount, Millionths};
 use jiff::Timestamp;
@@ -158,6 +159,15 @@ pub enum Value {
     Decimal(Millionths),
     /// A sum of energy in millionths of a kWh.
     Energy(u128),
+    /// What stands in the line, as text.
+    Written(CiText<64>),
+    /// What a member has to be by itself.
+    Expected(Expected),
+    Day,
+    /// An id of a CDR that is no Credit CDR.
+    ShortId,
+    /// A number of a CDR that is no Credit CDR.
+    NotBelow0,
 }
 
 fn word(kind: TokenKind) -> &'static str {
@@ -168,6 +178,8 @@ fn word(kind: TokenKind) -> &'static str {
         TokenKind::Rfid => "RFID",
     }
 }
+
+const DAYS: &str = "one of MONDAY TUESDAY WEDNESDAY THURSDAY FRIDAY SATURDAY SUNDAY";
 
 /// Amounts with four decimals, volumes and declared costs with six.
 impl fmt::Display for Value {
@@ -188,6 +200,11 @@ impl fmt::Display for Value {
                 u128::from(value.get().unsigned_abs()),
             ),
             Value::Energy(millionths) => write_decimal(f, false, *millionths),
+            Value::Written(text) => f.write_str(text.as_str()),
+            Value::Expected(expected) => write!(f, "{expected}"),
+            Value::Day => f.write_str(DAYS),
+            Value::ShortId => f.write_str("at most 36 characters without credit true"),
+            Value::NotBelow0 => f.write_str("at least 0 without credit true"),
         }
     }
 }

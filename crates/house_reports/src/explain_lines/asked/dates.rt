@@ -5,7 +5,6 @@ ghost use Rattle.house_reports.specs.explain_lines.Dates.{out_of_order};
 
 use crate::explain_lines::place::Place;
 use crate::explain_lines::telling::{Cause, Told, Value};
-use cdr_checks::Ask;
 use jiff::Timestamp;
 use ocpi_json::name::Name;
 use ocpi_types::Cdr;
@@ -45,10 +44,12 @@ pub fn out_of_order(cdr: &Cdr) -> Option<OutOfOrder>
 
 // The moment in front of the start of the period of that number, or in front of the end where there is none.
 fn in_front(cdr: &Cdr, number: usize) -> Timestamp {
-    let before = number.saturating_sub(1);
+    let Some(before) = number.checked_sub(1) else {
+        return cdr.start_date_time;
+    };
     match cdr.charging_periods.as_slice().get(before) {
-        Some(period) if 0 < number => period.start_date_time,
-        _ => cdr.start_date_time,
+        Some(period) => period.start_date_time,
+        None => cdr.start_date_time,
     }
 }
 
@@ -58,10 +59,7 @@ fn before(place: Place, found: Timestamp, against: Timestamp) -> Told {
 }
 
 /// Which date is before which.
-pub fn told(ask: &Ask) -> Option<Told> {
-    let Ask::Post(cdr) = ask else {
-        return None;
-    };
+pub fn told(cdr: &Cdr) -> Option<Told> {
     let periods = cdr.charging_periods.as_slice();
     let of_cdr = Place::at(Name::Cdr);
     match out_of_order(cdr)? {

@@ -1,9 +1,7 @@
-//! Where the member stands that is not as it has to be.
+//! Where the member stands that is not as it has to be, what stands there, and what has to.
 
-ghost use Rattle.std.specs.Prelude.{◌≡◌, is_ok};
-ghost use Rattle.ocpi_types.specs.Cdr.{session_token_at};
-ghost use Rattle.house_reports.specs.explain_lines.Members.{authorisation_fails, fails_before_tariffs, opening_fails};
-
+use crate::explain_lines::line::found::found;
+use crate::explain_lines::line::member::{Shape, meets, members_of, shape_of, unmet};
 use crate::explain_lines::place::Place;
 use crate::explain_lines::telling::{Cause, Told, Value};
 use ocpi_json::fields::FieldFault;
@@ -11,67 +9,13 @@ use ocpi_json::name::Name;
 use ocpi_json::objects::{FromNode, FromNodeIn};
 use ocpi_json::{Node, Nodes, fields};
 use ocpi_types::{
-    AuthMethod, Cdr, CdrToken, ChargingPeriod, Dimension, Element, Party, PriceComponent,
-    Restrictions, Tariff, Token, members,
+    Cdr, CdrToken, ChargingPeriod, DayOfWeek, Dimension, Element, PriceComponent, Restrictions,
+    Tariff, Token,
 };
 use std::alloc::{AllocError, Global};
 
 /// How many objects stand in one another at most, the line included.
 const DEEPEST: usize = 6;
-
-/// What stands in a line.
-#[derive(Clone, Copy)]
-pub enum Shape {
-    Line,
-    Token,
-    Tariff,
-    /// A price of at least 0.
-    Price,
-    Element,
-    Component,
-    Restrictions,
-    Cdr,
-    CdrToken,
-    ChargingPeriod,
-    Dimension,
-    /// A price.
-    Cost,
-}
-
-fn inner_of_line(line: &Node) -> &'static [(Name, Shape)] {
-    match fields::word(line, Name::Do) {
-        Ok("put_tariff") => &[(Name::Tariff, Shape::Tariff)],
-        Ok("put_token") => &[(Name::Token, Shape::Token)],
-        Ok("post") => &[(Name::Cdr, Shape::Cdr)],
-        _ => &[],
-    }
-}
-
-impl Shape {
-    /// The members of the node that are objects or lists of objects, in the order in which they are read.
-    fn inner(self, node: &Node) -> &'static [(Name, Shape)] {
-        match self {
-            Shape::Line => inner_of_line(node),
-            Shape::Tariff => &[
-                (Name::MinPrice, Shape::Price),
-                (Name::MaxPrice, Shape::Price),
-                (Name::Elements, Shape::Element),
-            ],
-            Shape::Element => &[
-                (Name::PriceComponents, Shape::Component),
-                (Name::Restrictions, Shape::Restrictions),
-            ],
-            Shape::Cdr => &[
-                (Name::CdrToken, Shape::CdrToken),
-                (Name::Tariffs, Shape::Tariff),
-                (Name::ChargingPeriods, Shape::ChargingPeriod),
-                (Name::TotalCost, Shape::Cost),
-            ],
-            Shape::ChargingPeriod => &[(Name::Dimensions, Shape::Dimension)],
-            _ => &[],
-        }
-    }
-}
 
 // The member at which something is not read.
 fn fault<T: Drop>(found: Result<T, FieldFault>) -> Result<Option<Name>, AllocError> {
@@ -85,7 +29,7 @@ fn fault<T: Drop>(found: Result<T, FieldFault>) -> Result<Option<Name>, AllocErr
 // The member at which an object is not read.
 fn fault_in(alloc: Global, shape: Shape, node: &Node) -> Result<Option<Name>, AllocError> {
     match shape {
-        Shape::Line => Ok(None),
+        Shape::Line | Shape::Asked(_) => Ok(None),
         Shape::Token => Ok(Token::from_node(node).err()),
         Shape::Tariff => fault(Tariff::from_node_in(alloc, node)),
         Shape::Price => Ok(fields::unsigned(node, Name::ExclVat).err()),
@@ -98,42 +42,6 @@ fn fault_in(alloc: Global, shape: Shape, node: &Node) -> Result<Option<Name>, Al
         Shape::Dimension => fault(Dimension::from_node_in(alloc, node)),
         Shape::Cost => Ok(fields::number(node, Name::ExclVat).err()),
     }
-}
-
-// A member of the CDR fails that is read before its token.
-fn opening_fails(cdr: &Node) -> bool
-    ensures { result ≡ opening_fails cdr.now }
-{
-    Party::from_node(cdr).is_err()
-        || fields::ci_text::<39>(cdr, Name::Id).is_err()
-        || fields::instant(cdr, Name::StartDateTime).is_err()
-        || fields::instant(cdr, Name::EndDateTime).is_err()
-}
-
-#[tactic(auto, unfolding(ocpi_types::specs::Cdr::session_token_at))]
-fn is_token_read(cdr: &Node) -> bool
-    ensures { result ≡ is_ok (session_token_at cdr.now) }
-{
-    match fields::object(cdr, Name::CdrToken) {
-        Ok(token) => CdrToken::from_node(&token).is_ok(),
-        Err(_) => false,
-    }
-}
-
-// A member of the CDR fails that is read behind its token and before its tariffs.
-fn authorisation_fails(cdr: &Node) -> bool
-    ensures { result ≡ authorisation_fails cdr.now }
-{
-    fields::parsed::<AuthMethod>(cdr, Name::AuthMethod).is_err()
-        || fields::ci_text_or_none::<36>(cdr, Name::AuthorizationReference).is_err()
-        || members::currency(cdr, Name::Currency).is_err()
-}
-
-/// What fails first of a CDR is a member of its own that is read before its tariffs.
-pub fn fails_before_tariffs(cdr: &Node) -> bool
-    ensures { result ≡ fails_before_tariffs cdr.now }
-{
-    opening_fails(cdr) || (is_token_read(cdr) && authorisation_fails(cdr))
 }
 
 /// An object in another, or an item of a list there.
@@ -192,55 +100,80 @@ fn failing_in<'a>(
     }))
 }
 
-// The first of what stands in an object that fails at a member of that name.
+// The first of what stands in an object that fails at a member of that name; none where the object's own member of that name
+// comes before it and is not as it has to be.
 fn first_failing<'a>(
     alloc: Global,
     shape: Shape,
     node: &Node<'a>,
     at: Name,
 ) -> Result<Option<Inner<'a>>, AllocError> {
-    if matches!(shape, Shape::Cdr) && fails_before_tariffs(node) {
-        return Ok(None);
-    }
-    for member in shape.inner(node) {
-        if member.0 == at {
+    for member in members_of(shape) {
+        let (name, expected) = *member;
+        if name == at && !meets(expected, node, name) {
             return Ok(None);
         }
-        let inner = failing_in(alloc, node, *member, at)?;
-        if inner.is_some() {
-            return Ok(inner);
+        let Some(inner) = expected.inner() else {
+            continue;
+        };
+        let failing = failing_in(alloc, node, (name, inner), at)?;
+        if failing.is_some() {
+            return Ok(failing);
         }
     }
     Ok(None)
 }
 
-// The first volume below 0 among the items of a list of charging periods, of which each is read.
-fn negative_volume(alloc: Global, periods: Nodes) -> Result<Option<(usize, usize)>, AllocError> {
-    for (number, node) in periods.enumerate() {
-        let Ok(period) = ChargingPeriod::from_node_in(alloc, &node) else {
+// The first of the dimensions whose volume is out of range, and that volume.
+fn negative_dimension(
+    alloc: Global,
+    dimensions: Nodes,
+) -> Result<Option<(usize, Value)>, AllocError> {
+    for (number, node) in dimensions.enumerate() {
+        let Ok(dimension) = Dimension::from_node_in(alloc, &node) else {
             return Err(AllocError);
         };
-        let dimensions = period.dimensions.as_slice();
-        if let Some(volume) = dimensions.iter().position(|volume| !volume.is_in_range()) {
-            return Ok(Some((number, volume)));
+        if !dimension.is_in_range() {
+            let volume = node.get(Name::Volume.key());
+            return Ok(Some((number, found(alloc, volume.as_ref())?)));
         }
     }
     Ok(None)
 }
 
-// The place of the volume of a CDR that is below 0, where its members are all of their kinds.
-fn place_of_volume(alloc: Global, place: Place, cdr: &Node) -> Result<Place, AllocError> {
-    let Ok(periods) = fields::list(cdr, Name::ChargingPeriods, 0, usize::MAX) else {
-        return Ok(place.then(Name::Volume, None));
+// The first volume of a CDR that is below 0, where its members are all as they have to be.
+fn negative_volume(alloc: Global, place: Place, cdr: &Node) -> Result<Option<Told>, AllocError> {
+    let Ok(periods) = fields::list(cdr, Name::ChargingPeriods, 1, 1000) else {
+        return Ok(None);
     };
-    match negative_volume(alloc, periods)? {
-        Some((period, volume)) => {
-            let place = place.then(Name::ChargingPeriods, Some(period));
-            let place = place.then(Name::Dimensions, Some(volume));
-            Ok(place.then(Name::Volume, None))
+    for (number, node) in periods.enumerate() {
+        let Ok(dimensions) = fields::list(&node, Name::Dimensions, 1, 100) else {
+            return Ok(None);
+        };
+        if let Some((dimension, volume)) = negative_dimension(alloc, dimensions)? {
+            let place = place.then(Name::ChargingPeriods, Some(number));
+            let place = place.then(Name::Dimensions, Some(dimension));
+            let place = place.then(Name::Volume, None);
+            let told = Told::new(place, Cause::Unfit, volume);
+            return Ok(Some(told.against(Value::NotBelow0)));
         }
-        None => Ok(place.then(Name::Volume, None)),
     }
+    Ok(None)
+}
+
+// The first of the days that is none.
+fn wrong_day(alloc: Global, place: Place, restrictions: &Node) -> Result<Option<Told>, AllocError> {
+    let Ok(days) = fields::list(restrictions, Name::DayOfWeek, 0, 1_048_576) else {
+        return Ok(None);
+    };
+    for (number, node) in days.enumerate() {
+        if fields::parsed_in::<DayOfWeek>(&node, Name::DayOfWeek).is_err() {
+            let place = place.then(Name::DayOfWeek, Some(number));
+            let told = Told::new(place, Cause::Unfit, found(alloc, Some(&node))?);
+            return Ok(Some(told.against(Value::Day)));
+        }
+    }
+    Ok(None)
 }
 
 /// What stands at a place of a line.
@@ -267,24 +200,55 @@ fn deeper<'a>(
     }
 }
 
-/// Where in the value of a line the member of that name stands that is at fault, and whether it is missing.
-pub fn told(alloc: Global, line: Node, name: Name) -> Result<Told, AllocError> {
+// What is told of a member that is not as it has to be.
+fn of_member(
+    alloc: Global,
+    standing: &Standing,
+    name: Name,
+    against: Value,
+) -> Result<Told, AllocError> {
+    let value = standing.node.get(name.key());
+    let cause = match &value {
+        Some(_) => Cause::Unfit,
+        None => Cause::Missing,
+    };
+    let found = found(alloc, value.as_ref())?;
+    Ok(Told::new(standing.place.then(name, None), cause, found).against(against))
+}
+
+// What is told of a member that is by itself as it has to be: an item of it is not, or it is not that of a CDR that is no Credit CDR.
+fn beyond_itself(
+    alloc: Global,
+    standing: &Standing,
+    name: Name,
+) -> Result<Option<Told>, AllocError> {
+    let place = standing.place;
+    if name == Name::DayOfWeek {
+        return wrong_day(alloc, place, &standing.node);
+    }
+    if name == Name::Volume {
+        return negative_volume(alloc, place, &standing.node);
+    }
+    let against = if name == Name::Id {
+        Value::ShortId
+    } else {
+        Value::NotBelow0
+    };
+    Ok(Some(of_member(alloc, standing, name, against)?))
+}
+
+/// Where in the value of a line the member of that name stands that is at fault, what stands there, and what has to.
+pub fn told(alloc: Global, line: Node, name: Name) -> Result<Option<Told>, AllocError> {
     let mut standing = Standing {
         place: Place::nowhere(),
-        shape: Shape::Line,
+        shape: shape_of(&line),
         node: line,
     };
     for _ in 0..DEEPEST {
         standing = deeper(alloc, standing, name)?;
     }
-    let Standing { place, shape, node } = standing;
-    if matches!((shape, name), (Shape::Cdr, Name::Volume)) {
-        let place = place_of_volume(alloc, place, &node)?;
-        return Ok(Told::new(place, Cause::Unfit, Value::Nothing));
+    match unmet(standing.shape, &standing.node, name) {
+        Some(expected) => Ok(Some(of_member(alloc, &standing, name, Value::Expected(expected))?)),
+        None => beyond_itself(alloc, &standing, name),
     }
-    let cause = match node.get(name.key()) {
-        Some(_) => Cause::Unfit,
-        None => Cause::Missing,
-    };
-    Ok(Told::new(place.then(name, None), cause, Value::Nothing))
 }
