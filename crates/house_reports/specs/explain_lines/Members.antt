@@ -1,5 +1,5 @@
 -- What each member of an object in a line has to be by itself (docs/FORMATS.md, sections 3 to 6).
-use Rattle.std.specs.Prelude.{ℕ, List, [], ◌∷◌, ◌==◌, Bool, Option, Some, None, is_err, is_ok, find, option_map, option_and_then, if◌then◌else◌}
+use Rattle.std.specs.Prelude.{List, [], ◌∷◌, ◌==◌, Bool, Option, Some, None, is_err, is_ok, find, option_map, option_and_then, if◌then◌else◌}
 use Rattle.std.specs.Cmp.Lexicographic.{pointwise}
 use Rattle.std.specs.Result.{result_ok}
 use Rattle.json.specs.Json.{Json as Data}

@@ -89,9 +89,9 @@ fn unknown_either(config: &Config, party: Option<Party>) -> Option<UnknownParty>
 pub fn unknown_party(config: &Config, named: &NamedParties) -> Option<UnknownParty>
     ensures { result ≡ unknown_party config.now named.now }
 {
-    unknown_operator(config, named.operator)
-        .or(unknown_provider(config, named.provider))
-        .or(unknown_either(config, named.either))
+    unknown_operator(config, named.operator).or(unknown_provider(config, named.provider).or(
+        unknown_either(config, named.either),
+    ))
 }
 
 // Where the request names that party.
