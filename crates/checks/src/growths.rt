@@ -1,7 +1,7 @@
 //! Each command of the lines done by every kind of house, behind those before it, where a growth that it asks for may be refused.
 //!
 //! A line of output begins with the number of the line and the kind of house. The command is done right behind the colon and the
-//! space that follow, so that `tests/refused_commands` can refuse the requests for memory from there up to the next write, and no others.
+//! space that follow, so that `tests/suites/refused_commands` can refuse the requests for memory from there up to the next write, and no others.
 
 mod doing;
 mod listed;

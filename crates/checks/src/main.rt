@@ -5,7 +5,7 @@
 //!   `plain-again CONFIG`, `books-again CONFIG` and `shared-again CONFIG` do once more what memory was refused for, and so show
 //!   whether a house that memory was refused to is as it was.
 //! - `growths CONFIG` does the command of each line of standard input by every kind of house, behind those before it, and tells how a
-//!   house goes on to which memory was refused for that command: `tests/refused_commands` refuses it each request in turn.
+//!   house goes on to which memory was refused for that command: `tests/suites/refused_commands` refuses it each request in turn.
 //! - `changes CONFIG` answers them in the third way, and tells what is certified of the order, the books, the accounts and the
 //!   calls, as they are and with one change each.
 //! - `held CONFIG PLACE FILE FILE FILE FILE` answers the lines of four files, those of the second held up at the place, as
