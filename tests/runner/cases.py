@@ -72,7 +72,7 @@ def wrong_with(suite: Suite, program: Path, folder: Path) -> list[str] | None:
         work = Path(room)
         words, wanted_errors = words_of(folder, work), bytes_of(folder / "stderr")
         if suite.arguments:
-            if words[0] != "script":
+            if words[:1] != ["script"]:
                 return None
             words = [*suite.arguments, *words[1:]]
             wanted_errors = re.sub(
