@@ -9,6 +9,7 @@ pub mod PlainWalk
 pub mod ProgramWords
 pub mod ReadingLemmas
 pub mod RecordLemmas
+pub mod ReplayLemmas
 pub mod RunLemmas
 pub mod ScheduleLines
 pub mod StepLines

@@ -1,20 +1,37 @@
 //! The command `schedule`.
 
-ghost use Rattle.std.specs.Prelude.{◌≡◌, ◌≤◌, All, IfErr, MatchResult, Some};
+ghost use Rattle.std.specs.Prelude.{◌≡◌, ◌≤◌, All, IfErr, MatchResult, OnOk, Some};
 ghost use Rattle.cdr_checks.specs.Admission.{IsAdmitted};
 ghost use Rattle.clear_cli.specs.declared.fault.Fault.{Fault as FaultValue};
 ghost use Rattle.clear_cli.specs.Fault.{IsTold, exit_status, fault_line};
-ghost use Rattle.clear_cli.specs.Inner.UnderConfig.{IsLeftUnwritten, IsReplayedUnder};
+ghost use Rattle.clear_cli.specs.Inner.UnderConfig.{IsCutFor, IsLeftUnwritten, IsReplayedUnder};
 ghost use Rattle.clear_cli.specs.Schedule.{Fails, FailsUnder, FileStreams, IsReplayed, IsWritten, schedule_fault};
+ghost use Rattle.clear_cli.specs.ScheduleText.{trace_text};
 
 use crate::fault::{Fault, tell};
 use crate::schedule_file::{Schedule, ScheduleFault, read_schedule};
 use crate::schedule_text::write_trace;
 use crate::script::read_config;
-use house_core::replay;
+use house_core::{Finished, replay};
 use ocpi_types::Config;
 use request_lines::{Sink, Source};
 use std::alloc::Global;
+
+// Writes how each call ended.
+fn write_finished<W: Sink>(
+    alloc: Global,
+    config: &Config,
+    writer: &mut W,
+    finished: &[Finished],
+) -> Result<(), Fault<'static>>
+    ensures ok { OnOk result (W.takes writer.old (trace_text config.now finished.now) writer.new) }
+    ensures kept { OnOk result (W.failed writer.new ≡ W.failed writer.old) }
+    ensures err { IfErr result (λ fault. IsCutFor W.takes W.failed config.now finished.now writer.old writer.new fault) }
+    ensures status { IfErr result (λ fault. exit_status fault ≡ 1) }
+{
+    write_trace(alloc, config, writer, finished)?;
+    Ok(())
+}
 
 // Replays a schedule, and writes how each call ended.
 fn replay_onto<W: Sink>(
@@ -30,8 +47,7 @@ fn replay_onto<W: Sink>(
 {
     let Schedule { commands, steps } = schedule;
     let trace = replay(alloc, config, commands, steps.as_slice())?;
-    write_trace(alloc, config, writer, trace.finished.as_slice())?;
-    Ok(())
+    write_finished(alloc, config, writer, trace.finished.as_slice())
 }
 
 fn fault_of<'a>(fault: ScheduleFault, path: &'a str) -> Fault<'a>
