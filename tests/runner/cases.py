@@ -6,8 +6,8 @@ The program runs in the folder with the arguments of `args`, one a line; else wi
 error, and to end with the number in `status`. A file that is not there means nothing, and status 0. A stream whose path is in `output_to` or
 `errors_to` goes there and is not compared.
 
-A suite with an argument runs the cases whose first argument is `script`, with that argument in its place, and wants the program's own name
-instead of `clear` on standard error.
+A suite with an argument runs the cases that are `script CONFIG`, with that argument in place of `script`, and wants the program's own name
+instead of `clear` on standard error. Other command lines are those of `clear` alone.
 """
 
 from __future__ import annotations
@@ -72,7 +72,7 @@ def wrong_with(suite: Suite, program: Path, folder: Path) -> list[str] | None:
         work = Path(room)
         words, wanted_errors = words_of(folder, work), bytes_of(folder / "stderr")
         if suite.arguments:
-            if words[:1] != ["script"]:
+            if words[:1] != ["script"] or len(words) != 2 or words[1].startswith("-"):
                 return None
             words = [*suite.arguments, *words[1:]]
             wanted_errors = re.sub(
