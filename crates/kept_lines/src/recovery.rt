@@ -1,0 +1,235 @@
+ghost use Rattle.std.specs.Prelude.{◌≡◌, ◌↔◌, ◌+◌, ◌-◌, ◌<◌, ◌≤◌, ◌^◌, ◌∷◌, [], ℕ, List, length, drop, IsTrue, IfOk, OnOk, OnErr, IfErr, IsErrOf, IfSome, IsNone, MatchResult, false};
+ghost use Rattle.sqlite_disk.specs.Disk.{Only, MoreFaults};
+ghost use Rattle.kept_lines.specs.File.{HasTornEnd, BeginsTooLong, HasTooLongLine, kept_in};
+ghost use Rattle.kept_lines.specs.Reading.{OnlyReads};
+ghost use Rattle.kept_lines.specs.Log.{IsSettled, IsDiskError};
+ghost use Rattle.kept_lines.specs.Inner.Window.{IsWindow, IsPlace, IsFrontOf, BeginsLine, BeginsNoLine};
+ghost use Rattle.kept_lines.specs.Inner.End.{IsEnd, IsShut, IsSafe};
+
+use crate::log::MOST_BYTES;
+use crate::marks::{begins_too_long, is_shut, is_torn, line_length};
+use crate::repair::repair;
+use crate::window::read_window;
+use crate::{KeepError, Log};
+use sqlite_disk::Disk;
+use std::alloc::Global;
+
+// The number of bytes of a read, beside those of the longest line.
+const CHUNK: usize = 1 << 16;
+
+/// Reads the lines of a file that a crash may have left, one after another. It changes nothing until
+/// `finish`, and it needs memory for a chunk and the longest line, however long the file is.
+#[derive(Drop)]
+pub struct Recovery<D: Disk> {
+    disk: D,
+    // A part of the file, where it begins there, and where the next line begins in it.
+    window: Vec<u8>,
+    begin: usize,
+    next: usize,
+    limit: usize,
+    // Where the line begins and ends in the window that `next_line` went to.
+    line: usize,
+    line_end: usize,
+    ghost usable: { IsTrue (D.Disk.is_usable disk) },
+    ghost durable: { Only (D.Disk.seen disk) (D.Disk.may_leave disk) },
+    ghost window_is: { IsTrue (D.Disk.is_clean disk) → IsWindow (D.Disk.seen disk) begin window.items },
+    ghost place: { IsTrue (D.Disk.is_clean disk) → IsPlace (D.Disk.seen disk) (begin + next) },
+    ghost within: { next ≤ length window.items },
+    ghost line_is: { (line ≤ line_end) × (line_end ≤ length window.items) },
+    ghost fits: { begin + length window.items < 2 ^ 64 },
+    ghost bounded: { length window.items ≤ limit + 65536 },
+}
+
+/// Why a recovery failed, and its disk.
+#[derive(Drop)]
+pub struct Unrecovered<D: Disk> {
+    pub disk: D,
+    pub cause: KeepError,
+}
+
+impl<D: Disk> Recovery<D> {
+    ghost use Rattle.kept_lines.specs.Recovery.{IsAtEnd, disk_of, limit_of, line_of, place_of, unread, lines_left};
+
+    /// Begins at the first line of a file. A line may have `limit` bytes.
+    pub fn new(alloc: Global, disk: D, limit: usize) -> Recovery<D>
+        requires usable { IsTrue (D.Disk.is_usable disk) }
+        // After a restart, what is read is what is on the disk.
+        requires durable { Only (D.Disk.seen disk) (D.Disk.may_leave disk) }
+        ensures disk { disk_of result ≡ disk }
+        ensures limit { limit_of result ≡ limit }
+        ensures lines { lines_left result ≡ kept_in (D.Disk.seen disk) }
+    {
+        Recovery {
+            disk,
+            window: Vec::new(alloc),
+            begin: 0,
+            next: 0,
+            limit,
+            line: 0,
+            line_end: 0,
+        }
+    }
+
+    /// Goes to the next line. Returns whether there was one, and at an error stays where it was.
+    pub fn next_line(&mut self) -> Result<bool, KeepError>
+        ensures line { IfOk result (λ is_line. IsTrue is_line → IsTrue (D.Disk.is_clean (disk_of self.new)) → lines_left self.old ≡ line_of self.new ∷ lines_left self.new) }
+        ensures end { IfOk result (λ is_line. is_line ≡ false → IsTrue (D.Disk.is_clean (disk_of self.new)) → IsAtEnd self.old self.new) }
+        ensures stays { OnErr result (place_of self.new ≡ place_of self.old) }
+        ensures within { IfOk result (λ is_line. IsTrue is_line → length (line_of self.new) ≤ limit_of self.old) }
+        ensures progress { IfOk result (λ is_line. IsTrue is_line → (place_of self.old < place_of self.new) × (place_of self.new < 2 ^ 64)) }
+        ensures limit { limit_of self.new ≡ limit_of self.old }
+
+        ensures reads { OnlyReads D.Disk (disk_of self.old) (disk_of self.new) }
+
+        // It fails for these causes only, and if an allocation fails.
+        ensures calm { OnOk result (D.Disk.faults (disk_of self.new) ≡ D.Disk.faults (disk_of self.old)) }
+        ensures failed { IfErr result (λ e. IsDiskError e → MoreFaults (D.Disk.faults (disk_of self.old)) (D.Disk.faults (disk_of self.new))) }
+        ensures too_long { IsErrOf result KeepError.TooLong → IsTrue (D.Disk.is_clean (disk_of self.new)) → BeginsTooLong (limit_of self.old) (unread self.old) }
+        ensures full { IsErrOf result KeepError.Full → ⊥ }
+    {
+        let Some(count) = self.find()? else {
+            if begins_too_long(&self.window[self.next..], self.limit) {
+                return Err(KeepError::TooLong);
+            }
+            return Ok(false);
+        };
+        if count > self.limit {
+            return Err(KeepError::TooLong);
+        }
+        self.line = self.next + 1;
+        self.line_end = self.line + count;
+        self.next = self.line_end + 1;
+        Ok(true)
+    }
+
+    /// The line to which `next_line` went.
+    pub fn line(&self) -> &[u8]
+        ensures { result.now ≡ line_of self.now }
+    {
+        &self.window[self.line..self.line_end]
+    }
+
+    // The number of bytes of the next line, which is then whole in the window.
+    fn find(&mut self) -> Result<Option<usize>, KeepError>
+        ensures some { IfOk result (λ found. IfSome found (BeginsLine (drop self.new.next self.new.window.items))) }
+        ensures none { IfOk result (λ found. IsNone found → BeginsNoLine (drop self.new.next self.new.window.items)) }
+        ensures front { IfOk result (λ found. IsNone found → IsTrue (D.Disk.is_clean (disk_of self.new)) → IsFrontOf (limit_of self.old) (unread self.new) (drop self.new.next self.new.window.items)) }
+        ensures place { place_of self.new ≡ place_of self.old }
+        ensures limit { limit_of self.new ≡ limit_of self.old }
+        ensures reads { OnlyReads D.Disk (disk_of self.old) (disk_of self.new) }
+        ensures calm { OnOk result (D.Disk.faults (disk_of self.new) ≡ D.Disk.faults (disk_of self.old)) }
+        ensures failed { IfErr result (λ e. IsDiskError e → MoreFaults (D.Disk.faults (disk_of self.old)) (D.Disk.faults (disk_of self.new))) }
+        ensures full { IsErrOf result KeepError.Full → ⊥ }
+        ensures too_long { IsErrOf result KeepError.TooLong → ⊥ }
+    {
+        if let Some(count) = line_length(&self.window[self.next..]) {
+            return Ok(Some(count));
+        }
+        self.fill()?;
+        Ok(line_length(&self.window[self.next..]))
+    }
+
+    // Reads the window again, from the next line on.
+    fn fill(&mut self) -> Result<(), KeepError>
+        ensures front { OnOk result (IsTrue (D.Disk.is_clean (disk_of self.new)) → IsFrontOf (limit_of self.old) (unread self.new) (drop self.new.next self.new.window.items)) }
+        ensures place { place_of self.new ≡ place_of self.old }
+        ensures limit { limit_of self.new ≡ limit_of self.old }
+        ensures reads { OnlyReads D.Disk (disk_of self.old) (disk_of self.new) }
+        ensures calm { OnOk result (D.Disk.faults (disk_of self.new) ≡ D.Disk.faults (disk_of self.old)) }
+        ensures failed { IfErr result (λ e. IsDiskError e → MoreFaults (D.Disk.faults (disk_of self.old)) (D.Disk.faults (disk_of self.new))) }
+        ensures full { IsErrOf result KeepError.Full → ⊥ }
+        ensures too_long { IsErrOf result KeepError.TooLong → ⊥ }
+    {
+        self.begin += self.next;
+        self.next = 0;
+        self.line = 0;
+        self.line_end = 0;
+        let most = self.limit.saturating_add(CHUNK);
+        read_window(&mut self.disk, self.begin, most, &mut self.window)
+    }
+
+    /// Reads on to the end of the file, and returns whether it has more than its lines and a closed mark.
+    pub fn has_torn_end(&mut self) -> Result<bool, KeepError>
+        ensures value { IfOk result (λ torn. IsTrue (D.Disk.is_clean (disk_of self.new)) → (IsTrue torn ↔ HasTornEnd (D.Disk.seen (disk_of self.old)))) }
+        ensures limit { limit_of self.new ≡ limit_of self.old }
+
+        ensures reads { OnlyReads D.Disk (disk_of self.old) (disk_of self.new) }
+
+        // It fails for these causes only, and if an allocation fails.
+        ensures calm { OnOk result (D.Disk.faults (disk_of self.new) ≡ D.Disk.faults (disk_of self.old)) }
+        ensures failed { IfErr result (λ e. IsDiskError e → MoreFaults (D.Disk.faults (disk_of self.old)) (D.Disk.faults (disk_of self.new))) }
+        ensures too_long { IsErrOf result KeepError.TooLong → IsTrue (D.Disk.is_clean (disk_of self.new)) → HasTooLongLine (limit_of self.old) (D.Disk.seen (disk_of self.old)) }
+        ensures full { IsErrOf result KeepError.Full → ⊥ }
+    {
+        self.skip()?;
+        Ok(is_torn(&self.window[self.next..]))
+    }
+
+    // Goes past all lines, and has in the window what comes after them.
+    fn skip(&mut self) -> Result<(), KeepError>
+        ensures none { OnOk result (IsTrue (D.Disk.is_clean (disk_of self.new)) → lines_left self.new ≡ []) }
+        ensures front { OnOk result (IsTrue (D.Disk.is_clean (disk_of self.new)) → IsFrontOf (limit_of self.old) (unread self.new) (drop self.new.next self.new.window.items)) }
+        ensures limit { limit_of self.new ≡ limit_of self.old }
+        ensures reads { OnlyReads D.Disk (disk_of self.old) (disk_of self.new) }
+        ensures calm { OnOk result (D.Disk.faults (disk_of self.new) ≡ D.Disk.faults (disk_of self.old)) }
+        ensures failed { IfErr result (λ e. IsDiskError e → MoreFaults (D.Disk.faults (disk_of self.old)) (D.Disk.faults (disk_of self.new))) }
+        ensures too_long { IsErrOf result KeepError.TooLong → IsTrue (D.Disk.is_clean (disk_of self.new)) → HasTooLongLine (limit_of self.old) (D.Disk.seen (disk_of self.old)) }
+        ensures full { IsErrOf result KeepError.Full → ⊥ }
+    {
+        while self.next_line()? {}
+        self.fill()
+    }
+
+    // Where the lines end, and whether a mark that is not open comes next.
+    fn end(&mut self) -> Result<(usize, bool), KeepError>
+        ensures lines { IfOk result (λ found. IsTrue (D.Disk.is_clean (disk_of self.new)) → IsEnd (D.Disk.seen (disk_of self.old)) found.0) }
+        ensures shut { IfOk result (λ found. IsTrue found.1 → IsTrue (D.Disk.is_clean (disk_of self.new)) → IsShut (D.Disk.seen (disk_of self.old)) found.0) }
+        ensures safe { IfOk result (λ found. found.1 ≡ false → IsTrue (D.Disk.is_clean (disk_of self.new)) → IsSafe (D.Disk.seen (disk_of self.old)) found.0) }
+        ensures fits { IfOk result (λ found. found.0 < 2 ^ 60) }
+        ensures reads { OnlyReads D.Disk (disk_of self.old) (disk_of self.new) }
+        ensures calm { OnOk result (D.Disk.faults (disk_of self.new) ≡ D.Disk.faults (disk_of self.old)) }
+        ensures failed { IfErr result (λ e. IsDiskError e → MoreFaults (D.Disk.faults (disk_of self.old)) (D.Disk.faults (disk_of self.new))) }
+        ensures too_long { IsErrOf result KeepError.TooLong → IsTrue (D.Disk.is_clean (disk_of self.new)) → HasTooLongLine (limit_of self.old) (D.Disk.seen (disk_of self.old)) }
+        ensures full { IsErrOf result KeepError.Full → IsTrue (D.Disk.is_clean (disk_of self.new)) → 2 ^ 60 ≤ length (D.Disk.seen (disk_of self.old)) }
+    {
+        self.skip()?;
+        let end = self.begin + self.next;
+        if end >= MOST_BYTES {
+            return Err(KeepError::Full);
+        }
+        Ok((end, is_shut(&self.window[self.next..])))
+    }
+
+    /// Reads on to the end of the file, repairs the end, and returns the log of its lines. This may
+    /// be cut short at any moment, and recovered again.
+    pub fn finish(mut self) -> Result<Log<D>, Unrecovered<D>>
+        ensures settled { IfOk result (λ log. IsSettled D.Disk log) }
+        ensures lines { IfOk result (λ log. IsTrue (D.Disk.is_clean log.disk) → kept_in (D.Disk.seen log.disk) ≡ kept_in (D.Disk.seen (disk_of self))) }
+
+        // A disk may stop at any of its calls, so this covers a crash at any moment of this call.
+        ensures any_moment { IfErr result (λ e. IsTrue (D.Disk.is_clean e.disk) → (c : List ℕ) → D.Disk.may_leave e.disk c → kept_in c ≡ kept_in (D.Disk.seen (disk_of self))) }
+
+        ensures clean { MatchResult result (λ log. IsTrue (D.Disk.is_clean log.disk) → IsTrue (D.Disk.is_clean (disk_of self)))
+            (λ e. IsTrue (D.Disk.is_clean e.disk) → IsTrue (D.Disk.is_clean (disk_of self))) }
+
+        // It fails for these causes only, and if an allocation fails.
+        ensures calm { IfOk result (λ log. D.Disk.faults log.disk ≡ D.Disk.faults (disk_of self)) }
+        ensures failed { IfErr result (λ e. IsDiskError e.cause → MoreFaults (D.Disk.faults (disk_of self)) (D.Disk.faults e.disk)) }
+        ensures too_long { IfErr result (λ e. e.cause ≡ KeepError.TooLong → IsTrue (D.Disk.is_clean e.disk) → HasTooLongLine (limit_of self) (D.Disk.seen (disk_of self))) }
+        ensures full { IfErr result (λ e. e.cause ≡ KeepError.Full → IsTrue (D.Disk.is_clean e.disk) → 2 ^ 60 ≤ length (D.Disk.seen (disk_of self))) }
+    {
+        let found = self.end();
+        let mut disk = self.disk;
+        let (end, is_shut) = match found {
+            Ok((end, is_shut)) => (end, is_shut),
+            Err(cause) => return Err(Unrecovered { disk, cause }),
+        };
+        match repair(&mut disk, end, is_shut) {
+            Ok(()) => Ok(Log { disk, end }),
+            Err(error) => Err(Unrecovered {
+                disk,
+                cause: KeepError::Disk(error),
+            }),
+        }
+    }
+}
