@@ -70,6 +70,26 @@ impl<D: Disk> Recovery<D> {
         }
     }
 
+    /// Goes back to the first line.
+    pub fn rewind(&mut self)
+        ensures disk { disk_of self.new ≡ disk_of self.old }
+        ensures limit { limit_of self.new ≡ limit_of self.old }
+        ensures lines { lines_left self.new ≡ kept_in (D.Disk.seen (disk_of self.old)) }
+    {
+        self.window.clear();
+        self.begin = 0;
+        self.next = 0;
+        self.line = 0;
+        self.line_end = 0;
+    }
+
+    /// The disk, which is as before.
+    pub fn into_disk(self) -> D
+        ensures { result ≡ disk_of self }
+    {
+        self.disk
+    }
+
     /// Goes to the next line. Returns whether there was one, and at an error stays where it was.
     pub fn next_line(&mut self) -> Result<bool, KeepError>
         ensures line { IfOk result (λ is_line. IsTrue is_line → IsTrue (D.Disk.is_clean (disk_of self.new)) → lines_left self.old ≡ line_of self.new ∷ lines_left self.new) }
