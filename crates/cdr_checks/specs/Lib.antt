@@ -3,7 +3,6 @@ pub mod CdrAdmission
 pub mod CdrConditions
 pub mod Checked
 pub mod FirstRefusal
-pub mod Inner
 pub mod Law
 pub mod Parties
 pub mod Tests

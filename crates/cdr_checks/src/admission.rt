@@ -1,6 +1,5 @@
 ghost use Rattle.std.specs.Prelude.{◌≡◌, MatchResult, Ok, Err, IfOk};
 ghost use Rattle.cdr_checks.specs.Admission.{admission, ask_admission, authorize_admission, close_admission, exposure_admission, find_admission, post_admission, put_tariff_admission, put_token_admission, release_admission, settle_admission, statement_admission, IsAdmitted};
-ghost use Rattle.cdr_checks.specs.Inner.HandedBack.{handed_back};
 
 use super::cdr_admission::check;
 use super::refusing::ensure;
@@ -33,12 +32,12 @@ fn put_tariff(
     config: &Config,
     platform: &CiText<36>,
     tariff: Shared<Tariff>,
-) -> Result<Command, (Ask, Refusal)>
-    ensures { result ≡ handed_back (Ask.PutTariff tariff) (put_tariff_admission config.now platform.now tariff) }
+) -> Result<Command, Refusal>
+    ensures { result ≡ put_tariff_admission config.now platform.now tariff }
 {
     match ensure_tariff(config, platform, &tariff) {
         Ok(()) => Ok(Command::PutTariff(tariff)),
-        Err(refusal) => Err((Ask::PutTariff(tariff), refusal)),
+        Err(refusal) => Err(refusal),
     }
 }
 
@@ -118,13 +117,11 @@ fn exposure(
 }
 
 #[inline(never)]
-fn post(config: &Config, platform: &CiText<36>, cdr: Shared<Cdr>) -> Result<Command, (Ask, Refusal)>
-    ensures { result ≡ handed_back (Ask.Post cdr) (post_admission config.now platform.now cdr) }
+fn post(config: &Config, platform: &CiText<36>, cdr: Shared<Cdr>) -> Result<Command, Refusal>
+    ensures { result ≡ post_admission config.now platform.now cdr }
 {
-    match check(config, platform, cdr) {
-        Ok(checked) => Ok(Command::Post(checked)),
-        Err((cdr, refusal)) => Err((Ask::Post(cdr), refusal)),
-    }
+    let checked = check(config, platform, cdr)?;
+    Ok(Command::Post(checked))
 }
 
 #[inline(never)]
@@ -184,68 +181,33 @@ fn statement(
     Ok(Command::Statement(*statement))
 }
 
-// What was asked stands beside the refusal.
-fn handed_back(ask: Ask, admitted: Result<Command, Refusal>) -> Result<Command, (Ask, Refusal)>
-    ensures { result ≡ handed_back ask admitted }
-{
-    match admitted {
-        Ok(command) => Ok(command),
-        Err(refusal) => Err((ask, refusal)),
-    }
-}
-
-fn admit_ask(config: &Config, platform: &CiText<36>, ask: Ask) -> Result<Command, (Ask, Refusal)>
-    ensures { result ≡ handed_back ask (ask_admission config.now platform.now ask) }
+fn admit_ask(config: &Config, platform: &CiText<36>, ask: Ask) -> Result<Command, Refusal>
+    ensures { result ≡ ask_admission config.now platform.now ask }
 {
     match ask {
         Ask::PutTariff(tariff) => put_tariff(config, platform, tariff),
-        Ask::PutToken(token) => {
-            let admitted = put_token(config, platform, &token);
-            handed_back(Ask::PutToken(token), admitted)
-        }
-        Ask::Authorize(asked) => {
-            let admitted = authorize(config, platform, &asked);
-            handed_back(Ask::Authorize(asked), admitted)
-        }
-        Ask::Release(asked) => {
-            let admitted = release(config, platform, &asked);
-            handed_back(Ask::Release(asked), admitted)
-        }
+        Ask::PutToken(token) => put_token(config, platform, &token),
+        Ask::Authorize(asked) => authorize(config, platform, &asked),
+        Ask::Release(asked) => release(config, platform, &asked),
         Ask::Post(cdr) => post(config, platform, cdr),
-        Ask::Close(asked) => {
-            let admitted = close(config, platform, &asked);
-            handed_back(Ask::Close(asked), admitted)
-        }
-        Ask::Settle(asked) => {
-            let admitted = settle(config, platform, &asked);
-            handed_back(Ask::Settle(asked), admitted)
-        }
-        Ask::Exposure(asked) => {
-            let admitted = exposure(config, platform, &asked);
-            handed_back(Ask::Exposure(asked), admitted)
-        }
-        Ask::Find(asked) => {
-            let admitted = find(config, platform, &asked);
-            handed_back(Ask::Find(asked), admitted)
-        }
-        Ask::Statement(asked) => {
-            let admitted = statement(config, platform, &asked);
-            handed_back(Ask::Statement(asked), admitted)
-        }
+        Ask::Close(asked) => close(config, platform, &asked),
+        Ask::Settle(asked) => settle(config, platform, &asked),
+        Ask::Exposure(asked) => exposure(config, platform, &asked),
+        Ask::Find(asked) => find(config, platform, &asked),
+        Ask::Statement(asked) => statement(config, platform, &asked),
     }
 }
 
-/// Admits a request. What is refused is handed back with the first refusal that holds.
+/// Returns the command of a request that passes each test of its kind.
+///
+/// # Errors
+///
+/// The refusal of the first test that fails.
 #[tactic(auto, unfolding(crate::specs::Admission::admission, crate::specs::Admission::IsAdmitted))]
-pub fn admit(config: &Config, request: Request) -> Result<Command, (Request, Refusal)>
-    ensures admission { MatchResult result (λ command. admission config.now request ≡ Ok command)
-        (λ refused. admission config.now request ≡ Err refused.1) }
-    ensures handed_back { MatchResult result (λ _. Unit {0}) (λ refused. refused.0 ≡ request) }
+pub fn admit(config: &Config, request: Request) -> Result<Command, Refusal>
+    ensures admission { result ≡ admission config.now request }
     ensures admitted { IfOk result (λ command. IsAdmitted config.now command) }
 {
     let Request { platform, ask } = request;
-    match admit_ask(config, &platform, ask) {
-        Ok(command) => Ok(command),
-        Err((ask, refusal)) => Err((Request { platform, ask }, refusal)),
-    }
+    admit_ask(config, &platform, ask)
 }

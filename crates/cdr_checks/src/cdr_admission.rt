@@ -95,19 +95,16 @@ fn findings_of(config: &Config, platform: &CiText<36>, cdr: &Cdr) -> Result<Find
     })
 }
 
-/// Checks a CDR by itself: its parties, its platform and its currency, and where it is no Credit CDR its tariffs, its
-/// dates, its energy and its cost. What is refused is handed back with the first refusal that holds.
-pub fn check(
-    config: &Config,
-    platform: &CiText<36>,
-    cdr: Shared<Cdr>,
-) -> Result<Checked, (Shared<Cdr>, Refusal)>
-    ensures checked { MatchResult result (λ checked. checked_of config.now platform.now cdr ≡ Ok checked)
-        (λ refused. checked_of config.now platform.now cdr ≡ Err refused.1) }
-    ensures handed_back { MatchResult result (λ _. Unit {0}) (λ refused. refused.0 ≡ cdr) }
+/// Checks a CDR by its parties, platform and currency and, unless it is a Credit CDR, by its tariffs, dates, energy and cost.
+///
+/// # Errors
+///
+/// The refusal of the first test that fails.
+pub fn check(config: &Config, platform: &CiText<36>, cdr: Shared<Cdr>) -> Result<Checked, Refusal>
+    ensures { result ≡ checked_of config.now platform.now cdr }
 {
     match findings_of(config, platform, &cdr) {
         Ok(found) => Ok(Checked::new(cdr, found.zone, found.cost)),
-        Err(refusal) => Err((cdr, refusal)),
+        Err(refusal) => Err(refusal),
     }
 }

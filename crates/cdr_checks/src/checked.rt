@@ -37,13 +37,6 @@ impl Checked {
         &self.cdr
     }
 
-    /// The time zone of the CDR's operator.
-    pub fn zone(&self) -> &Zone
-        ensures { result.now ≡ self.now.zone }
-    {
-        &self.zone
-    }
-
     /// What the session costs: the price of the CDR in the zone, and none of a Credit CDR.
     pub fn cost(&self) -> Option<Cost>
         ensures value { result ≡ self.now.cost }

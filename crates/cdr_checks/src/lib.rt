@@ -5,11 +5,11 @@ mod admission;
 mod cdr_admission;
 mod cdr_conditions;
 mod checked;
-mod exact;
 mod laws;
 mod parties;
 mod refusing;
 mod request;
+mod same;
 
 pub use admission::admit;
 pub use cdr_admission::check;

@@ -6,7 +6,7 @@
 mod cdrs;
 mod requests;
 
-use crate::fault::Fault;
+use crate::check_fault::CheckFault;
 use cdrs::are_cdrs_copied;
 use requests::are_requests_copied;
 use std::io::Read;
@@ -16,10 +16,13 @@ fn is_all_copied(rt: &HostRuntime, text: &str) -> bool {
 }
 
 /// Copies what the reader has.
-pub fn copy_input<R: Read + Drop>(rt: &HostRuntime, mut reader: R) -> Result<(), Fault<'static>> {
+pub fn copy_input<R: Read + Drop>(
+    rt: &HostRuntime,
+    mut reader: R,
+) -> Result<(), CheckFault<'static>> {
     let mut text = String::new(rt.alloc());
     match reader.read_to_string(&mut text) {
         Ok(_) if is_all_copied(rt, text.as_str()) => Ok(()),
-        _ => Err(Fault::NoCopy),
+        _ => Err(CheckFault::NoCopy),
     }
 }

@@ -3,7 +3,8 @@
 
 mod refusals;
 
-use crate::fault::Fault;
+use crate::check_fault::CheckFault;
+use command_line::Fault;
 use ocpi_json::ReadFault;
 use ocpi_json::fields::FieldFault;
 use ocpi_json::name::Name;
@@ -103,10 +104,10 @@ fn tell_all(rt: &HostRuntime) -> io::Result<bool> {
 }
 
 /// Tells the rows. It is a fault if a text differs.
-pub fn tell_rows(rt: &HostRuntime) -> Result<(), Fault<'static>> {
+pub fn tell_rows(rt: &HostRuntime) -> Result<(), CheckFault<'static>> {
     match tell_all(rt) {
         Ok(true) => Ok(()),
-        Ok(false) => Err(Fault::NotAsExpected),
-        Err(_) => Err(Fault::CannotWrite),
+        Ok(false) => Err(CheckFault::NotAsExpected),
+        Err(_) => Err(CheckFault::from(Fault::CannotWrite)),
     }
 }

@@ -1,16 +1,16 @@
 //! A bit of everything, over standard input and the files of the crate's folder `data`, where the program then has to run.
 
-use crate::fault::Fault;
+use crate::check_fault::CheckFault;
 use crate::houses::Choice;
 use crate::{copies, houses, json_rows, readings, shared};
-use house_program::open_file;
+use command_line::{Fault, open_file};
 use std::sync::Wait;
 use std::thread::Threads;
 
 fn answer_by_all(
     rt: &HostRuntime,
     threads: &(impl Threads + Wait + Sync),
-) -> Result<(), Fault<'static>> {
+) -> Result<(), CheckFault<'static>> {
     for house in [
         "plain",
         "books",
@@ -29,7 +29,7 @@ fn answer_by_all(
 pub fn perform(
     rt: &HostRuntime,
     threads: &(impl Threads + Wait + Sync),
-) -> Result<(), Fault<'static>> {
+) -> Result<(), CheckFault<'static>> {
     json_rows::tell_rows(rt)?;
     copies::copy_input(rt, rt.stdin())?;
     copies::copy_input(rt, open_file(rt, "cdrs.jsonl")?)?;

@@ -9,9 +9,10 @@ mod stepped;
 mod telling;
 mod trial;
 
-use crate::fault::Fault;
+use crate::check_fault::CheckFault;
 use crate::files::config_in;
 use crate::shared;
+use command_line::Fault;
 pub use doing::{Doing, announced_reply, do_lines, is_done_again};
 use listed::{Lists, try_listed};
 use ocpi_types::{Config, TryCopy};
@@ -24,12 +25,20 @@ use stepped::try_steps;
 pub use telling::tell;
 pub use trial::{Outcome, Trial};
 
-fn try_list(rt: &HostRuntime, config: &Config, trial: &Trial<'_>) -> Result<(), Fault<'static>> {
+fn try_list(
+    rt: &HostRuntime,
+    config: &Config,
+    trial: &Trial<'_>,
+) -> Result<(), CheckFault<'static>> {
     let mut house = PlainHouse::new(rt.alloc(), config.copy(rt.alloc())?);
     try_listed(rt, config, &mut house, "plain", trial)
 }
 
-fn try_books(rt: &HostRuntime, config: &Config, trial: &Trial<'_>) -> Result<(), Fault<'static>> {
+fn try_books(
+    rt: &HostRuntime,
+    config: &Config,
+    trial: &Trial<'_>,
+) -> Result<(), CheckFault<'static>> {
     let mut house = BookHouse::new(rt.alloc(), config.copy(rt.alloc())?)?;
     try_listed(rt, config, &mut house, "books", trial)
 }
@@ -40,7 +49,7 @@ fn try_all(
     threads: &(impl Threads + Wait + Sync),
     config: &Config,
     trial: &Trial<'_>,
-) -> Result<(), Fault<'static>> {
+) -> Result<(), CheckFault<'static>> {
     try_list(rt, config, trial)?;
     try_books(rt, config, trial)?;
     try_steps(rt, config, trial)?;
@@ -54,7 +63,7 @@ fn try_lines(
     config: &Config,
     lines: &[&str],
     lists: &mut Lists,
-) -> Result<(), Fault<'static>> {
+) -> Result<(), CheckFault<'static>> {
     for number in 0..lines.len() {
         let line = lines[number];
         let reply = lists.reply(rt.alloc(), line);
@@ -70,7 +79,7 @@ fn try_text(
     threads: &(impl Threads + Wait + Sync),
     config: &Config,
     text: &str,
-) -> Result<(), Fault<'static>> {
+) -> Result<(), CheckFault<'static>> {
     let lines = text.lines().collect::<Vec<&str>>(rt.alloc())?;
     let mut lists = Lists::new(rt.alloc(), config)?;
     try_lines(rt, threads, config, lines.as_slice(), &mut lists)
@@ -83,11 +92,11 @@ pub fn try_commands<'a, R: Read + Drop>(
     threads: &(impl Threads + Wait + Sync),
     path: &'a str,
     mut reader: R,
-) -> Result<(), Fault<'a>> {
+) -> Result<(), CheckFault<'a>> {
     let config = config_in(rt, path)?;
     let mut text = String::new(rt.alloc());
     match reader.read_to_string(&mut text) {
         Ok(_) => try_text(rt, threads, &config, text.as_str()),
-        Err(_) => Err(Fault::CannotReadInput),
+        Err(_) => Err(CheckFault::from(Fault::CannotReadInput)),
     }
 }

@@ -5,10 +5,10 @@ mod again;
 mod answering;
 mod choice;
 
-use crate::fault::Fault;
+use crate::check_fault::CheckFault;
 use answering::answer;
 pub use choice::Choice;
-use house_program::read_config;
+use command_line::{Fault, read_config};
 use request_lines::Device;
 use std::io::Read;
 use std::sync::Wait;
@@ -19,7 +19,7 @@ fn answer_under_config<'a, T: Threads + Wait + Sync, R: Read>(
     threads: &T,
     choice: Choice<'a>,
     reader: &mut Device<R>,
-) -> Result<(), Fault<'a>> {
+) -> Result<(), CheckFault<'a>> {
     let file = read_config(rt, choice.config)?;
     let mut writer = Device::new(rt.stdout());
     answer(rt, threads, choice, file.as_slice(), reader, &mut writer)
@@ -31,10 +31,14 @@ pub fn answer_lines<'a, T: Threads + Wait + Sync, R: Read + Drop>(
     threads: &T,
     choice: Choice<'a>,
     reader: R,
-) -> Result<(), Fault<'a>> {
+) -> Result<(), CheckFault<'a>> {
     let mut reader = Device::new(reader);
     match answer_under_config(rt, threads, choice, &mut reader) {
-        Err(Fault::NoMemory) if choice.is_again && reader.reads == 0 => {
+        Err(
+            CheckFault::Command {
+                fault: Fault::NoMemory,
+            },
+        ) if choice.is_again && reader.reads == 0 => {
             answer_under_config(rt, threads, choice, &mut reader)
         }
         ended => ended,

@@ -4,7 +4,8 @@ mod lines;
 mod rows;
 mod texts;
 
-use crate::fault::Fault;
+use crate::check_fault::CheckFault;
+use command_line::Fault;
 use rows::Rows;
 use std::alloc::Global;
 use std::io;
@@ -15,11 +16,11 @@ fn tell_all(rows: &mut Rows<'_>, alloc: Global) -> io::Result<()> {
 }
 
 /// Tells the rows. It is a fault if one is not as expected.
-pub fn tell_rows(rt: &HostRuntime) -> Result<(), Fault<'static>> {
+pub fn tell_rows(rt: &HostRuntime) -> Result<(), CheckFault<'static>> {
     let mut rows = Rows::new(rt);
     match tell_all(&mut rows, rt.alloc()) {
         Ok(()) if rows.are_as_expected() => Ok(()),
-        Ok(()) => Err(Fault::NotAsExpected),
-        Err(_) => Err(Fault::CannotWrite),
+        Ok(()) => Err(CheckFault::NotAsExpected),
+        Err(_) => Err(CheckFault::from(Fault::CannotWrite)),
     }
 }

@@ -8,7 +8,7 @@
 //!   house goes on to which memory was refused for that command: `tests/suites/refused_commands` refuses it each request in turn.
 //! - `changes CONFIG` answers them in the third way, and tells what is certified of the order, the books, the accounts and the
 //!   calls, as they are and with one change each.
-//! - `held CONFIG PLACE FILE FILE FILE FILE` answers the lines of four files, those of the second held up at the place, as
+//! - `paused CONFIG WAYPOINT FILE FILE FILE FILE` answers the lines of four files, those of the second paused at the waypoint, as
 //!   `BookHeld(0)`, while those of the third are answered; `often CONFIG TIMES EVENTS FILE..` answers the files' lines by a worker
 //!   each, so many times by a new house, which is to have so many events. All calls are certified.
 //! - `copies` copies what standard input has, and `readings` reads each of its lines in two ways.
@@ -19,10 +19,10 @@
 //! and else with status 1.
 #![tactic(auto)]
 
+mod check_fault;
 mod copies;
 mod error_texts;
 mod everything;
-mod fault;
 mod files;
 mod growths;
 mod houses;
@@ -31,17 +31,17 @@ mod readings;
 mod shared;
 mod words;
 
-use fault::{Fault, tell};
-use house_program::{StartFault, given_words};
+use check_fault::{CheckFault, tell};
+use command_line::{Fault, given_words};
 use std::process::ExitCode;
 use std::sync::Wait;
 use std::thread::Threads;
 use words::{Job, job_of};
 
 // The words alone say whether anything is done once more, so they are always asked for again.
-fn words_again(rt: &HostRuntime) -> Result<Vec<String>, StartFault<'static>> {
+fn words_again(rt: &HostRuntime) -> Result<Vec<String>, Fault<'static>> {
     match given_words(rt) {
-        Err(StartFault::NoMemory) => given_words(rt),
+        Err(Fault::NoMemory) => given_words(rt),
         words => words,
     }
 }
@@ -50,17 +50,17 @@ fn perform<'a>(
     rt: &HostRuntime,
     threads: &(impl Threads + Wait + Sync),
     words: &'a [String],
-) -> Result<(), Fault<'a>> {
+) -> Result<(), CheckFault<'a>> {
     match job_of(words)? {
         Job::Everything => everything::perform(rt, threads),
         Job::Answer(choice) => houses::answer_lines(rt, threads, choice, rt.stdin()),
         Job::Growths { config } => growths::try_commands(rt, threads, config, rt.stdin()),
         Job::Changes { config } => shared::tell_changes(rt, threads, config, rt.stdin()),
-        Job::Held {
+        Job::Paused {
             config,
-            place,
+            waypoint,
             files,
-        } => shared::hold(rt, threads, config, place, files),
+        } => shared::pause(rt, threads, config, waypoint, files),
         Job::Often {
             config,
             times,
@@ -74,7 +74,7 @@ fn perform<'a>(
     }
 }
 
-fn told(rt: &HostRuntime, fault: &Fault<'_>) -> ExitCode {
+fn told(rt: &HostRuntime, fault: &CheckFault<'_>) -> ExitCode {
     let _ = tell(rt, fault);
     ExitCode::from(fault.status())
 }
@@ -82,7 +82,7 @@ fn told(rt: &HostRuntime, fault: &Fault<'_>) -> ExitCode {
 fn main(rt: HostRuntime) -> ExitCode {
     let words = match words_again(&rt) {
         Ok(words) => words,
-        Err(fault) => return told(&rt, &Fault::from(fault)),
+        Err(fault) => return told(&rt, &CheckFault::from(fault)),
     };
     match perform(&rt, &rt, words.as_slice()) {
         Ok(()) => ExitCode::SUCCESS,

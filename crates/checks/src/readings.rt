@@ -4,7 +4,8 @@ mod comparing;
 mod keys;
 mod marks;
 
-use crate::fault::Fault;
+use crate::check_fault::CheckFault;
+use command_line::Fault;
 use comparing::{Comparison, compare};
 use ocpi_json::{ReadFault, Room};
 use std::alloc::Global;
@@ -49,20 +50,23 @@ fn compared<R: Read + Drop>(alloc: Global, mut reader: R) -> Option<Vec<Comparis
     }
 }
 
-fn told(rt: &HostRuntime, found: &[Comparison]) -> Result<(), Fault<'static>> {
+fn told(rt: &HostRuntime, found: &[Comparison]) -> Result<(), CheckFault<'static>> {
     if write_counts(rt, found).is_err() {
-        return Err(Fault::CannotWrite);
+        return Err(CheckFault::from(Fault::CannotWrite));
     }
     if count(found, Comparison::Different) > 0 {
-        return Err(Fault::ReadDifferently);
+        return Err(CheckFault::ReadDifferently);
     }
     Ok(())
 }
 
 /// Reads each line of the reader in both ways.
-pub fn compare_lines<R: Read + Drop>(rt: &HostRuntime, reader: R) -> Result<(), Fault<'static>> {
+pub fn compare_lines<R: Read + Drop>(
+    rt: &HostRuntime,
+    reader: R,
+) -> Result<(), CheckFault<'static>> {
     match compared(rt.alloc(), reader) {
         Some(found) => told(rt, found.as_slice()),
-        None => Err(Fault::NotCompared),
+        None => Err(CheckFault::NotCompared),
     }
 }

@@ -1,25 +1,25 @@
-//! A house that threads share: lines answered by one pass of it, what its check says of changed values, a call that is held up
+//! A house that threads share: lines answered by one pass of it, what its check says of changed values, a call that is paused
 //! while another is answered, and workers that answer the same lines often.
 
 mod caller;
 mod changes;
 mod ending;
 mod growths;
-mod held;
 mod missing_pass;
 mod one_pass;
 mod opening;
+mod paused;
 mod performing;
 mod workers;
 
-use crate::fault::Fault;
+use crate::check_fault::CheckFault;
 use crate::files::config_in;
 use crate::growths::Trial;
+use command_line::{Fault, open_file};
 use ending::Ending;
-use held::place_of;
-use house_program::open_file;
 use ocpi_types::{Config, TryCopy};
 use opening::with_house;
+use paused::waypoint_of;
 use performing::{Next, Work};
 use request_lines::{Device, Sink, Source};
 use std::alloc::Global;
@@ -36,7 +36,7 @@ pub fn answer<R: Threads + Wait + Sync, S: Source, W: Sink>(
     is_again: bool,
     reader: &mut S,
     writer: &mut W,
-) -> Result<(), Fault<'static>> {
+) -> Result<(), CheckFault<'static>> {
     let next = Next::Finish(Ending::Lines { is_again });
     let work = Work::Lines { is_again, next };
     with_house(rt, threads, config, work, reader, writer)
@@ -48,7 +48,7 @@ fn do_by_house<R: Threads + Wait + Sync>(
     threads: &R,
     config: Config,
     work: Work<'_>,
-) -> Result<(), Fault<'static>> {
+) -> Result<(), CheckFault<'static>> {
     let mut reader = Device::new(rt.stdin());
     let mut writer = Device::new(io::sink());
     with_house(rt, threads, config, work, &mut reader, &mut writer)
@@ -61,7 +61,7 @@ pub fn tell_changes<'a, R: Threads + Wait + Sync, S: Read + Drop>(
     threads: &R,
     path: &'a str,
     reader: S,
-) -> Result<(), Fault<'a>> {
+) -> Result<(), CheckFault<'a>> {
     let config = config_in(rt, path)?;
     let other = config.copy(rt.alloc())?;
     do_by_house(rt, threads, other, Work::MissingPass)?;
@@ -81,34 +81,34 @@ pub fn try_growths<R: Threads + Wait + Sync>(
     config: &Config,
     trial: &Trial<'_>,
     is_again: bool,
-) -> Result<(), Fault<'static>> {
+) -> Result<(), CheckFault<'static>> {
     let copy = config.copy(rt.alloc())?;
     do_by_house(rt, threads, copy, Work::Growths { trial, is_again })
 }
 
 // The bytes of the file of this path.
-fn text_of<'a>(rt: &HostRuntime, alloc: Global, path: &'a str) -> Result<Vec<u8>, Fault<'a>> {
+fn text_of<'a>(rt: &HostRuntime, alloc: Global, path: &'a str) -> Result<Vec<u8>, CheckFault<'a>> {
     let mut bytes = Vec::new(alloc);
     match open_file(rt, path)?.read_to_end(&mut bytes) {
         Ok(_) => Ok(bytes),
-        Err(_) => Err(Fault::CannotRead { path }),
+        Err(_) => Err(CheckFault::from(Fault::CannotRead { path })),
     }
 }
 
-/// Answers the lines of four files by a pass each: those of the first file, then those of the second, whose call is held up at the
-/// place of this name while those of the third are answered, and then those of the fourth. Has all calls certified.
-pub fn hold<'a, R: Threads + Wait + Sync>(
+/// Answers the lines of four files by a pass each: those of the first file, then those of the second, whose call is paused at the
+/// waypoint of this name while those of the third are answered, and then those of the fourth. Has all calls certified.
+pub fn pause<'a, R: Threads + Wait + Sync>(
     rt: &HostRuntime,
     threads: &R,
     path: &'a str,
-    place: &str,
+    waypoint: &str,
     files: &[String],
-) -> Result<(), Fault<'a>> {
-    let Some(place) = place_of(place) else {
-        return Err(Fault::Usage);
+) -> Result<(), CheckFault<'a>> {
+    let Some(waypoint) = waypoint_of(waypoint) else {
+        return Err(CheckFault::from(Fault::Usage));
     };
     let config = config_in(rt, path)?;
-    do_by_house(rt, threads, config, Work::Held { place, files })
+    do_by_house(rt, threads, config, Work::Paused { waypoint, files })
 }
 
 // The bytes of the files.
@@ -116,7 +116,7 @@ fn texts_of<'a>(
     rt: &HostRuntime,
     alloc: Global,
     files: &'a [String],
-) -> Result<Vec<Vec<u8>>, Fault<'a>> {
+) -> Result<Vec<Vec<u8>>, CheckFault<'a>> {
     let mut texts = Vec::new(alloc);
     for file in files {
         texts.push(text_of(rt, alloc, file.as_str())?)?;
@@ -132,7 +132,7 @@ fn answer_texts(
     times: usize,
     events: usize,
     texts: &[Vec<u8>],
-) -> Result<(), Fault<'static>> {
+) -> Result<(), CheckFault<'static>> {
     for _time in 0..times {
         let copy = config.copy(rt.alloc())?;
         do_by_house(rt, threads, copy, Work::Texts { texts, events })?;
@@ -148,7 +148,7 @@ pub fn answer_often<'a, R: Threads + Wait + Sync>(
     times: usize,
     events: usize,
     files: &'a [String],
-) -> Result<(), Fault<'a>> {
+) -> Result<(), CheckFault<'a>> {
     let config = config_in(rt, path)?;
     let texts = texts_of(rt, rt.alloc(), files)?;
     answer_texts(rt, threads, &config, times, events, texts.as_slice())

@@ -1,7 +1,8 @@
 //! What the words of a command line ask for.
 
-use crate::fault::Fault;
+use crate::check_fault::CheckFault;
 use crate::houses::Choice;
+use command_line::Fault;
 
 /// What the program is to do.
 #[derive(Clone, Copy)]
@@ -22,10 +23,10 @@ pub enum Job<'a> {
         config: &'a str,
     },
 
-    /// Answers the lines of four files, of which the second's are held up at the place of this name.
-    Held {
+    /// Answers the lines of four files, of which the second's are paused at the waypoint of this name.
+    Paused {
         config: &'a str,
-        place: &'a str,
+        waypoint: &'a str,
         files: &'a [String],
     },
 
@@ -63,9 +64,9 @@ fn often<'a>(
 }
 
 /// The job that the words ask for, the program's name first.
-pub fn job_of(words: &[String]) -> Result<Job<'_>, Fault<'static>> {
+pub fn job_of(words: &[String]) -> Result<Job<'_>, CheckFault<'static>> {
     let Some((_, words)) = words.split_first() else {
-        return Err(Fault::Usage);
+        return Err(CheckFault::from(Fault::Usage));
     };
     let Some((word, others)) = words.split_first() else {
         return Ok(Job::Everything);
@@ -81,14 +82,14 @@ pub fn job_of(words: &[String]) -> Result<Job<'_>, Fault<'static>> {
         ("changes", [config]) => Some(Job::Changes {
             config: config.as_str(),
         }),
-        ("held", [config, place, files @ ..]) => Some(Job::Held {
+        ("paused", [config, waypoint, files @ ..]) => Some(Job::Paused {
             config: config.as_str(),
-            place: place.as_str(),
+            waypoint: waypoint.as_str(),
             files,
         }),
         ("often", [config, times, events, files @ ..]) => often(config, times, events, files),
         (house, [config]) => Choice::of(house, config.as_str()).map(Job::Answer),
         _ => None,
     };
-    job.ok_or(Fault::Usage)
+    job.ok_or(CheckFault::from(Fault::Usage))
 }

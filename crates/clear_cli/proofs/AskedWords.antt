@@ -15,8 +15,8 @@ use Rattle.clap.specs.declared.parser.matches.ArgMatches.{ArgMatches}
 use Rattle.clap.specs.declared.parser.matches.ArgMatches.TheViews.{out-ArgMatches, out-SubCommand}
 use Rattle.clap.specs.declared.parser.matches.Found.{Found}
 use Rattle.clap.specs.declared.parser.matches.SubCommand.{SubCommand}
-use Rattle.clear_cli.specs.declared.fault.Fault.{Fault}
-use Rattle.clear_cli.specs.declared.fault.Fault.TheVariants.{NoMemory, Usage}
+use Rattle.command_line.specs.declared.fault.Fault.{Fault}
+use Rattle.command_line.specs.declared.fault.Fault.TheVariants.{NoMemory, Usage}
 use Rattle.clear_cli.specs.declared.words.Job.{Job}
 use Rattle.clear_cli.specs.Inner.Commands.{asked_in, asked_under, clear_command, run_in}
 use Rattle.clear_cli.specs.Words.{Asked, Run, Schedule, asked_of_house, asked_by}

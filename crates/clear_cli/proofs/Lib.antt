@@ -2,7 +2,6 @@ pub mod AskedWords
 pub mod CommandWords
 pub mod FileEnds
 pub mod HouseLemmas
-pub mod LineInParts
 pub mod OpeningLemmas
 pub mod OutputLemmas
 pub mod PlainWalk
@@ -13,6 +12,7 @@ pub mod ReplayLemmas
 pub mod RunLemmas
 pub mod ScheduleLines
 pub mod StepLines
+pub mod ToldLines
 pub mod Turns
 pub mod WordKinds
 pub mod WritingLemmas

@@ -1,12 +1,13 @@
 -- Files, one after another.
-use Rattle.std.proofs.Common.{◌≡◌, ℕ, suc, ◌+◌, ◌<◌, ◌≤◌, Bool, List, [], ◌∷◌, ◌++◌, length, take, map, get_or, flat_map, refl, sym, ap, subst, ◌∙◌, arith, append-nil, append_assoc}
+use Rattle.std.proofs.Common.{◌≡◌, ℕ, suc, ◌+◌, ◌<◌, ◌≤◌, List, [], ◌∷◌, ◌++◌, length, take, map, get_or, flat_map, refl, sym, ap, subst, ◌∙◌, arith, append-nil, append_assoc}
 use Rattle.std.proofs.lemmas.Grind.{flat_map-append}
 use Rattle.std.proofs.lemmas.List.{length-map, length-take-le, map-append, take_more}
+use Rattle.request_lines.specs.Streams.{Writing}
 use Rattle.clear_cli.specs.Folder.{FolderWords}
 use Rattle.clear_cli.specs.Fault.{AreTold}
 use Rattle.clear_cli.specs.Inner.Making.{AreMade, IsMade}
 use Rattle.clear_cli.specs.Opening.{Fate, GivenFile, HasFate, HaveFates, PlainNamed, named_among, named_in, pair_in, unmade_line, unmade_lines, unopened_line, unopened_lines}
-use Rattle.clear_cli.proofs.LineInParts.{told_more}
+use Rattle.clear_cli.proofs.ToldLines.{told_more}
 
 module _ {I O V : Type 0} (words : FolderWords O V) where
   same_length : (k : ℕ) (files : List (GivenFile I)) (fates : List (Fate I V)) (a b : O) → HaveFates words k files a fates b → length files ≡ length fates
@@ -72,10 +73,10 @@ one_file_more {P} {I} given files place d item n is within number_is =
 
 -- ---- files that are answered
 
-module _ {I O V S : Type 0} (words : FolderWords O V) (takes : S → List ℕ → S → Type 0) (failed : S → Bool) where
+module _ {I O V S : Type 0} (words : FolderWords O V) (writing : Writing S) where
   pub made_more : (files : List (GivenFile I)) (file : GivenFile I) (n : ℕ) (a b c : O) (named named' : List PlainNamed) (pairs pairs' : List (I × V)) (s t u : S) → n ≡ 1 + length files →
-      AreMade words takes failed files a b named pairs s t → IsMade words takes failed n file.path file.reader b c named named' pairs pairs' t u →
-      AreMade words takes failed (files ++ file ∷ []) a c named' pairs' s u
+      AreMade words writing files a b named pairs s t → IsMade words writing n file.path file.reader b c named named' pairs pairs' t u →
+      AreMade words writing (files ++ file ∷ []) a c named' pairs' s u
   made_more files file n a b c named named' pairs pairs' s t u is made one =
       let same = same_length words 1 files made.fates a b made.have in
       record {
@@ -83,6 +84,6 @@ module _ {I O V S : Type 0} (words : FolderWords O V) (takes : S → List ℕ �
         have = one_fate_more words 1 n files file made.fates one.fate a b c is made.have one.has;
         named_are = one.named_is ∙ ap (λ (l : List PlainNamed). l ++ named_in n file.path one.fate) made.named_are ∙ sym (one_named_more 1 n files file made.fates one.fate is same);
         pairs_are = one.pairs_is ∙ ap (λ (l : List (I × V)). l ++ pair_in one.fate) made.pairs_are ∙ sym (one_pair_more made.fates one.fate);
-        told = subst (λ (l : List (List ℕ)). AreTold takes failed s l u) (sym (one_unmade_more 1 n made.fates one.fate (is ∙ ap (λ (m : ℕ). 1 + m) same)))
-            (told_more takes failed (unmade_lines 1 made.fates) (unmade_line n one.fate) s t u made.told one.told);
+        told = subst (λ (l : List (List ℕ)). AreTold writing s l u) (sym (one_unmade_more 1 n made.fates one.fate (is ∙ ap (λ (m : ℕ). 1 + m) same)))
+            (told_more writing (unmade_lines 1 made.fates) (unmade_line n one.fate) s t u made.told one.told);
       }

@@ -43,11 +43,11 @@ module _ {A B : Type 0} (f : A → Option B) where
 
 -- ---- which lines are which
 
-record Parts (lines calls steps : List (List ℕ)) : Type 0 where
+record Sorted (lines calls steps : List (List ℕ)) : Type 0 where
   pub calls_are : requests lines ≡ calls
   pub steps_are : step_lines lines ≡ steps
 
-behind_request : (first : List ℕ) (lines calls steps : List (List ℕ)) → begins_request first ≡ true → Parts lines calls steps → Parts (first ∷ lines) (first ∷ calls) steps
+behind_request : (first : List ℕ) (lines calls steps : List (List ℕ)) → begins_request first ≡ true → Sorted lines calls steps → Sorted (first ∷ lines) (first ∷ calls) steps
 behind_request first lines calls steps b parts = record {
   calls_are = rw b (ap (λ (rest : List (List ℕ)). first ∷ rest) parts.calls_are);
   steps_are = rw b parts.steps_are;
@@ -63,12 +63,12 @@ steps_begin : (first : List ℕ) (lines : List (List ℕ)) → begins_request fi
 steps_begin first lines b = rw b refl
 
 -- a request behind requests
-one_request : (lines : List (List ℕ)) (line : List ℕ) → step_lines lines ≡ [] → begins_request line ≡ true → Parts (lines ++ line ∷ []) (requests lines ++ line ∷ []) []
+one_request : (lines : List (List ℕ)) (line : List ℕ) → step_lines lines ≡ [] → begins_request line ≡ true → Sorted (lines ++ line ∷ []) (requests lines ++ line ∷ []) []
 one_request [] line none b = record { calls_are = rw b refl; steps_are = rw b refl }
 one_request (first ∷ lines) line none b = by (begins_request first) refl (λ less. one_request lines line less b)
   where
-    by : (k : Bool) → begins_request first ≡ k → (step_lines lines ≡ [] → Parts (lines ++ line ∷ []) (requests lines ++ line ∷ []) [])
-        → Parts (first ∷ (lines ++ line ∷ [])) (requests (first ∷ lines) ++ line ∷ []) []
+    by : (k : Bool) → begins_request first ≡ k → (step_lines lines ≡ [] → Sorted (lines ++ line ∷ []) (requests lines ++ line ∷ []) [])
+        → Sorted (first ∷ (lines ++ line ∷ [])) (requests (first ∷ lines) ++ line ∷ []) []
     by true k more =
         rw (requests_are first lines k)
         (behind_request first (lines ++ line ∷ []) (requests lines ++ line ∷ []) [] k (more (sym (steps_are first lines k) ∙ none)))
@@ -78,7 +78,7 @@ one_request (first ∷ lines) line none b = by (begins_request first) refl (λ l
 abbrev IsBehind : List (List ℕ) → List ℕ → Type 0
 IsBehind lines line = (begins_request line ≡ false) ⊎ (step_lines lines ≡ [] → ⊥)
 
-one_step_line : (lines : List (List ℕ)) (line : List ℕ) → IsBehind lines line → Parts (lines ++ line ∷ []) (requests lines) (step_lines lines ++ line ∷ [])
+one_step_line : (lines : List (List ℕ)) (line : List ℕ) → IsBehind lines line → Sorted (lines ++ line ∷ []) (requests lines) (step_lines lines ++ line ∷ [])
 one_step_line [] line (inl b) = record { calls_are = rw b refl; steps_are = rw b refl }
 one_step_line [] line (inr some) = absurd (some refl)
 one_step_line (first ∷ lines) line behind = by (begins_request first) refl (λ less. one_step_line lines line less)
@@ -87,8 +87,8 @@ one_step_line (first ∷ lines) line behind = by (begins_request first) refl (λ
     further k (inl b) = inl b
     further k (inr some) = inr (λ none. some (steps_are first lines k ∙ none))
 
-    by : (k : Bool) → begins_request first ≡ k → (IsBehind lines line → Parts (lines ++ line ∷ []) (requests lines) (step_lines lines ++ line ∷ []))
-        → Parts (first ∷ (lines ++ line ∷ [])) (requests (first ∷ lines)) (step_lines (first ∷ lines) ++ line ∷ [])
+    by : (k : Bool) → begins_request first ≡ k → (IsBehind lines line → Sorted (lines ++ line ∷ []) (requests lines) (step_lines lines ++ line ∷ []))
+        → Sorted (first ∷ (lines ++ line ∷ [])) (requests (first ∷ lines)) (step_lines (first ∷ lines) ++ line ∷ [])
     by true k more =
         rw (requests_are first lines k, steps_are first lines k)
         (behind_request first (lines ++ line ∷ []) (requests lines) (step_lines lines ++ line ∷ []) k (more (further k behind)))

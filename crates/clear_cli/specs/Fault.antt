@@ -1,79 +1,13 @@
--- The faults of the program, and the lines that tell them on standard error.
-use Rattle.std.specs.Prelude.{◌≡◌, ℕ, ◌<◌, ◌⊎◌, Bool, true, List, [], ◌∷◌, ◌++◌, length, take, codes, decimal}
-use Rattle.house_program.specs.declared.start_fault.StartFault.{StartFault}
-use Rattle.house_program.specs.declared.start_fault.StartFault.TheVariants as start
-use Rattle.ocpi_json.specs.Name.{key_text}
-use Rattle.ocpi_types.specs.declared.config.reading.ConfigFault.{ConfigFault}
-use Rattle.ocpi_types.specs.declared.config.reading.ConfigFault.TheVariants.{Syntax, Member, NoMemory as ConfigNoMemory}
-use Rattle.request_lines.specs.declared.faults.ScriptFault.{ScriptFault}
-use Rattle.request_lines.specs.declared.faults.ScriptFault.TheVariants.{Read, Write, NoMemory as ScriptNoMemory, LineTooLong as ScriptLineTooLong}
+-- Faults of a house that does not finish and of what is not written, and lines on standard error.
+use Rattle.std.specs.Prelude.{◌≡◌, ℕ, List, [], ◌∷◌}
+use Rattle.request_lines.specs.Streams.{Writing}
 use Rattle.shared_house.specs.declared.finishing.FinishFault.{FinishFault}
 use Rattle.shared_house.specs.declared.finishing.FinishFault.TheVariants as finish
-use Rattle.clear_cli.specs.declared.fault.Fault.{Fault}
-use Rattle.clear_cli.specs.declared.fault.Fault.TheVariants.{Usage, ConfigSyntax, ConfigMember, CannotRead, CannotReadInput, CannotWrite, EarlierStatements, LineTooLong, ScheduleLine, FinishMissingPass, FinishTorn, NoMemory}
+use Rattle.command_line.specs.Fault.{IsTold}
+use Rattle.command_line.specs.declared.fault.Fault.{Fault}
+use Rattle.command_line.specs.declared.fault.Fault.TheVariants.{CannotWrite, FinishMissingPass, FinishTorn, NoMemory}
 use Rattle.clear_cli.specs.declared.schedule_text.WriteFault.{WriteFault}
 use Rattle.clear_cli.specs.declared.schedule_text.WriteFault.TheVariants as write
-
--- ---- one fault
-
-abbrev pub cannot_read_text : List ℕ → List ℕ
-cannot_read_text path = codes "cannot read " ++ (path ++ codes "\n")
-
--- a fault's text, to the end of its line
-abbrev pub fault_text : Fault → List ℕ
-fault_text Usage = codes "usage\n"
-fault_text ConfigSyntax = codes "config: syntax\n"
-fault_text (ConfigMember called) = codes "config: " ++ (key_text called ++ codes "\n")
-fault_text (CannotRead path) = cannot_read_text path.now
-fault_text CannotReadInput = codes "cannot read -\n"
-fault_text CannotWrite = codes "cannot write\n"
-fault_text (EarlierStatements folder) = codes "statements of an earlier run in " ++ (folder.now ++ codes "\n")
-fault_text (LineTooLong line) = codes "line " ++ (decimal line ++ codes " is too long\n")
-fault_text (ScheduleLine line) = codes "schedule: line " ++ (decimal line ++ codes "\n")
-fault_text FinishMissingPass = codes "finish: missing pass\n"
-fault_text (FinishTorn entry) = codes "finish: torn at " ++ (decimal entry ++ codes "\n")
-fault_text NoMemory = codes "no memory\n"
-
-abbrev pub fault_line : Fault → List ℕ
-fault_line fault = codes "clear: " ++ fault_text fault
-
--- the line of a fault of the file of this number, from 1
-abbrev pub file_line : ℕ → List ℕ → List ℕ
-file_line number text = codes "clear: file " ++ (decimal number ++ (codes ": " ++ text))
-
--- the exit status at a fault
-abbrev pub exit_status : Fault → ℕ
-exit_status Usage = 2
-exit_status ConfigSyntax = 1
-exit_status (ConfigMember called) = 1
-exit_status (CannotRead path) = 1
-exit_status CannotReadInput = 1
-exit_status CannotWrite = 1
-exit_status (EarlierStatements folder) = 1
-exit_status (LineTooLong line) = 1
-exit_status (ScheduleLine line) = 1
-exit_status FinishMissingPass = 1
-exit_status (FinishTorn entry) = 1
-exit_status NoMemory = 1
-
--- the fault of words or a file that keep the program from its work
-abbrev pub start_fault : StartFault → Fault
-start_fault start.Usage = Usage
-start_fault (start.CannotRead path) = CannotRead path
-start_fault start.NoMemory = NoMemory
-
--- the fault of bytes that are no configuration
-abbrev pub config_fault : ConfigFault → Fault
-config_fault Syntax = ConfigSyntax
-config_fault (Member called) = ConfigMember called
-config_fault ConfigNoMemory = NoMemory
-
--- the fault of a script
-abbrev pub script_fault : ScriptFault → Fault
-script_fault Read = CannotReadInput
-script_fault (Write written) = CannotWrite
-script_fault ScriptNoMemory = NoMemory
-script_fault (ScriptLineTooLong line) = LineTooLong line
 
 -- the fault of a house that does not finish
 abbrev pub finish_fault : FinishFault → Fault
@@ -86,16 +20,8 @@ abbrev pub write_fault : WriteFault → Fault
 write_fault write.Write = CannotWrite
 write_fault write.NoMemory = NoMemory
 
--- ---- on standard error
-
--- the sink took the whole line, or failed within it
-abbrev pub IsTold : {S : Type 0} → (S → List ℕ → S → Type 0) → (S → Bool) → S → List ℕ → S → Type 0
-IsTold takes failed sink line sink' =
-    (takes sink line sink' × (failed sink' ≡ failed sink))
-    ⊎ ((sent : ℕ) × (sent < length line) × takes sink (take sent line) sink' × (failed sink' ≡ true))
-
 -- the lines were told in turn, and nothing else
-abbrev pub AreTold : {S : Type 0} → (S → List ℕ → S → Type 0) → (S → Bool) → S → List (List ℕ) → S → Type 0
-AreTold takes failed sink [] sink' = sink' ≡ sink
-AreTold takes failed sink (line ∷ lines) sink' =
-    (between : _) × IsTold takes failed sink line between × AreTold takes failed between lines sink'
+abbrev pub AreTold : {S : Type 0} → Writing S → S → List (List ℕ) → S → Type 0
+AreTold writing sink [] sink' = sink' ≡ sink
+AreTold writing sink (line ∷ lines) sink' =
+    (between : _) × IsTold writing sink line between × AreTold writing between lines sink'

@@ -1,21 +1,28 @@
 -- Files in a folder.
-use Rattle.std.specs.Prelude.{◌≡◌, ◌≢◌, ◌<◌, ◌⊎◌, ℕ, Bool, true, List, [], ◌∷◌, ◌++◌, All, length, take}
+use Rattle.std.specs.Prelude.{◌≡◌, ◌≢◌, ◌<◌, ◌⊎◌, ℕ, true, List, [], ◌∷◌, ◌++◌, All, length, take}
+use Rattle.request_lines.specs.Streams.{Writing}
 use Rattle.clear_cli.specs.declared.files.FileId.{FileId}
 use Rattle.clear_cli.specs.declared.schedule_text.WriteFault.{WriteFault}
 use Rattle.clear_cli.specs.declared.schedule_text.WriteFault.TheVariants.{NoMemory, Write}
 
--- What a folder and its files tell of themselves. `makes before name file after`: the new file of this name. `refuses before name
--- after`: there is none. `takes before bytes after`: calls took these bytes.
-pub record FolderWords (O V : Type 0) : Type 1 where
+-- What a folder states of itself. `makes before name file after`: it made the new file of this name. `refuses before name after`: it
+-- made none.
+pub record Making (O V : Type 0) : Type 1 where
   pub makes : O → List ℕ → V → O → Type 0
   pub refuses : O → List ℕ → O → Type 0
-  pub takes : V → List ℕ → V → Type 0
-  pub failed : V → Bool
+
+-- what a folder and its files state of themselves
+pub record FolderWords (O V : Type 0) : Type 1 where
+  pub making : Making O V
+  pub writing : Writing V
+
+abbrev pub folder_words : {O V : Type 0} → Making O V → Writing V → FolderWords O V
+folder_words making writing = record { making = making; writing = writing }
 
 -- there is no new file of this name: it could not be made, or there was no memory and it was not begun
-abbrev pub IsUnmade : {O : Type 0} → (O → List ℕ → O → Type 0) → List ℕ → O → O → WriteFault → Type 0
-IsUnmade refuses name folder folder' Write = refuses folder name folder'
-IsUnmade refuses name folder folder' NoMemory = folder' ≡ folder
+abbrev pub IsUnmade : {O V : Type 0} → Making O V → List ℕ → O → O → WriteFault → Type 0
+IsUnmade making name folder folder' Write = making.refuses folder name folder'
+IsUnmade making name folder folder' NoMemory = folder' ≡ folder
 
 -- a file, by its name and its text
 pub record Output : Type 0 where
@@ -26,9 +33,9 @@ pub record Output : Type 0 where
 pub record IsFileWritten {O V : Type 0} (words : FolderWords O V) (output : Output) (folder folder' : O) : Type 0 where
   pub file : V
   pub file' : V
-  pub made : words.makes folder output.name file folder'
-  pub took : words.takes file output.text file'
-  pub kept : words.failed file' ≡ words.failed file
+  pub made : words.making.makes folder output.name file folder'
+  pub took : words.writing.takes file output.text file'
+  pub kept : words.writing.failed file' ≡ words.writing.failed file
 
 -- these files were written in turn
 abbrev pub AreWritten : {O V : Type 0} → FolderWords O V → List Output → O → O → Type 0
@@ -40,15 +47,15 @@ AreWritten words (output ∷ outputs) folder folder' =
 pub record FailsInFile {O V : Type 0} (words : FolderWords O V) (output : Output) (folder folder' : O) : Type 0 where
   pub file : V
   pub file' : V
-  pub made : words.makes folder output.name file folder'
+  pub made : words.making.makes folder output.name file folder'
   pub sent : ℕ
   pub some_left : sent < length output.text
-  pub took : words.takes file (take sent output.text) file'
-  pub has_failed : words.failed file' ≡ true
+  pub took : words.writing.takes file (take sent output.text) file'
+  pub has_failed : words.writing.failed file' ≡ true
 
 -- the file was not written: it could not be made or failed, or there was no memory and it was not begun
 abbrev pub IsFileLeft : {O V : Type 0} → FolderWords O V → Output → O → O → WriteFault → Type 0
-IsFileLeft words output folder folder' Write = words.refuses folder output.name folder' ⊎ FailsInFile words output folder folder'
+IsFileLeft words output folder folder' Write = words.making.refuses folder output.name folder' ⊎ FailsInFile words output folder folder'
 IsFileLeft words output folder folder' NoMemory = folder' ≡ folder
 
 -- the files before one were written, and that one was not

@@ -1,7 +1,6 @@
 -- Words that private contracts and proofs alone use.
 pub mod Commands
 pub mod Making
-pub mod Parts
 pub mod ReadingFile
 pub mod RecordLists
 pub mod Running

@@ -1,13 +1,18 @@
 -- How the files of a run are opened, and their answer files made.
-use Rattle.std.specs.Prelude.{◌≡◌, ℕ, suc, List, [], ◌∷◌, ◌++◌, codes, decimal, flat_map, Option, Some, None}
+use Rattle.std.specs.Prelude.{◌≡◌, ℕ, suc, List, [], ◌∷◌, ◌++◌, codes, decimal, flat_map, Option, Some, None, String, string_bytes}
+use Rattle.std.proofs.Common.{Global}
 use Rattle.clear_cli.specs.declared.schedule_text.WriteFault.{WriteFault}
-use Rattle.clear_cli.specs.Fault.{cannot_read_text, fault_text, file_line, write_fault}
+use Rattle.command_line.specs.Fault.{cannot_read_text, fault_text, file_line}
+use Rattle.clear_cli.specs.Fault.{write_fault}
 use Rattle.clear_cli.specs.Folder.{FolderWords, IsUnmade}
 
 -- a file that is to be answered: its path and, where it could be opened, its reader
 pub record GivenFile (I : Type 0) : Type 0 where
   pub path : List ℕ
   pub reader : Option I
+
+abbrev pub given_file : {I : Type 0} → String Global × Option I → GivenFile I
+given_file file = record { path = string_bytes file.0; reader = file.1 }
 
 -- what becomes of a file: it could not be opened, or there is no answer file for this cause, or it has a reader and an answer file
 pub data Fate (I V : Type 0) : Type 0 where
@@ -30,9 +35,9 @@ HasFate words number None folder Unopened folder' = folder' ≡ folder
 HasFate words number None folder (Unmade cause) folder' = ⊥
 HasFate words number None folder (Opened reader answers) folder' = ⊥
 HasFate words number (Some given) folder Unopened folder' = ⊥
-HasFate words number (Some given) folder (Unmade cause) folder' = IsUnmade words.refuses (answers_name number) folder folder' cause
+HasFate words number (Some given) folder (Unmade cause) folder' = IsUnmade words.making (answers_name number) folder folder' cause
 HasFate words number (Some given) folder (Opened reader answers) folder' =
-    (reader ≡ given) × words.makes folder (answers_name number) answers folder'
+    (reader ≡ given) × words.making.makes folder (answers_name number) answers folder'
 
 abbrev pub unopened_line : {I : Type 0} → ℕ → List ℕ → Option I → List (List ℕ)
 unopened_line number path None = file_line number (cannot_read_text path) ∷ []

@@ -1,53 +1,41 @@
 -- How the program answers the files of a run.
-use Rattle.std.specs.Prelude.{◌≡◌, ◌≢◌, ◌⊎◌, ℕ, Bool, List, [], ◌∷◌, ◌++◌, codes, decimal, length, Ok, Err}
+use Rattle.std.specs.Prelude.{◌≡◌, ◌≢◌, ◌⊎◌, ℕ, List, [], ◌∷◌, ◌++◌, codes, decimal, length, Ok, Err}
 use Rattle.ocpi_types.specs.declared.config.Config.{Config}
 use Rattle.plain_house.specs.declared.event.Event.{Event}
 use Rattle.plain_house.specs.Entries.{period_of}
 use Rattle.request_lines.specs.declared.faults.ScriptFault.{ScriptFault}
 use Rattle.request_lines.specs.declared.faults.ScriptFault.TheVariants as script
+use Rattle.request_lines.specs.Streams.{Reading, Writing}
 use Rattle.shared_house.specs.declared.finishing.FinishFault.{FinishFault}
-use Rattle.shared_house.specs.declared.made.Made.{Made}
+use Rattle.shared_house.specs.declared.call.Call.{Call}
 use Rattle.shared_house.specs.Finished.{IsFinished}
 use Rattle.platform_workers.specs.declared.jobs.WorkerEnd.{WorkerEnd}
 use Rattle.platform_workers.specs.declared.jobs.WorkerEnd.TheVariants.{Done, Failed}
-use Rattle.platform_workers.specs.Workers.{Streams}
-use Rattle.clear_cli.specs.declared.fault.Fault.{Fault}
-use Rattle.clear_cli.specs.declared.fault.Fault.TheVariants.{CannotWrite, LineTooLong, NoMemory}
+use Rattle.platform_workers.specs.Workers.{Streams, streams_of}
+use Rattle.command_line.specs.declared.fault.Fault.{Fault}
+use Rattle.command_line.specs.declared.fault.Fault.TheVariants.{CannotWrite, LineTooLong, NoMemory}
 use Rattle.clear_cli.specs.declared.schedule_text.WriteFault.{WriteFault}
 use Rattle.clear_cli.specs.Differences.{difference_count}
-use Rattle.clear_cli.specs.Fault.{cannot_read_text, fault_line, fault_text, file_line, finish_fault, write_fault}
-use Rattle.clear_cli.specs.Folder.{AreLeft, AreWritten, FolderWords}
+use Rattle.command_line.specs.Fault.{cannot_read_text, fault_line, fault_text, file_line}
+use Rattle.clear_cli.specs.Fault.{finish_fault, write_fault}
+use Rattle.clear_cli.specs.Folder.{AreLeft, AreWritten, FolderWords, Making, folder_words}
 use Rattle.clear_cli.specs.HouseRun.{HaveWorked, IsUnfinished}
 use Rattle.clear_cli.specs.Opening.{AreOpened, GivenFile, PlainNamed}
 use Rattle.clear_cli.specs.Outputs.{outputs}
 use Rattle.clear_cli.specs.ScheduleWritten.{StopsWriting}
-use Rattle.clear_cli.specs.Script.{reading}
+use Rattle.clear_cli.specs.Script.{config_or_fault}
 
--- What readers, folders, files and writers tell of themselves. `gives before calls bytes after`: so many calls gave these bytes.
--- `makes before name file after`: the new file of this name. `refuses before name after`: there is none. `takes before bytes
--- after` of a file and `writes before bytes after` of a writer: calls took these bytes.
+-- what readers, a folder and its files, and a writer state of themselves
 pub record RunWords (I O V W : Type 0) : Type 1 where
-  pub gives : I → ℕ → List ℕ → I → Type 0
-  pub at_end : I → Type 0
-  pub reader_failed : I → Bool
-  pub makes : O → List ℕ → V → O → Type 0
-  pub refuses : O → List ℕ → O → Type 0
-  pub takes : V → List ℕ → V → Type 0
-  pub file_failed : V → Bool
-  pub writes : W → List ℕ → W → Type 0
-  pub writer_failed : W → Bool
+  pub reading : Reading I
+  pub folder : FolderWords O V
+  pub writing : Writing W
 
-abbrev pub folder_words : {I O V W : Type 0} → RunWords I O V W → FolderWords O V
-folder_words words = record { makes = words.makes; refuses = words.refuses; takes = words.takes; failed = words.file_failed }
+abbrev pub run_words : {I O V W : Type 0} → Reading I → Making O V → Writing V → Writing W → RunWords I O V W
+run_words reading making answers writing = record { reading = reading; folder = folder_words making answers; writing = writing }
 
 abbrev pub worker_streams : {I O V W : Type 0} → RunWords I O V W → Streams I V
-worker_streams words = record {
-  gives = words.gives;
-  at_end = words.at_end;
-  reader_failed = words.reader_failed;
-  takes = words.takes;
-  writer_failed = words.file_failed;
-}
+worker_streams words = streams_of words.reading words.folder.writing
 
 -- the files of a run, the folder and the writer before and after it, and the pairs of a reader and an answer file that came back,
 -- as no worker began with them
@@ -58,6 +46,10 @@ pub record Run (I O V W : Type 0) : Type 0 where
   pub folder' : O
   pub writer : W
   pub writer' : W
+
+abbrev pub run_of : {I O V W : Type 0} → List (GivenFile I) → List (I × V) → O → O → W → W → Run I O V W
+run_of files unanswered folder folder' writer writer' =
+    record { files = files; unanswered = unanswered; folder = folder; folder' = folder'; writer = writer; writer' = writer' }
 
 -- ---- lines
 
@@ -87,8 +79,8 @@ abbrev pub counts_of : Config → List Event → List ℕ
 counts_of config events = counts_text (length events) (period_of events) (difference_count config events)
 
 -- the writer took the line
-abbrev pub IsLineWritten : {W : Type 0} → (W → List ℕ → W → Type 0) → (W → Bool) → List ℕ → W → W → Type 0
-IsLineWritten writes failed line writer writer' = writes writer line writer' × (failed writer' ≡ failed writer)
+abbrev pub IsLineWritten : {W : Type 0} → Writing W → List ℕ → W → W → Type 0
+IsLineWritten writing line writer writer' = writing.takes writer line writer' × (writing.failed writer' ≡ writing.failed writer)
 
 -- ---- the stages
 
@@ -96,51 +88,51 @@ IsLineWritten writes failed line writer writer' = writes writer line writer' × 
 -- were told
 pub record AreOnlyOpened {I O V W : Type 0} (words : RunWords I O V W) (run : Run I O V W) (lines : List (List ℕ)) : Type 0 where
   pub named : List PlainNamed
-  pub opened : AreOpened (folder_words words) run.files run.folder run.folder' named run.unanswered lines
+  pub opened : AreOpened words.folder run.files run.folder run.folder' named run.unanswered lines
   pub writer_is : run.writer' ≡ run.writer
 
 -- the files were opened, and the lines of those that are answered were answered by workers of one house, whose passes have these
 -- calls; these lines were told, and this is the folder then
-pub record AreAnswered {I O V W : Type 0} (words : RunWords I O V W) (config : Config) (run : Run I O V W) (folder : O) (calls : List (List Made)) (lines : List (List ℕ)) : Type 0 where
+pub record AreAnswered {I O V W : Type 0} (words : RunWords I O V W) (config : Config) (run : Run I O V W) (folder : O) (calls : List (List Call)) (lines : List (List ℕ)) : Type 0 where
   pub named : List PlainNamed
   pub pairs : List (I × V)
   pub before : List (List ℕ)
-  pub opened : AreOpened (folder_words words) run.files run.folder folder named pairs before
+  pub opened : AreOpened words.folder run.files run.folder folder named pairs before
   pub ends : List WorkerEnd
   pub worked : HaveWorked (worker_streams words) config pairs ends calls
   pub lines_are : lines ≡ before ++ worker_lines named ends
   pub none_left : run.unanswered ≡ []
 
 -- the house finished with these calls, and its files and the last line are written
-pub record IsEnded {O V W : Type 0} (words : FolderWords O V) (writes : W → List ℕ → W → Type 0) (failed : W → Bool) (config : Config) (calls : List (List Made)) (folder folder' : O) (writer writer' : W) : Type 0 where
+pub record IsEnded {O V W : Type 0} (words : FolderWords O V) (writing : Writing W) (config : Config) (calls : List (List Call)) (folder folder' : O) (writer writer' : W) : Type 0 where
   pub events : List Event
   pub finished : IsFinished config calls events
   pub written : AreWritten words (outputs config events) folder folder'
-  pub counted : IsLineWritten writes failed (counts_of config events) writer writer'
+  pub counted : IsLineWritten writing (counts_of config events) writer writer'
 
 -- the files are answered, and the house ended; these lines were told
 pub record IsRun {I O V W : Type 0} (words : RunWords I O V W) (config : Config) (run : Run I O V W) (lines : List (List ℕ)) : Type 0 where
   pub folder : O
-  pub calls : List (List Made)
+  pub calls : List (List Call)
   pub answered : AreAnswered words config run folder calls lines
-  pub ended : IsEnded (folder_words words) words.writes words.writer_failed config calls folder run.folder' run.writer run.writer'
+  pub ended : IsEnded words.folder words.writing config calls folder run.folder' run.writer run.writer'
 
 -- and no line was told: each file was opened, its answer file was made, and its worker was done
 pub record IsDone {I O V W : Type 0} (words : RunWords I O V W) (run : Run I O V W) (file : List ℕ) : Type 0 where
   pub config : Config
-  pub reads : reading file ≡ Ok config
+  pub reads : config_or_fault file ≡ Ok config
   pub is_run : IsRun words config run []
 
 -- ---- faults
 
 -- the house did not finish, and nothing is written
-pub record IsLeftUnfinished (config : Config) (calls : List (List Made)) (fault : Fault) : Type 0 where
+pub record IsLeftUnfinished (config : Config) (calls : List (List Call)) (fault : Fault) : Type 0 where
   pub cause : FinishFault
   pub fault_is : fault ≡ finish_fault cause
   pub unfinished : IsUnfinished config calls cause
 
 -- the house finished, and not all its files are written
-pub record FilesAreLeft {O V : Type 0} (words : FolderWords O V) (config : Config) (calls : List (List Made)) (folder folder' : O) (fault : Fault) : Type 0 where
+pub record FilesAreLeft {O V : Type 0} (words : FolderWords O V) (config : Config) (calls : List (List Call)) (folder folder' : O) (fault : Fault) : Type 0 where
   pub events : List Event
   pub finished : IsFinished config calls events
   pub cause : WriteFault
@@ -148,30 +140,30 @@ pub record FilesAreLeft {O V : Type 0} (words : FolderWords O V) (config : Confi
   pub left : AreLeft words (outputs config events) folder folder' cause
 
 -- the last line is not written: there is no memory, or the writer failed within it
-abbrev pub IsLineLeft : {W : Type 0} → (W → List ℕ → W → Type 0) → (W → Bool) → List ℕ → W → W → Fault → Type 0
-IsLineLeft writes failed line writer writer' fault =
-    ((fault ≡ NoMemory) × (writer' ≡ writer)) ⊎ ((fault ≡ CannotWrite) × StopsWriting writes failed line writer writer')
+abbrev pub IsLineLeft : {W : Type 0} → Writing W → List ℕ → W → W → Fault → Type 0
+IsLineLeft writing line writer writer' fault =
+    ((fault ≡ NoMemory) × (writer' ≡ writer)) ⊎ ((fault ≡ CannotWrite) × StopsWriting writing line writer writer')
 
 -- the house's files are written, and the last line is not
-pub record CountsAreLeft {O V W : Type 0} (words : FolderWords O V) (writes : W → List ℕ → W → Type 0) (failed : W → Bool) (config : Config) (calls : List (List Made)) (folder folder' : O) (writer writer' : W) (fault : Fault) : Type 0 where
+pub record CountsAreLeft {O V W : Type 0} (words : FolderWords O V) (writing : Writing W) (config : Config) (calls : List (List Call)) (folder folder' : O) (writer writer' : W) (fault : Fault) : Type 0 where
   pub events : List Event
   pub finished : IsFinished config calls events
   pub written : AreWritten words (outputs config events) folder folder'
-  pub left : IsLineLeft writes failed (counts_of config events) writer writer' fault
+  pub left : IsLineLeft writing (counts_of config events) writer writer' fault
 
 -- the house did not end
-abbrev pub IsLeftOpen : {O V W : Type 0} → FolderWords O V → (W → List ℕ → W → Type 0) → (W → Bool) → Config → List (List Made) → O → O → W → W → Fault → Type 0
-IsLeftOpen words writes failed config calls folder folder' writer writer' fault =
+abbrev pub IsLeftOpen : {O V W : Type 0} → FolderWords O V → Writing W → Config → List (List Call) → O → O → W → W → Fault → Type 0
+IsLeftOpen words writing config calls folder folder' writer writer' fault =
     ((folder' ≡ folder) × (writer' ≡ writer) × IsLeftUnfinished config calls fault)
     ⊎ (((writer' ≡ writer) × FilesAreLeft words config calls folder folder' fault)
-    ⊎ CountsAreLeft words writes failed config calls folder folder' writer writer' fault)
+    ⊎ CountsAreLeft words writing config calls folder folder' writer writer' fault)
 
 -- the files are answered, and the house did not end; these lines were told before the fault
 pub record IsCutShort {I O V W : Type 0} (words : RunWords I O V W) (config : Config) (run : Run I O V W) (lines : List (List ℕ)) (fault : Fault) : Type 0 where
   pub folder : O
-  pub calls : List (List Made)
+  pub calls : List (List Call)
   pub answered : AreAnswered words config run folder calls lines
-  pub left : IsLeftOpen (folder_words words) words.writes words.writer_failed config calls folder run.folder' run.writer run.writer' fault
+  pub left : IsLeftOpen words.folder words.writing config calls folder run.folder' run.writer run.writer' fault
 
 -- nothing is done, and no line was told
 pub record IsUntouched {I O V W : Type 0} (run : Run I O V W) (lines : List (List ℕ)) : Type 0 where
@@ -192,7 +184,7 @@ NoneIsAnswered words run lines = AreOnlyOpened words run lines × (run.unanswere
 -- the configuration reads, and these lines were told in all
 pub record FailsUnder {I O V W : Type 0} (words : RunWords I O V W) (run : Run I O V W) (file : List ℕ) (lines : List (List ℕ)) : Type 0 where
   pub config : Config
-  pub reads : reading file ≡ Ok config
+  pub reads : config_or_fault file ≡ Ok config
   pub ended : NoneIsAnswered words run lines ⊎ ((IsRun words config run lines × (lines ≢ []))
       ⊎ ((before : List (List ℕ)) × (fault : Fault) × StopsBy words config run before fault × (lines ≡ before ++ fault_line fault ∷ [])))
 
@@ -201,7 +193,7 @@ pub record IsRefused {I O V W : Type 0} (run : Run I O V W) (file : List ℕ) (l
   pub fault : Fault
   pub folder_is : run.folder' ≡ run.folder
   pub writer_is : run.writer' ≡ run.writer
-  pub reads : fault ≢ NoMemory → reading file ≡ Err fault
+  pub reads : fault ≢ NoMemory → config_or_fault file ≡ Err fault
   pub lines_are : lines ≡ fault_line fault ∷ []
 
 -- these lines were told in all

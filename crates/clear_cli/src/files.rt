@@ -2,8 +2,7 @@
 
 ghost use Rattle.std.specs.Prelude.{◌≡◌, IfErr};
 
-use crate::fault::Fault;
-use house_program::read_start;
+use command_line::{Fault, read_start};
 use std::fs::{self, File, Metadata};
 use std::io::{self, ErrorKind};
 use std::os::unix::fs::MetadataExt;
@@ -68,12 +67,12 @@ pub fn open_known(rt: &HostRuntime, path: &str) -> Result<Option<KnownFile>, Fau
     }
 }
 
-/// Reads the start of the configuration of this path, as `house_program::read_config` does, and identifies its file.
+/// Reads the start of the configuration of this path, as `command_line::read_config` does, and identifies its file.
 pub fn read_known_config<'a>(
     rt: &HostRuntime,
     path: &'a str,
 ) -> Result<(Vec<u8>, FileId), Fault<'a>> {
-    let file = house_program::open_file(rt, path)?;
+    let file = command_line::open_file(rt, path)?;
     let Some(KnownFile { file, id }) = if_opened(known(file))? else {
         return Err(Fault::CannotRead { path });
     };

@@ -1,8 +1,8 @@
 //! The house of a run.
 
 ghost use Rattle.std.specs.Prelude.{◌≡◌, ◌≤◌, List, [], All, IfErr, IfOk, MatchResult, length, map, vec_capacity, vec_len};
-ghost use Rattle.platform_workers.specs.Workers.{Streams};
-ghost use Rattle.shared_house.specs.declared.made.Made.{Made};
+ghost use Rattle.platform_workers.specs.Workers.{streams_of};
+ghost use Rattle.shared_house.specs.declared.call.Call.{Call};
 ghost use Rattle.shared_house.specs.Finished.{IsFinished};
 ghost use Rattle.shared_house.specs.Names.{IsLedgerOf};
 ghost use Rattle.clear_cli.specs.HouseRun.{HaveWorked, IsUnfinished};
@@ -107,13 +107,7 @@ where
     N::Events: Send + Sync,
     requires len { vec_len passes ≡ vec_len pairs }
     requires fresh { All (λ pass. pass.calls ≡ []) passes.items }
-    ensures worked { let streams : Streams I V = record {
-      gives = I.gives;
-      at_end = I.at_end;
-      reader_failed = I.failed;
-      takes = V.takes;
-      writer_failed = V.failed;
-    } in IfOk result (λ ended. HaveWorked streams N.BookEntries.config pairs.items ended.ends.items (map (λ pass. pass.calls) ended.passes.items)) }
+    ensures worked { IfOk result (λ ended. HaveWorked (streams_of I.reading V.writing) N.BookEntries.config pairs.items ended.ends.items (map (λ pass. pass.calls) ended.passes.items)) }
     ensures len { IfOk result (λ ended. (vec_len ended.passes ≡ vec_len passes) × (vec_len ended.ends ≡ vec_len pairs)) }
     ensures passes_kept { IfErr result (λ unchanged. unchanged.passes.items ≡ passes.items) }
     ensures pairs_kept { IfErr result (λ unchanged. unchanged.pairs.items ≡ pairs.items) }
@@ -151,13 +145,7 @@ where
     requires pass_parts { N.Events.all ≡ N.Events.parts }
     requires passes { (vec_len passes ≡ N.Events.all) × (vec_len passes ≡ vec_len pairs) }
     requires fresh { All (λ pass. pass.calls ≡ []) passes.items }
-    ensures worked { let streams : Streams I V = record {
-      gives = I.gives;
-      at_end = I.at_end;
-      reader_failed = I.failed;
-      takes = V.takes;
-      writer_failed = V.failed;
-    } in IfOk result (λ run. (calls : List (List Made)) × HaveWorked streams N.BookEntries.config pairs.items run.ends.items calls
+    ensures worked { IfOk result (λ run. (calls : List (List Call)) × HaveWorked (streams_of I.reading V.writing) N.BookEntries.config pairs.items run.ends.items calls
         × MatchResult run.finished (λ events. IsFinished N.BookEntries.config calls events.items) (λ fault. IsUnfinished N.BookEntries.config calls fault)) }
     ensures len { IfOk result (λ run. vec_len run.ends ≡ vec_len pairs) }
     ensures kept { IfErr result (λ unchanged. unchanged.items ≡ pairs.items) }
@@ -193,13 +181,7 @@ fn work_under<
     requires account_entries { IsLedgerOf blanks.account_entries A.name A.parts A.all (length config.providers) }
     requires account_amounts { IsLedgerOf blanks.account_amounts Y.name Y.parts Y.all (length config.providers) }
     requires events { IsLedgerOf blanks.events E.name E.parts E.all (vec_len pairs) }
-    ensures worked { let streams : Streams I V = record {
-      gives = I.gives;
-      at_end = I.at_end;
-      reader_failed = I.failed;
-      takes = V.takes;
-      writer_failed = V.failed;
-    } in IfOk result (λ run. (calls : List (List Made)) × HaveWorked streams config pairs.items run.ends.items calls
+    ensures worked { IfOk result (λ run. (calls : List (List Call)) × HaveWorked (streams_of I.reading V.writing) config pairs.items run.ends.items calls
         × MatchResult run.finished (λ events. IsFinished config calls events.items) (λ fault. IsUnfinished config calls fault)) }
     ensures len { IfOk result (λ run. vec_len run.ends ≡ vec_len pairs) }
     ensures kept { IfErr result (λ unchanged. unchanged.items ≡ pairs.items) }
@@ -224,13 +206,7 @@ pub fn run_house<I: Source + Drop + Send, V: Sink + Drop + Send, R: Threads + Wa
     config: Config,
     pairs: Vec<(I, V)>,
 ) -> Result<HouseRun, Vec<(I, V)>>
-    ensures worked { let streams : Streams I V = record {
-      gives = I.gives;
-      at_end = I.at_end;
-      reader_failed = I.failed;
-      takes = V.takes;
-      writer_failed = V.failed;
-    } in IfOk result (λ run. (calls : List (List Made)) × HaveWorked streams config pairs.items run.ends.items calls
+    ensures worked { IfOk result (λ run. (calls : List (List Call)) × HaveWorked (streams_of I.reading V.writing) config pairs.items run.ends.items calls
         × MatchResult run.finished (λ events. IsFinished config calls events.items) (λ fault. IsUnfinished config calls fault)) }
     ensures len { IfOk result (λ run. vec_len run.ends ≡ vec_len pairs) }
     ensures kept { IfErr result (λ unchanged. unchanged.items ≡ pairs.items) }

@@ -19,9 +19,8 @@ mod script;
 mod step_line;
 mod words;
 
-use fault::{Fault, tell};
+use command_line::{Errors, Fault, Output, given_words, read_config, tell};
 use files::{FileId, open_file, open_known, read_known_config};
-use house_program::{Errors, Output, given_words, read_config};
 use out_folder::{OutFolder, refuse_folder};
 use request_lines::Device;
 use run::run;
@@ -161,7 +160,7 @@ fn told(rt: &HostRuntime, fault: &Fault<'_>) -> ExitCode {
 fn main(rt: HostRuntime) -> ExitCode {
     let words = match given_words(&rt) {
         Ok(words) => words,
-        Err(fault) => return told(&rt, &Fault::from(fault)),
+        Err(fault) => return told(&rt, &fault),
     };
     match perform(&rt, &rt, words.as_slice()) {
         Ok(status) => status,

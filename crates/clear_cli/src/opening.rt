@@ -2,14 +2,14 @@
 
 ghost use Rattle.std.specs.Prelude.{◌≡◌, ◌<◌, ◌≤◌, ◌+◌, ℕ, List, [], Some, IfErr, IfOk, OnErr, length, map, string_bytes, vec_capacity, vec_len};
 ghost use Rattle.clear_cli.specs.Fault.{AreTold};
-ghost use Rattle.clear_cli.specs.Folder.{FolderWords, IsUnmade};
+ghost use Rattle.clear_cli.specs.Folder.{IsUnmade, folder_words};
 ghost use Rattle.clear_cli.specs.Inner.Making.{AreMade, IsMade};
-ghost use Rattle.clear_cli.specs.Opening.{AreOpened, answers_name, unopened_line, unopened_lines};
+ghost use Rattle.clear_cli.specs.Opening.{AreOpened, answers_name, given_file, unopened_line, unopened_lines};
 
-use crate::fault::{Fault, tell_of_file};
 use crate::folder::Folder;
 use crate::schedule_text::WriteFault;
 use arrayvec::ArrayString;
+use command_line::{Fault, tell_of_file};
 use itoa::Buffer;
 use request_lines::{Sink, Source};
 use std::alloc::{AllocError, Global};
@@ -61,7 +61,7 @@ fn tell_if_unopened<I: Source + Drop, F: Sink>(
     path: &str,
     reader: &Option<I>,
 )
-    ensures { AreTold F.takes F.failed faults.old (unopened_line number path.now reader.now) faults.new }
+    ensures { AreTold F.writing faults.old (unopened_line number path.now reader.now) faults.new }
 {
     if reader.is_none() {
         tell_of_file(faults, number, &Fault::CannotRead { path });
@@ -70,7 +70,7 @@ fn tell_if_unopened<I: Source + Drop, F: Sink>(
 
 // Tells which files could not be opened.
 fn tell_unopened<I: Source + Drop, F: Sink>(faults: &mut F, files: &[(String, Option<I>)])
-    ensures { AreTold F.takes F.failed faults.old (unopened_lines 1 (map (λ file. record { path = string_bytes file.0; reader = file.1 }) files.now)) faults.new }
+    ensures { AreTold F.writing faults.old (unopened_lines 1 (map given_file files.now)) faults.new }
 {
     let mut number = 0;
     for (path, reader) in files {
@@ -81,8 +81,8 @@ fn tell_unopened<I: Source + Drop, F: Sink>(faults: &mut F, files: &[(String, Op
 
 // The answer file of the file of this number.
 fn make_answers<O: Folder>(folder: &mut O, number: u64) -> Result<O::File, WriteFault>
-    ensures made { IfOk result (λ file. O.makes folder.old (answers_name number) file folder.new) }
-    ensures unmade { IfErr result (λ fault. IsUnmade O.refuses (answers_name number) folder.old folder.new fault) }
+    ensures made { IfOk result (λ file. O.making.makes folder.old (answers_name number) file folder.new) }
+    ensures unmade { IfErr result (λ fault. IsUnmade O.making (answers_name number) folder.old folder.new fault) }
 {
     let mut digits = Buffer::new();
     let mut name: ArrayString<64> = ArrayString::new();
@@ -117,12 +117,7 @@ fn add_answered<I: Source + Drop, O: Folder, F: Sink>(
 )
     requires named { vec_len opened.old.named < vec_capacity opened.old.named }
     requires pairs { vec_len opened.old.pairs < vec_capacity opened.old.pairs }
-    ensures added { let words : FolderWords O O.File = record {
-      makes = O.makes;
-      refuses = O.refuses;
-      takes = O.File.takes;
-      failed = O.File.failed;
-    } in IsMade words F.takes F.failed number (string_bytes path) (Some reader) folder.old folder.new opened.old.named.items opened.new.named.items opened.old.pairs.items opened.new.pairs.items faults.old faults.new }
+    ensures added { IsMade (folder_words O.making O.File.writing) F.writing number (string_bytes path) (Some reader) folder.old folder.new opened.old.named.items opened.new.named.items opened.old.pairs.items opened.new.pairs.items faults.old faults.new }
     ensures places { (vec_capacity opened.new.named ≡ vec_capacity opened.old.named) × (vec_capacity opened.new.pairs ≡ vec_capacity opened.old.pairs) }
     ensures fewer { (vec_len opened.new.named ≤ vec_len opened.old.named + 1) × (vec_len opened.new.pairs ≤ vec_len opened.old.pairs + 1) }
     ensures even { vec_len opened.old.named ≡ vec_len opened.old.pairs → vec_len opened.new.named ≡ vec_len opened.new.pairs }
@@ -147,12 +142,7 @@ fn add_file<I: Source + Drop, O: Folder, F: Sink>(
 )
     requires named { vec_len opened.old.named < vec_capacity opened.old.named }
     requires pairs { vec_len opened.old.pairs < vec_capacity opened.old.pairs }
-    ensures added { let words : FolderWords O O.File = record {
-      makes = O.makes;
-      refuses = O.refuses;
-      takes = O.File.takes;
-      failed = O.File.failed;
-    } in IsMade words F.takes F.failed number (string_bytes path) reader folder.old folder.new opened.old.named.items opened.new.named.items opened.old.pairs.items opened.new.pairs.items faults.old faults.new }
+    ensures added { IsMade (folder_words O.making O.File.writing) F.writing number (string_bytes path) reader folder.old folder.new opened.old.named.items opened.new.named.items opened.old.pairs.items opened.new.pairs.items faults.old faults.new }
     ensures places { (vec_capacity opened.new.named ≡ vec_capacity opened.old.named) × (vec_capacity opened.new.pairs ≡ vec_capacity opened.old.pairs) }
     ensures fewer { (vec_len opened.new.named ≤ vec_len opened.old.named + 1) × (vec_len opened.new.pairs ≤ vec_len opened.old.pairs + 1) }
     ensures even { vec_len opened.old.named ≡ vec_len opened.old.pairs → vec_len opened.new.named ≡ vec_len opened.new.pairs }
@@ -171,12 +161,7 @@ fn add_all<I: Source + Drop, O: Folder, F: Sink>(
 )
     requires empty { (opened.old.named.items ≡ []) × (opened.old.pairs.items ≡ []) }
     requires places { (vec_len files ≤ vec_capacity opened.old.named) × (vec_len files ≤ vec_capacity opened.old.pairs) }
-    ensures made { let words : FolderWords O O.File = record {
-      makes = O.makes;
-      refuses = O.refuses;
-      takes = O.File.takes;
-      failed = O.File.failed;
-    } in AreMade words F.takes F.failed (map (λ file. record { path = string_bytes file.0; reader = file.1 }) files.items) folder.old folder.new opened.new.named.items opened.new.pairs.items faults.old faults.new }
+    ensures made { AreMade (folder_words O.making O.File.writing) F.writing (map given_file files.items) folder.old folder.new opened.new.named.items opened.new.pairs.items faults.old faults.new }
     ensures even { vec_len opened.new.named ≡ vec_len opened.new.pairs }
 {
     let mut number = 0;
@@ -196,14 +181,9 @@ pub fn open<I: Source + Drop, O: Folder, F: Sink>(
     faults: &mut F,
     files: Vec<(String, Option<I>)>,
 ) -> Result<Opened<I, O::File>, AllocError>
-    ensures opened { let words : FolderWords O O.File = record {
-      makes = O.makes;
-      refuses = O.refuses;
-      takes = O.File.takes;
-      failed = O.File.failed;
-    } in IfOk result (λ opened. (lines : List (List ℕ))
-        × AreOpened words (map (λ file. record { path = string_bytes file.0; reader = file.1 }) files.items) folder.old folder.new opened.named.items opened.pairs.items lines
-        × AreTold F.takes F.failed faults.old lines faults.new) }
+    ensures opened { IfOk result (λ opened. (lines : List (List ℕ))
+        × AreOpened (folder_words O.making O.File.writing) (map given_file files.items) folder.old folder.new opened.named.items opened.pairs.items lines
+        × AreTold F.writing faults.old lines faults.new) }
     ensures even { IfOk result (λ opened. vec_len opened.named ≡ vec_len opened.pairs) }
     ensures refused { OnErr result ((folder.new ≡ folder.old) × (faults.new ≡ faults.old)) }
 {

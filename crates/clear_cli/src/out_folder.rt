@@ -3,13 +3,13 @@
 ghost use Rattle.std.specs.Prelude.{◌≡◌, ◌≢◌, ◌↔◌, ◌⊎◌, [], true, IfErr, IfOk, Ok, Err};
 ghost use Rattle.clear_cli.specs.Folder.{IsNoneOf};
 ghost use Rattle.clear_cli.specs.Outputs.{IsStatementName};
-ghost use Rattle.clear_cli.specs.Script.{reading};
+ghost use Rattle.clear_cli.specs.Script.{config_or_fault};
 
-use crate::fault::Fault;
 use crate::files::{FileId, KnownFile, known};
 use crate::folder::Folder;
 use crate::schedule_text::WriteFault;
 use crate::script::read_config;
+use command_line::Fault;
 use request_lines::Device;
 use std::fs::{self, File, OpenOptions};
 use std::io::{self, Error, ErrorKind};
@@ -107,9 +107,10 @@ impl Folder for OutFolder<'_> {
 
     type File = Device<File>;
 
-    ghost makes = { λ recorded _ _ recorded'. (id : _) × (recorded' ≡ recorded ++ id ∷ []) };
-
-    ghost refuses = { λ recorded _ recorded'. recorded' ≡ recorded };
+    ghost making = { record {
+      makes = λ recorded _ _ recorded'. (id : _) × (recorded' ≡ recorded ++ id ∷ []);
+      refuses = λ recorded _ recorded'. recorded' ≡ recorded;
+    } };
 
     fn make(&mut self, name: &str) -> Result<Device<File>, WriteFault> {
         let folder = self.path;
@@ -179,8 +180,8 @@ fn check_folder<'a>(rt: &HostRuntime, path: &'a str) -> Result<(), Fault<'a>>
 /// and `EarlierStatements` if the folder has a file that is named like a statement. `NoMemory` if an allocation fails.
 pub fn refuse_folder<'a>(rt: &HostRuntime, config: &[u8], path: &'a str) -> Result<(), Fault<'a>>
     ensures named { IfOk result (λ _. path.now ≢ []) }
-    ensures faults { IfErr result (λ fault. fault ≢ Fault.NoMemory → (reading config.now ≡ Err fault)
-        ⊎ ((read : _) × (reading config.now ≡ Ok read) × ((fault ≡ Fault.CannotWrite) ⊎ (fault ≡ Fault.EarlierStatements path.entry)))) }
+    ensures faults { IfErr result (λ fault. fault ≢ Fault.NoMemory → (config_or_fault config.now ≡ Err fault)
+        ⊎ ((read : _) × (config_or_fault config.now ≡ Ok read) × ((fault ≡ Fault.CannotWrite) ⊎ (fault ≡ Fault.EarlierStatements path.entry)))) }
 {
     match check_folder(rt, path) {
         Ok(()) => Ok(()),

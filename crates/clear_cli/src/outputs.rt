@@ -6,7 +6,7 @@ ghost use Rattle.netting_positions.specs.Statement.{statement_rows};
 ghost use Rattle.plain_house.specs.Entries.{book_entries, period_of};
 ghost use Rattle.plain_house.specs.Legal.{IsLegal};
 ghost use Rattle.plain_house.specs.Obligations.{obligations};
-ghost use Rattle.clear_cli.specs.Folder.{AreLeft, AreWritten, FolderWords, IsFileLeft, IsFileWritten};
+ghost use Rattle.clear_cli.specs.Folder.{AreLeft, AreWritten, IsFileLeft, IsFileWritten, folder_words};
 ghost use Rattle.clear_cli.specs.Inner.Stated.{CanBeStated};
 ghost use Rattle.clear_cli.specs.Outputs.{IsStatementName, order_output, outputs, statement_name, statement_output, statements};
 
@@ -53,18 +53,8 @@ fn write_one<O: Folder>(
     party: &Party,
 ) -> Result<(), WriteFault>
     requires { CanBeStated config.now owed.now }
-    ensures ok { let words : FolderWords O O.File = record {
-      makes = O.makes;
-      refuses = O.refuses;
-      takes = O.File.takes;
-      failed = O.File.failed;
-    } in OnOk result (IsFileWritten words (statement_output owed.now period party.now) folder.old folder.new) }
-    ensures err { let words : FolderWords O O.File = record {
-      makes = O.makes;
-      refuses = O.refuses;
-      takes = O.File.takes;
-      failed = O.File.failed;
-    } in IfErr result (λ fault. IsFileLeft words (statement_output owed.now period party.now) folder.old folder.new fault) }
+    ensures ok { OnOk result (IsFileWritten (folder_words O.making O.File.writing) (statement_output owed.now period party.now) folder.old folder.new) }
+    ensures err { IfErr result (λ fault. IsFileLeft (folder_words O.making O.File.writing) (statement_output owed.now period party.now) folder.old folder.new fault) }
 {
     let name = statement_name(alloc, period, party)?;
     let text = statement(alloc, config, owed, party)?;
@@ -81,18 +71,8 @@ fn write_statements<O: Folder>(
     parties: &[Party],
 ) -> Result<(), WriteFault>
     requires { CanBeStated config.now owed.now }
-    ensures ok { let words : FolderWords O O.File = record {
-      makes = O.makes;
-      refuses = O.refuses;
-      takes = O.File.takes;
-      failed = O.File.failed;
-    } in OnOk result (AreWritten words (map (statement_output owed.now period) parties.now) folder.old folder.new) }
-    ensures err { let words : FolderWords O O.File = record {
-      makes = O.makes;
-      refuses = O.refuses;
-      takes = O.File.takes;
-      failed = O.File.failed;
-    } in IfErr result (λ fault. AreLeft words (map (statement_output owed.now period) parties.now) folder.old folder.new fault) }
+    ensures ok { OnOk result (AreWritten (folder_words O.making O.File.writing) (map (statement_output owed.now period) parties.now) folder.old folder.new) }
+    ensures err { IfErr result (λ fault. AreLeft (folder_words O.making O.File.writing) (map (statement_output owed.now period) parties.now) folder.old folder.new fault) }
 {
     for party in parties {
         write_one(alloc, config, owed, folder, period, party)?;
@@ -110,18 +90,8 @@ fn write_period<O: Folder>(
     parties: &[Party],
 ) -> Result<(), WriteFault>
     requires { CanBeStated config.now (obligations 0 (book_entries events.now)) }
-    ensures ok { let words : FolderWords O O.File = record {
-      makes = O.makes;
-      refuses = O.refuses;
-      takes = O.File.takes;
-      failed = O.File.failed;
-    } in OnOk result (AreWritten words (map (statement_output (obligations 0 (book_entries events.now)) period) parties.now) folder.old folder.new) }
-    ensures err { let words : FolderWords O O.File = record {
-      makes = O.makes;
-      refuses = O.refuses;
-      takes = O.File.takes;
-      failed = O.File.failed;
-    } in IfErr result (λ fault. AreLeft words (map (statement_output (obligations 0 (book_entries events.now)) period) parties.now) folder.old folder.new fault) }
+    ensures ok { OnOk result (AreWritten (folder_words O.making O.File.writing) (map (statement_output (obligations 0 (book_entries events.now)) period) parties.now) folder.old folder.new) }
+    ensures err { IfErr result (λ fault. AreLeft (folder_words O.making O.File.writing) (map (statement_output (obligations 0 (book_entries events.now)) period) parties.now) folder.old folder.new fault) }
 {
     if parties.is_empty() {
         return Ok(());
@@ -140,18 +110,8 @@ fn write_periods<O: Folder>(
     periods: u64,
 ) -> Result<(), WriteFault>
     requires { IsLegal config.now events.now }
-    ensures ok { let words : FolderWords O O.File = record {
-      makes = O.makes;
-      refuses = O.refuses;
-      takes = O.File.takes;
-      failed = O.File.failed;
-    } in OnOk result (AreWritten words (statements events.now parties.now periods) folder.old folder.new) }
-    ensures err { let words : FolderWords O O.File = record {
-      makes = O.makes;
-      refuses = O.refuses;
-      takes = O.File.takes;
-      failed = O.File.failed;
-    } in IfErr result (λ fault. AreLeft words (statements events.now parties.now periods) folder.old folder.new fault) }
+    ensures ok { OnOk result (AreWritten (folder_words O.making O.File.writing) (statements events.now parties.now periods) folder.old folder.new) }
+    ensures err { IfErr result (λ fault. AreLeft (folder_words O.making O.File.writing) (statements events.now parties.now periods) folder.old folder.new fault) }
 {
     config.is_bounded();
     legal_lists_can_be_netted();
@@ -169,18 +129,8 @@ fn write_order_file<O: Folder>(
     events: &[Event],
     folder: &mut O,
 ) -> Result<(), WriteFault>
-    ensures ok { let words : FolderWords O O.File = record {
-      makes = O.makes;
-      refuses = O.refuses;
-      takes = O.File.takes;
-      failed = O.File.failed;
-    } in OnOk result (IsFileWritten words (order_output events.now) folder.old folder.new) }
-    ensures err { let words : FolderWords O O.File = record {
-      makes = O.makes;
-      refuses = O.refuses;
-      takes = O.File.takes;
-      failed = O.File.failed;
-    } in IfErr result (λ fault. IsFileLeft words (order_output events.now) folder.old folder.new fault) }
+    ensures ok { OnOk result (IsFileWritten (folder_words O.making O.File.writing) (order_output events.now) folder.old folder.new) }
+    ensures err { IfErr result (λ fault. IsFileLeft (folder_words O.making O.File.writing) (order_output events.now) folder.old folder.new fault) }
 {
     let text = write_order(alloc, events)?;
     write_file(folder, "order.csv", text.as_slice())
@@ -195,18 +145,8 @@ pub fn write_outputs<O: Folder>(
 ) -> Result<u64, WriteFault>
     requires { IsLegal config.now events.now }
     ensures periods { IfOk result (λ periods. periods ≡ period_of events.now) }
-    ensures ok { let words : FolderWords O O.File = record {
-      makes = O.makes;
-      refuses = O.refuses;
-      takes = O.File.takes;
-      failed = O.File.failed;
-    } in OnOk result (AreWritten words (outputs config.now events.now) folder.old folder.new) }
-    ensures err { let words : FolderWords O O.File = record {
-      makes = O.makes;
-      refuses = O.refuses;
-      takes = O.File.takes;
-      failed = O.File.failed;
-    } in IfErr result (λ fault. AreLeft words (outputs config.now events.now) folder.old folder.new fault) }
+    ensures ok { OnOk result (AreWritten (folder_words O.making O.File.writing) (outputs config.now events.now) folder.old folder.new) }
+    ensures err { IfErr result (λ fault. AreLeft (folder_words O.making O.File.writing) (outputs config.now events.now) folder.old folder.new fault) }
 {
     let parties = parties_of(alloc, config)?;
     let periods = period_of(events);

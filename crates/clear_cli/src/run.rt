@@ -4,24 +4,27 @@ ghost use Rattle.std.specs.Prelude.{◌≡◌, ◌↔◌, ◌⊎◌, ◌≤◌, 
 ghost use denote.Param.Send.{IsSync};
 ghost use Rattle.plain_house.specs.Entries.{period_of};
 ghost use Rattle.plain_house.specs.Legal.{IsLegal};
-ghost use Rattle.shared_house.specs.declared.made.Made.{Made};
+ghost use Rattle.shared_house.specs.declared.call.Call.{Call};
 ghost use Rattle.shared_house.specs.Finished.{IsFinished};
-ghost use Rattle.clear_cli.specs.Fault.{AreTold, exit_status, fault_text};
+ghost use Rattle.command_line.specs.Fault.{exit_status, fault_text};
+ghost use Rattle.clear_cli.specs.Fault.{AreTold};
 ghost use Rattle.clear_cli.specs.Differences.{difference_count};
-ghost use Rattle.clear_cli.specs.Folder.{AreLeft, AreWritten, FolderWords};
+ghost use Rattle.clear_cli.specs.Folder.{AreLeft, AreWritten, folder_words};
 ghost use Rattle.clear_cli.specs.HouseRun.{IsUnfinished};
 ghost use Rattle.clear_cli.specs.Inner.Running.{HasNotBegun, HasWorked, RunsUnder};
+ghost use Rattle.clear_cli.specs.Opening.{given_file};
 ghost use Rattle.clear_cli.specs.Outputs.{outputs};
-ghost use Rattle.clear_cli.specs.Run.{Fails, IsDone, IsEnded, IsLeftOpen, IsLineLeft, IsLineWritten, Run, RunWords, counts_text, worker_line, worker_lines, worker_text};
+ghost use Rattle.clear_cli.specs.Run.{Fails, IsDone, IsEnded, IsLeftOpen, IsLineLeft, IsLineWritten, counts_text, run_of, run_words, worker_line, worker_lines, worker_text};
 
 use crate::differences::difference_count;
-use crate::fault::{Fault, tell, tell_of_file};
+use crate::fault::finish_fault;
 use crate::folder::Folder;
 use crate::house_run::{HouseRun, run_house};
 use crate::opening::{Named, Opened, open};
 use crate::outputs::write_outputs;
 use crate::schedule_text::WriteFault;
 use crate::script::read_config;
+use command_line::{Fault, tell, tell_of_file};
 use ocpi_types::{Config, TryCopy};
 use plain_house::Event;
 use platform_workers::WorkerEnd;
@@ -54,7 +57,7 @@ fn worker_fault<'a>(path: &'a str, fault: ScriptFault) -> Fault<'a>
 
 // Whether a worker was done. If it failed, that is told.
 fn tell_if_failed<F: Sink>(faults: &mut F, named: &Named, end: WorkerEnd) -> bool
-    ensures told { AreTold F.takes F.failed faults.old (worker_line named.now end) faults.new }
+    ensures told { AreTold F.writing faults.old (worker_line named.now end) faults.new }
     ensures done { (result ≡ true) ↔ (worker_line named.now end ≡ []) }
 {
     match end {
@@ -70,7 +73,7 @@ fn tell_if_failed<F: Sink>(faults: &mut F, named: &Named, end: WorkerEnd) -> boo
 // Whether all workers were done. Those that failed are told.
 fn tell_failed<F: Sink>(faults: &mut F, named: &[Named], ends: &[WorkerEnd]) -> bool
     requires { length named.now ≡ length ends.now }
-    ensures told { AreTold F.takes F.failed faults.old (worker_lines named.now ends.now) faults.new }
+    ensures told { AreTold F.writing faults.old (worker_lines named.now ends.now) faults.new }
     ensures done { (result ≡ true) ↔ (worker_lines named.now ends.now ≡ []) }
 {
     let mut are_done = true;
@@ -93,8 +96,8 @@ fn counts_text(
 }
 
 fn write_text<W: Sink>(writer: &mut W, text: &str) -> Result<(), Fault<'static>>
-    ensures written { MatchResult result (λ _. IsLineWritten W.takes W.failed text.now writer.old writer.new)
-        (λ fault. IsLineLeft W.takes W.failed text.now writer.old writer.new fault) }
+    ensures written { MatchResult result (λ _. IsLineWritten W.writing text.now writer.old writer.new)
+        (λ fault. IsLineLeft W.writing text.now writer.old writer.new fault) }
     ensures status { IfErr result (λ fault. exit_status fault ≡ 1) }
 {
     match write_all(writer, text.as_bytes()) {
@@ -114,13 +117,8 @@ fn rate_and_write<R: Threads + Sync, O: Folder>(
     requires { IsLegal config.now events.now }
     ensures rated { IfOk result.0 (λ count. count ≡ difference_count config.now events.now) }
     ensures periods { IfOk result.1 (λ periods. periods ≡ period_of events.now) }
-    ensures written { let words : FolderWords O O.File = record {
-      makes = O.makes;
-      refuses = O.refuses;
-      takes = O.File.takes;
-      failed = O.File.failed;
-    } in MatchResult result.1 (λ _. AreWritten words (outputs config.now events.now) folder.old folder.new)
-        (λ fault. AreLeft words (outputs config.now events.now) folder.old folder.new fault) }
+    ensures written { MatchResult result.1 (λ _. AreWritten (folder_words O.making O.File.writing) (outputs config.now events.now) folder.old folder.new)
+        (λ fault. AreLeft (folder_words O.making O.File.writing) (outputs config.now events.now) folder.old folder.new fault) }
 {
     let mut rate = || -> Result<u128, AllocError>
         requires { IsSync R.row }
@@ -129,13 +127,8 @@ fn rate_and_write<R: Threads + Sync, O: Folder>(
     let mut write = || -> Result<u64, WriteFault>
         requires { IsLegal config.now events.now }
         ensures periods { IfOk result (λ periods. periods ≡ period_of events.entry.now) }
-        ensures written { let words : FolderWords O O.File = record {
-          makes = O.makes;
-          refuses = O.refuses;
-          takes = O.File.takes;
-          failed = O.File.failed;
-        } in MatchResult result (λ _. AreWritten words (outputs config.entry.now events.entry.now) folder.entry.now folder.exit.now)
-            (λ fault. AreLeft words (outputs config.entry.now events.entry.now) folder.entry.now folder.exit.now fault) }
+        ensures written { MatchResult result (λ _. AreWritten (folder_words O.making O.File.writing) (outputs config.entry.now events.entry.now) folder.entry.now folder.exit.now)
+            (λ fault. AreLeft (folder_words O.making O.File.writing) (outputs config.entry.now events.entry.now) folder.entry.now folder.exit.now fault) }
     { write_outputs(alloc, config, events, folder) };
     thread::join_mut(rt, &mut rate, &mut write)
 }
@@ -150,14 +143,9 @@ fn write_end<R: Threads + Sync, O: Folder, W: Sink>(
     writer: &mut W,
 ) -> Result<(), Fault<'static>>
     requires { IsLegal config.now events.now }
-    ensures ended { let words : FolderWords O O.File = record {
-      makes = O.makes;
-      refuses = O.refuses;
-      takes = O.File.takes;
-      failed = O.File.failed;
-    } in (calls : List (List Made)) → IsFinished config.now calls events.now →
-        MatchResult result (λ _. IsEnded words W.takes W.failed config.now calls folder.old folder.new writer.old writer.new)
-        (λ fault. IsLeftOpen words W.takes W.failed config.now calls folder.old folder.new writer.old writer.new fault) }
+    ensures ended { (calls : List (List Call)) → IsFinished config.now calls events.now →
+        MatchResult result (λ _. IsEnded (folder_words O.making O.File.writing) W.writing config.now calls folder.old folder.new writer.old writer.new)
+        (λ fault. IsLeftOpen (folder_words O.making O.File.writing) W.writing config.now calls folder.old folder.new writer.old writer.new fault) }
     ensures status { IfErr result (λ fault. exit_status fault ≡ 1) }
 {
     let (differences, written) = rate_and_write(rt, alloc, config, events, folder);
@@ -176,15 +164,10 @@ fn end_house<R: Threads + Sync, O: Folder, W: Sink>(
     writer: &mut W,
 ) -> Result<(), Fault<'static>>
     requires { IfOk finished (λ events. IsLegal config.now events.items) }
-    ensures ended { let words : FolderWords O O.File = record {
-      makes = O.makes;
-      refuses = O.refuses;
-      takes = O.File.takes;
-      failed = O.File.failed;
-    } in (calls : List (List Made)) →
+    ensures ended { (calls : List (List Call)) →
         MatchResult finished (λ events. IsFinished config.now calls events.items) (λ fault. IsUnfinished config.now calls fault) →
-        MatchResult result (λ _. IsEnded words W.takes W.failed config.now calls folder.old folder.new writer.old writer.new)
-        (λ fault. IsLeftOpen words W.takes W.failed config.now calls folder.old folder.new writer.old writer.new fault) }
+        MatchResult result (λ _. IsEnded (folder_words O.making O.File.writing) W.writing config.now calls folder.old folder.new writer.old writer.new)
+        (λ fault. IsLeftOpen (folder_words O.making O.File.writing) W.writing config.now calls folder.old folder.new writer.old writer.new fault) }
     ensures status { IfErr result (λ fault. exit_status fault ≡ 1) }
 {
     match finished {
@@ -194,7 +177,7 @@ fn end_house<R: Threads + Sync, O: Folder, W: Sink>(
             mem::forget(events);
             ended
         }
-        Err(fault) => Err(Fault::from(fault)),
+        Err(fault) => Err(finish_fault(fault)),
     }
 }
 
@@ -210,18 +193,8 @@ fn run_opened<R: Threads + Wait + Sync, I: Source + Drop + Send, O: Folder, W: S
     faults: &mut F,
 ) -> (Result<bool, Fault<'static>>, Vec<(I, O::File)>)
     requires { vec_len opened.named ≡ vec_len opened.pairs }
-    ensures ended { let words : RunWords I O O.File W = record {
-      gives = I.gives;
-      at_end = I.at_end;
-      reader_failed = I.failed;
-      makes = O.makes;
-      refuses = O.refuses;
-      takes = O.File.takes;
-      file_failed = O.File.failed;
-      writes = W.takes;
-      writer_failed = W.failed;
-    } in HasNotBegun opened.pairs.items result.1.items folder.old folder.new writer.old writer.new faults.old faults.new result.0
-        ⊎ HasWorked words F.takes F.failed config.now opened.named.items opened.pairs.items result.1.items folder.old folder.new writer.old writer.new faults.old faults.new result.0 }
+    ensures ended { HasNotBegun opened.pairs.items result.1.items folder.old folder.new writer.old writer.new faults.old faults.new result.0
+        ⊎ HasWorked (run_words I.reading O.making O.File.writing W.writing) F.writing config.now opened.named.items opened.pairs.items result.1.items folder.old folder.new writer.old writer.new faults.old faults.new result.0 }
     ensures status { IfErr result.0 (λ fault. exit_status fault ≡ 1) }
 {
     let Opened { named, pairs } = opened;
@@ -256,24 +229,8 @@ fn run_under<R: Threads + Wait + Sync, I: Source + Drop + Send, O: Folder, W: Si
     writer: &mut W,
     faults: &mut F,
 ) -> (Result<bool, Fault<'static>>, Vec<(I, O::File)>)
-    ensures ended { let words : RunWords I O O.File W = record {
-      gives = I.gives;
-      at_end = I.at_end;
-      reader_failed = I.failed;
-      makes = O.makes;
-      refuses = O.refuses;
-      takes = O.File.takes;
-      file_failed = O.File.failed;
-      writes = W.takes;
-      writer_failed = W.failed;
-    } in let run : Run I O O.File W = record {
-      files = map (λ file. record { path = string_bytes file.0; reader = file.1 }) files.items;
-      unanswered = result.1.items;
-      folder = folder.old;
-      folder' = folder.new;
-      writer = writer.old;
-      writer' = writer.new;
-    } in RunsUnder words F.takes F.failed config.now run faults.old faults.new result.0 }
+    ensures ended { RunsUnder (run_words I.reading O.making O.File.writing W.writing) F.writing config.now
+        (run_of (map given_file files.items) result.1.items folder.old folder.new writer.old writer.new) faults.old faults.new result.0 }
     ensures status { IfErr result.0 (λ fault. exit_status fault ≡ 1) }
 {
     let count = files.len();
@@ -303,44 +260,12 @@ pub fn run<R: Threads + Wait + Sync, I: Source + Drop + Send, O: Folder, W: Sink
     faults: &mut F,
 ) -> RunEnd<I, O::File>
     ensures status { result.status ≤ 1 }
-    ensures done { let words : RunWords I O O.File W = record {
-      gives = I.gives;
-      at_end = I.at_end;
-      reader_failed = I.failed;
-      makes = O.makes;
-      refuses = O.refuses;
-      takes = O.File.takes;
-      file_failed = O.File.failed;
-      writes = W.takes;
-      writer_failed = W.failed;
-    } in let run : Run I O O.File W = record {
-      files = map (λ file. record { path = string_bytes file.0; reader = file.1 }) files.items;
-      unanswered = result.unanswered.items;
-      folder = folder.old;
-      folder' = folder.new;
-      writer = writer.old;
-      writer' = writer.new;
-    } in result.status ≡ 0 → IsDone words run config.now }
+    ensures done { result.status ≡ 0 → IsDone (run_words I.reading O.making O.File.writing W.writing)
+        (run_of (map given_file files.items) result.unanswered.items folder.old folder.new writer.old writer.new) config.now }
     ensures silent { result.status ≡ 0 → faults.new ≡ faults.old }
-    ensures fault { let words : RunWords I O O.File W = record {
-      gives = I.gives;
-      at_end = I.at_end;
-      reader_failed = I.failed;
-      makes = O.makes;
-      refuses = O.refuses;
-      takes = O.File.takes;
-      file_failed = O.File.failed;
-      writes = W.takes;
-      writer_failed = W.failed;
-    } in let run : Run I O O.File W = record {
-      files = map (λ file. record { path = string_bytes file.0; reader = file.1 }) files.items;
-      unanswered = result.unanswered.items;
-      folder = folder.old;
-      folder' = folder.new;
-      writer = writer.old;
-      writer' = writer.new;
-    } in result.status ≡ 1 → (lines : List (List ℕ)) × Fails words run config.now lines
-        × AreTold F.takes F.failed faults.old lines faults.new }
+    ensures fault { result.status ≡ 1 → (lines : List (List ℕ)) × Fails (run_words I.reading O.making O.File.writing W.writing)
+        (run_of (map given_file files.items) result.unanswered.items folder.old folder.new writer.old writer.new) config.now lines
+        × AreTold F.writing faults.old lines faults.new }
 {
     let config = match read_config(alloc, config) {
         Ok(config) => config,

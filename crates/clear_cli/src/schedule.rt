@@ -2,16 +2,16 @@
 
 ghost use Rattle.std.specs.Prelude.{◌≡◌, ◌≤◌, All, IfErr, MatchResult, OnOk, Some};
 ghost use Rattle.cdr_checks.specs.Admission.{IsAdmitted};
-ghost use Rattle.clear_cli.specs.declared.fault.Fault.{Fault as FaultValue};
-ghost use Rattle.clear_cli.specs.Fault.{IsTold, exit_status, fault_line};
-ghost use Rattle.clear_cli.specs.Inner.UnderConfig.{IsCutFor, IsLeftUnwritten, IsReplayedUnder};
-ghost use Rattle.clear_cli.specs.Schedule.{Fails, FailsUnder, FileStreams, IsReplayed, IsWritten, schedule_fault};
+ghost use Rattle.command_line.specs.declared.fault.Fault.{Fault as FaultValue};
+ghost use Rattle.command_line.specs.Fault.{IsTold, exit_status, fault_line};
+ghost use Rattle.clear_cli.specs.Inner.UnderConfig.{IsCutFor, IsLeftUnwritten, Replays, ReplaysUnder};
+ghost use Rattle.clear_cli.specs.Schedule.{Fails, IsReplayed, IsWritten, file_streams_of, schedule_fault};
 ghost use Rattle.clear_cli.specs.ScheduleText.{trace_text};
 
-use crate::fault::{Fault, tell};
 use crate::schedule_file::{Schedule, ScheduleFault, read_schedule};
 use crate::schedule_text::write_trace;
 use crate::script::read_config;
+use command_line::{Fault, tell};
 use house_core::{Finished, replay};
 use ocpi_types::Config;
 use request_lines::{Sink, Source};
@@ -24,9 +24,9 @@ fn write_finished<W: Sink>(
     writer: &mut W,
     finished: &[Finished],
 ) -> Result<(), Fault<'static>>
-    ensures ok { OnOk result (W.takes writer.old (trace_text config.now finished.now) writer.new) }
-    ensures kept { OnOk result (W.failed writer.new ≡ W.failed writer.old) }
-    ensures err { IfErr result (λ fault. IsCutFor W.takes W.failed config.now finished.now writer.old writer.new fault) }
+    ensures ok { OnOk result (W.writing.takes writer.old (trace_text config.now finished.now) writer.new) }
+    ensures kept { OnOk result (W.writing.failed writer.new ≡ W.writing.failed writer.old) }
+    ensures err { IfErr result (λ fault. IsCutFor W.writing config.now finished.now writer.old writer.new fault) }
     ensures status { IfErr result (λ fault. exit_status fault ≡ 1) }
 {
     write_trace(alloc, config, writer, finished)?;
@@ -41,8 +41,8 @@ fn replay_onto<W: Sink>(
     writer: &mut W,
 ) -> Result<(), Fault<'static>>
     requires admitted { All (IsAdmitted config.now) schedule.commands }
-    ensures ended { MatchResult result (λ _. IsWritten W.takes W.failed config.now schedule writer.old writer.new)
-        (λ fault. IsLeftUnwritten W.takes W.failed config.now schedule writer.old writer.new fault) }
+    ensures ended { MatchResult result (λ _. IsWritten W.writing config.now schedule writer.old writer.new)
+        (λ fault. IsLeftUnwritten W.writing config.now schedule writer.old writer.new fault) }
     ensures status { IfErr result (λ fault. exit_status fault ≡ 1) }
 {
     let Schedule { commands, steps } = schedule;
@@ -68,16 +68,7 @@ fn replay_read<'a, R: Source, W: Sink>(
     reader: &mut R,
     writer: &mut W,
 ) -> Result<(), Fault<'a>>
-    ensures ended { let streams : FileStreams R W = record {
-      gives = R.gives;
-      at_end = R.at_end;
-      reader_failed = R.failed;
-      takes = W.takes;
-      writer_failed = W.failed;
-      given = Some reader.old;
-      writer = writer.old;
-      writer' = writer.new;
-    } in MatchResult result (λ _. IsReplayedUnder streams config.now) (λ fault. FailsUnder streams path.entry config.now fault) }
+    ensures ended { ReplaysUnder (file_streams_of R.reading W.writing (Some reader.old) writer.old writer.new) path.entry config.now result }
     ensures status { IfErr result (λ fault. exit_status fault ≡ 1) }
 {
     match read_schedule(alloc, config, reader) {
@@ -94,16 +85,7 @@ fn replay_given<'a, R: Source + Drop, W: Sink>(
     reader: Option<R>,
     writer: &mut W,
 ) -> Result<(), Fault<'a>>
-    ensures ended { let streams : FileStreams R W = record {
-      gives = R.gives;
-      at_end = R.at_end;
-      reader_failed = R.failed;
-      takes = W.takes;
-      writer_failed = W.failed;
-      given = reader;
-      writer = writer.old;
-      writer' = writer.new;
-    } in MatchResult result (λ _. IsReplayedUnder streams config.now) (λ fault. FailsUnder streams path.entry config.now fault) }
+    ensures ended { ReplaysUnder (file_streams_of R.reading W.writing reader writer.old writer.new) path.entry config.now result }
     ensures status { IfErr result (λ fault. exit_status fault ≡ 1) }
 {
     match reader {
@@ -119,16 +101,7 @@ fn replay_file<'a, R: Source + Drop, W: Sink>(
     reader: Option<R>,
     writer: &mut W,
 ) -> Result<(), Fault<'a>>
-    ensures ended { let streams : FileStreams R W = record {
-      gives = R.gives;
-      at_end = R.at_end;
-      reader_failed = R.failed;
-      takes = W.takes;
-      writer_failed = W.failed;
-      given = reader;
-      writer = writer.old;
-      writer' = writer.new;
-    } in MatchResult result (λ _. IsReplayed streams file.now) (λ fault. Fails streams path.entry file.now fault) }
+    ensures ended { Replays (file_streams_of R.reading W.writing reader writer.old writer.new) path.entry file.now result }
     ensures status { IfErr result (λ fault. exit_status fault ≡ 1) }
 {
     let config = read_config(alloc, file)?;
@@ -146,28 +119,11 @@ pub fn schedule<R: Source + Drop, W: Sink, F: Sink>(
     faults: &mut F,
 ) -> u8
     ensures status { result ≤ 1 }
-    ensures done { let streams : FileStreams R W = record {
-      gives = R.gives;
-      at_end = R.at_end;
-      reader_failed = R.failed;
-      takes = W.takes;
-      writer_failed = W.failed;
-      given = reader;
-      writer = writer.old;
-      writer' = writer.new;
-    } in result ≡ 0 → IsReplayed streams config.now }
+    ensures done { result ≡ 0 → IsReplayed (file_streams_of R.reading W.writing reader writer.old writer.new) config.now }
     ensures silent { result ≡ 0 → faults.new ≡ faults.old }
-    ensures fault { let streams : FileStreams R W = record {
-      gives = R.gives;
-      at_end = R.at_end;
-      reader_failed = R.failed;
-      takes = W.takes;
-      writer_failed = W.failed;
-      given = reader;
-      writer = writer.old;
-      writer' = writer.new;
-    } in result ≡ 1 → (fault : FaultValue) × Fails streams path.entry config.now fault
-        × IsTold F.takes F.failed faults.old (fault_line fault) faults.new }
+    ensures fault { result ≡ 1 → (fault : FaultValue)
+        × Fails (file_streams_of R.reading W.writing reader writer.old writer.new) path.entry config.now fault
+        × IsTold F.writing faults.old (fault_line fault) faults.new }
 {
     match replay_file(alloc, path, config, reader, writer) {
         Ok(()) => 0,

@@ -198,11 +198,11 @@ pub fn read_schedule<R: Source>(
     config: &Config,
     reader: &mut R,
 ) -> Result<Schedule, ScheduleFault>
-    ensures told { (calls : ℕ) × (bytes : List ℕ) × (calls ≤ 2 ^ 40) × R.gives reader.old calls bytes reader.new
+    ensures told { (calls : ℕ) × (bytes : List ℕ) × (calls ≤ 2 ^ 40) × R.reading.gives reader.old calls bytes reader.new
         × MatchResult result (λ schedule. IsSchedule config.now (lines_of bytes) schedule)
-        (λ fault. FailsToRead config.now (record { calls = calls; bytes = bytes; has_failed = R.failed reader.new }) fault) }
-    ensures end { OnOk result (R.at_end reader.new) }
-    ensures kept { OnOk result (R.failed reader.new ≡ R.failed reader.old) }
+        (λ fault. FailsToRead config.now (record { calls = calls; bytes = bytes; has_failed = R.reading.failed reader.new }) fault) }
+    ensures end { OnOk result (R.reading.at_end reader.new) }
+    ensures kept { OnOk result (R.reading.failed reader.new ≡ R.reading.failed reader.old) }
 {
     let mut room = Room::new(alloc);
     let mut reading = Reading {

@@ -85,9 +85,9 @@ fn write_call<W: Sink>(
     writer: &mut W,
     call: &Finished,
 ) -> Result<(), WriteFault>
-    ensures ok { OnOk result (W.takes writer.old (finished_text config.now call.now) writer.new) }
-    ensures kept { OnOk result (W.failed writer.new ≡ W.failed writer.old) }
-    ensures err { IfErr result (λ fault. FailsInLine W.takes W.failed (finished_text config.now call.now) writer.old writer.new fault) }
+    ensures ok { OnOk result (W.writing.takes writer.old (finished_text config.now call.now) writer.new) }
+    ensures kept { OnOk result (W.writing.failed writer.new ≡ W.writing.failed writer.old) }
+    ensures err { IfErr result (λ fault. FailsInLine W.writing (finished_text config.now call.now) writer.old writer.new fault) }
 {
     let line = finished_line(alloc, config, call)?;
     match write_all(writer, line.as_slice()) {
@@ -103,9 +103,9 @@ pub fn write_trace<W: Sink>(
     writer: &mut W,
     finished: &[Finished],
 ) -> Result<(), WriteFault>
-    ensures ok { OnOk result (W.takes writer.old (trace_text config.now finished.now) writer.new) }
-    ensures kept { OnOk result (W.failed writer.new ≡ W.failed writer.old) }
-    ensures err { IfErr result (λ fault. FailsToWrite W.takes W.failed config.now finished.now writer.old writer.new fault) }
+    ensures ok { OnOk result (W.writing.takes writer.old (trace_text config.now finished.now) writer.new) }
+    ensures kept { OnOk result (W.writing.failed writer.new ≡ W.writing.failed writer.old) }
+    ensures err { IfErr result (λ fault. FailsToWrite W.writing config.now finished.now writer.old writer.new fault) }
 {
     for call in finished {
         write_call(alloc, config, writer, call)?;

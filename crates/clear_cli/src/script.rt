@@ -1,13 +1,13 @@
 //! The command `script`.
 
-ghost use Rattle.std.specs.Prelude.{◌≡◌, ◌≢◌, ◌≤◌, [], IfOk, IfErr, MatchResult, Ok, Err};
-ghost use Rattle.clear_cli.specs.declared.fault.Fault.{Fault as FaultValue};
-ghost use Rattle.clear_cli.specs.declared.fault.Fault.TheVariants.{NoMemory};
-ghost use Rattle.clear_cli.specs.Fault.{IsTold, exit_status, fault_line};
-ghost use Rattle.clear_cli.specs.Script.{Fails, IsAnswered, IsDone, Streams, reading};
-ghost use Rattle.clear_cli.specs.Inner.UnderConfig.{FailsUnder};
+ghost use Rattle.std.specs.Prelude.{◌≡◌, ◌≢◌, ◌≤◌, [], IfOk, IfErr, Ok, Err};
+ghost use Rattle.command_line.specs.declared.fault.Fault.{Fault as FaultValue};
+ghost use Rattle.command_line.specs.declared.fault.Fault.TheVariants.{NoMemory};
+ghost use Rattle.command_line.specs.Fault.{IsTold, exit_status, fault_line};
+ghost use Rattle.clear_cli.specs.Script.{Fails, IsDone, config_or_fault, streams_of};
+ghost use Rattle.clear_cli.specs.Inner.UnderConfig.{Answers, AnswersUnder};
 
-use crate::fault::{Fault, tell};
+use command_line::{Fault, tell};
 use ocpi_types::{Config, TryCopy};
 use period_order::BookHouse;
 use plain_house::Sequential;
@@ -16,8 +16,8 @@ use std::alloc::Global;
 use std::mem;
 
 pub fn read_config(alloc: Global, file: &[u8]) -> Result<Config, Fault<'static>>
-    ensures ok { IfOk result (λ config. reading file.now ≡ Ok config) }
-    ensures err { IfErr result (λ fault. fault ≢ NoMemory → reading file.now ≡ Err fault) }
+    ensures ok { IfOk result (λ config. config_or_fault file.now ≡ Ok config) }
+    ensures err { IfErr result (λ fault. fault ≢ NoMemory → config_or_fault file.now ≡ Err fault) }
     ensures status { IfErr result (λ fault. exit_status fault ≡ 1) }
 {
     Ok(Config::read(alloc, file)?)
@@ -33,17 +33,7 @@ fn answer_by<R: Source, W: Sink, S: Sequential>(
 ) -> Result<(), Fault<'static>>
     requires config { S.config house.old ≡ config.now }
     requires empty { S.events house.old ≡ [] }
-    ensures ended { let streams : Streams R W = record {
-      gives = R.gives;
-      at_end = R.at_end;
-      reader_failed = R.failed;
-      takes = W.takes;
-      writer_failed = W.failed;
-      reader = reader.old;
-      reader' = reader.new;
-      writer = writer.old;
-      writer' = writer.new;
-    } in MatchResult result (λ _. IsAnswered streams config.now) (λ fault. FailsUnder streams config.now fault) }
+    ensures ended { AnswersUnder (streams_of R.reading W.writing reader.old reader.new writer.old writer.new) config.now result }
     ensures status { IfErr result (λ fault. exit_status fault ≡ 1) }
 {
     run_script(alloc, reader, writer, config, house)?;
@@ -57,17 +47,7 @@ fn answer_under<R: Source, W: Sink>(
     reader: &mut R,
     writer: &mut W,
 ) -> Result<(), Fault<'static>>
-    ensures ended { let streams : Streams R W = record {
-      gives = R.gives;
-      at_end = R.at_end;
-      reader_failed = R.failed;
-      takes = W.takes;
-      writer_failed = W.failed;
-      reader = reader.old;
-      reader' = reader.new;
-      writer = writer.old;
-      writer' = writer.new;
-    } in MatchResult result (λ _. IsAnswered streams config.now) (λ fault. FailsUnder streams config.now fault) }
+    ensures ended { AnswersUnder (streams_of R.reading W.writing reader.old reader.new writer.old writer.new) config.now result }
     ensures status { IfErr result (λ fault. exit_status fault ≡ 1) }
 {
     let mut house = BookHouse::new(alloc, config.copy(alloc)?)?;
@@ -83,17 +63,7 @@ fn answer_lines<R: Source, W: Sink>(
     reader: &mut R,
     writer: &mut W,
 ) -> Result<(), Fault<'static>>
-    ensures ended { let streams : Streams R W = record {
-      gives = R.gives;
-      at_end = R.at_end;
-      reader_failed = R.failed;
-      takes = W.takes;
-      writer_failed = W.failed;
-      reader = reader.old;
-      reader' = reader.new;
-      writer = writer.old;
-      writer' = writer.new;
-    } in MatchResult result (λ _. IsDone streams file.now) (λ fault. Fails streams file.now fault) }
+    ensures ended { Answers (streams_of R.reading W.writing reader.old reader.new writer.old writer.new) file.now result }
     ensures status { IfErr result (λ fault. exit_status fault ≡ 1) }
 {
     let config = read_config(alloc, file)?;
@@ -110,30 +80,11 @@ pub fn script<R: Source, W: Sink, F: Sink>(
     faults: &mut F,
 ) -> u8
     ensures status { result ≤ 1 }
-    ensures done { let streams : Streams R W = record {
-      gives = R.gives;
-      at_end = R.at_end;
-      reader_failed = R.failed;
-      takes = W.takes;
-      writer_failed = W.failed;
-      reader = reader.old;
-      reader' = reader.new;
-      writer = writer.old;
-      writer' = writer.new;
-    } in result ≡ 0 → IsDone streams config.now }
+    ensures done { result ≡ 0 → IsDone (streams_of R.reading W.writing reader.old reader.new writer.old writer.new) config.now }
     ensures silent { result ≡ 0 → faults.new ≡ faults.old }
-    ensures fault { let streams : Streams R W = record {
-      gives = R.gives;
-      at_end = R.at_end;
-      reader_failed = R.failed;
-      takes = W.takes;
-      writer_failed = W.failed;
-      reader = reader.old;
-      reader' = reader.new;
-      writer = writer.old;
-      writer' = writer.new;
-    } in result ≡ 1 → (fault : FaultValue) × Fails streams config.now fault
-        × IsTold F.takes F.failed faults.old (fault_line fault) faults.new }
+    ensures fault { result ≡ 1 → (fault : FaultValue)
+        × Fails (streams_of R.reading W.writing reader.old reader.new writer.old writer.new) config.now fault
+        × IsTold F.writing faults.old (fault_line fault) faults.new }
 {
     match answer_lines(alloc, config, reader, writer) {
         Ok(()) => 0,

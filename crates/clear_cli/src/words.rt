@@ -9,9 +9,9 @@ ghost use Rattle.clap.specs.declared.builder.command.Command.TheViews.{out-Comma
 ghost use Rattle.clear_cli.specs.Inner.Commands.{asked_in, asked_under, clear_command, clear_script, clear_script_schedule, files_rule, path_rule, run_command, schedule_command, script_command};
 ghost use Rattle.clear_cli.specs.Words.{asked, asked_by, asked_of_house, help_of, is_answering, is_command, is_help_flag, is_report, is_version_flag, reported, shown, shown_alone, shown_by_two};
 
-use crate::fault::Fault;
 use clap::error::ErrorKind;
 use clap::{Arg, ArgAction, ArgMatches, Command, Error};
+use command_line::Fault;
 use std::alloc::{AllocError, Global};
 
 /// One of the program's commands.
@@ -237,6 +237,9 @@ fn is_report(name: &str) -> bool
             | "rate"
             | "explain_cost"
             | "re_rate"
+            | "keep"
+            | "log"
+            | "check"
     )
 }
 

@@ -1,3 +1,3 @@
 mod AnsweringLemmas
-mod HeldValues
+mod PointerValues
 mod LooseValues

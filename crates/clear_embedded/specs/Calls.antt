@@ -12,29 +12,29 @@ use Rattle.clear_embedded.specs.declared.code.Code.TheVariants.{Done, NoMemory, 
 
 -- an empty house is opened where the bytes are a configuration and there is memory
 abbrev pub IsOpened : Code → List ℕ → Option Standing → Type 0
-IsOpened Done bytes held' = (config : Config) × (config_of bytes ≡ Ok config) × (held' ≡ Some (opened config))
-IsOpened NoJson bytes held' = (config_of bytes ≡ Err Syntax) × (held' ≡ None)
-IsOpened Member bytes held' = (name : Name) × (config_of bytes ≡ Err (fault.Member name)) × (held' ≡ None)
-IsOpened NoMemory bytes held' = held' ≡ None
-IsOpened Closed bytes held' = ⊥
-IsOpened Open bytes held' = ⊥
-IsOpened NoLine bytes held' = ⊥
-IsOpened Kept bytes held' = ⊥
-IsOpened TooSmall bytes held' = ⊥
-IsOpened NotWritten bytes held' = ⊥
-IsOpened NothingKept bytes held' = ⊥
+IsOpened Done bytes pointer' = (config : Config) × (config_of bytes ≡ Ok config) × (pointer' ≡ Some (opened config))
+IsOpened NoJson bytes pointer' = (config_of bytes ≡ Err Syntax) × (pointer' ≡ None)
+IsOpened Member bytes pointer' = (name : Name) × (config_of bytes ≡ Err (fault.Member name)) × (pointer' ≡ None)
+IsOpened NoMemory bytes pointer' = pointer' ≡ None
+IsOpened Closed bytes pointer' = ⊥
+IsOpened Open bytes pointer' = ⊥
+IsOpened NoLine bytes pointer' = ⊥
+IsOpened Kept bytes pointer' = ⊥
+IsOpened TooSmall bytes pointer' = ⊥
+IsOpened NotWritten bytes pointer' = ⊥
+IsOpened NothingKept bytes pointer' = ⊥
 
 -- a house is opened where none is open
 abbrev pub OpenIs : Code → Option Standing → List ℕ → Option Standing → Type 0
-OpenIs code (Some house) bytes held' = (code ≡ Open) × (held' ≡ Some house)
-OpenIs code None bytes held' = IsOpened code bytes held'
+OpenIs code (Some house) bytes pointer' = (code ≡ Open) × (pointer' ≡ Some house)
+OpenIs code None bytes pointer' = IsOpened code bytes pointer'
 
 -- the open house, if there is one, answers a line
 abbrev pub AnswerIs : Code → Option Standing → List ℕ → Option Standing → Buffer → Type 0
-AnswerIs code None line held' buffer = (code ≡ Closed) × (held' ≡ None) × IsUnwritten buffer
-AnswerIs code (Some house) line held' buffer = (house' : Standing) × (held' ≡ Some house') × IsAnswered code house line house' buffer
+AnswerIs code None line pointer' buffer = (code ≡ Closed) × (pointer' ≡ None) × IsUnwritten buffer
+AnswerIs code (Some house) line pointer' buffer = (house' : Standing) × (pointer' ≡ Some house') × IsAnswered code house line house' buffer
 
 -- the open house, if there is one, gives what it keeps
 abbrev pub AgainIs : Code → Option Standing → Option Standing → Buffer → Type 0
-AgainIs code None held' buffer = (code ≡ Closed) × (held' ≡ None) × IsUnwritten buffer
-AgainIs code (Some house) held' buffer = (house' : Standing) × (held' ≡ Some house') × IsGivenAgain code house house' buffer
+AgainIs code None pointer' buffer = (code ≡ Closed) × (pointer' ≡ None) × IsUnwritten buffer
+AgainIs code (Some house) pointer' buffer = (house' : Standing) × (pointer' ≡ Some house') × IsGivenAgain code house house' buffer

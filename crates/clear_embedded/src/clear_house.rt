@@ -5,7 +5,7 @@ ghost use Rattle.clear_embedded.specs.Calls.{AgainIs, AnswerIs, OpenIs};
 
 use super::answering_house::AnsweringHouse;
 use super::code::{Code, Told};
-use super::held::Held;
+use super::house_pointer::HousePointer;
 use super::loose::Loose;
 use ocpi_types::ConfigFault;
 use std::alloc::Global;
@@ -16,10 +16,10 @@ use std::ptr::null_mut;
 #[repr(C)]
 #[derive(Drop)]
 pub struct ClearHouse {
-    pub held: Held,
+    pub pointer: HousePointer,
     is_open: bool,
-    ghost open_is: { is_open ≡ true → IsSome held.standing },
-    ghost closed_is: { is_open ≡ false → held.standing ≡ None },
+    ghost open_is: { is_open ≡ true → IsSome pointer.standing },
+    ghost closed_is: { is_open ≡ false → pointer.standing ≡ None },
 }
 
 fn nowhere() -> *mut u8 {
@@ -28,31 +28,31 @@ fn nowhere() -> *mut u8 {
 
 impl ClearHouse {
     fn closed(at: *mut u8) -> ClearHouse
-        ensures { result.held.standing ≡ None }
+        ensures { result.pointer.standing ≡ None }
     {
         ClearHouse {
-            held: Held::none(at),
+            pointer: HousePointer::none(at),
             is_open: false,
         }
     }
 
     fn opened(house: Box<AnsweringHouse>) -> ClearHouse
-        ensures { result.held.standing ≡ Some house.value }
+        ensures { result.pointer.standing ≡ Some house.value }
     {
         ClearHouse {
-            held: Held::of(Loose::of(house)),
+            pointer: HousePointer::of(Loose::of(house)),
             is_open: true,
         }
     }
 
     /// Gives out the house, if there is one, and is closed then.
     pub(crate) fn take(&mut self, alloc: Global) -> Option<Box<AnsweringHouse>>
-        ensures house { MatchOption result (self.old.held.standing ≡ None) (λ house. self.old.held.standing ≡ Some house.value) }
-        ensures closed { self.new.held.standing ≡ None }
+        ensures house { MatchOption result (self.old.pointer.standing ≡ None) (λ house. self.old.pointer.standing ≡ Some house.value) }
+        ensures closed { self.new.pointer.standing ≡ None }
     {
-        let ClearHouse { held, is_open } = replace(self, ClearHouse::closed(nowhere()));
+        let ClearHouse { pointer, is_open } = replace(self, ClearHouse::closed(nowhere()));
         if is_open {
-            Some(held.into_loose(alloc).into_box())
+            Some(pointer.into_loose(alloc).into_box())
         } else {
             None
         }
@@ -60,15 +60,15 @@ impl ClearHouse {
 
     // Takes up a house where none is open.
     fn put(&mut self, house: Box<AnsweringHouse>)
-        requires { self.old.held.standing ≡ None }
-        ensures { self.new.held.standing ≡ Some house.value }
+        requires { self.old.pointer.standing ≡ None }
+        ensures { self.new.pointer.standing ≡ Some house.value }
     {
         *self = ClearHouse::opened(house);
     }
 
     /// Opens an empty house of the configuration that these bytes say.
     pub(crate) fn open(&mut self, alloc: Global, config: &[u8]) -> Code
-        ensures { OpenIs result self.old.held.standing config.now self.new.held.standing }
+        ensures { OpenIs result self.old.pointer.standing config.now self.new.pointer.standing }
     {
         if self.is_open {
             return Code::Open;
@@ -86,7 +86,7 @@ impl ClearHouse {
 
     /// Answers one line.
     pub(crate) fn answer(&mut self, alloc: Global, line: &[u8], buffer: &mut [u8]) -> Told
-        ensures { AnswerIs result.code self.old.held.standing line.now self.new.held.standing
+        ensures { AnswerIs result.code self.old.pointer.standing line.now self.new.pointer.standing
             (record { before = buffer.old; after = buffer.new; told = result.length }) }
     {
         let Some(mut house) = self.take(alloc) else {
@@ -99,7 +99,7 @@ impl ClearHouse {
 
     /// Gives the answer that is kept.
     pub(crate) fn again(&mut self, alloc: Global, buffer: &mut [u8]) -> Told
-        ensures { AgainIs result.code self.old.held.standing self.new.held.standing
+        ensures { AgainIs result.code self.old.pointer.standing self.new.pointer.standing
             (record { before = buffer.old; after = buffer.new; told = result.length }) }
     {
         let Some(mut house) = self.take(alloc) else {

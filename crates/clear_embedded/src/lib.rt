@@ -5,7 +5,7 @@
 mod answering_house;
 mod clear_house;
 mod code;
-mod held;
+mod house_pointer;
 mod loose;
 
 ghost use Rattle.std.specs.Prelude.{◌≡◌, None};
@@ -19,7 +19,7 @@ use std::alloc::Global;
 /// Opens an empty house of the configuration that these bytes say.
 #[unsafe(no_mangle)]
 pub extern "C" fn clear_embedded_open(alloc: Global, house: &mut ClearHouse, config: &[u8]) -> u32
-    ensures { (code : CodeValue) × (result ≡ code_number code) × OpenIs code house.old.held.standing config.now house.new.held.standing }
+    ensures { (code : CodeValue) × (result ≡ code_number code) × OpenIs code house.old.pointer.standing config.now house.new.pointer.standing }
 {
     house.open(alloc, config).number()
 }
@@ -34,7 +34,7 @@ pub extern "C" fn clear_embedded_answer(
     length: &mut usize,
 ) -> u32
     ensures { (code : CodeValue) × (result ≡ code_number code)
-        × AnswerIs code house.old.held.standing line.now house.new.held.standing
+        × AnswerIs code house.old.pointer.standing line.now house.new.pointer.standing
         (record { before = buffer.old; after = buffer.new; told = length.new }) }
 {
     let told = house.answer(alloc, line, buffer);
@@ -51,7 +51,7 @@ pub extern "C" fn clear_embedded_again(
     length: &mut usize,
 ) -> u32
     ensures { (code : CodeValue) × (result ≡ code_number code)
-        × AgainIs code house.old.held.standing house.new.held.standing
+        × AgainIs code house.old.pointer.standing house.new.pointer.standing
         (record { before = buffer.old; after = buffer.new; told = length.new }) }
 {
     let told = house.again(alloc, buffer);
@@ -62,7 +62,7 @@ pub extern "C" fn clear_embedded_again(
 /// Ends the house, if there is one, with all that it has and keeps.
 #[unsafe(no_mangle)]
 pub extern "C" fn clear_embedded_close(alloc: Global, house: &mut ClearHouse)
-    ensures { house.new.held.standing ≡ None }
+    ensures { house.new.pointer.standing ≡ None }
 {
     let _ended = house.take(alloc);
 }

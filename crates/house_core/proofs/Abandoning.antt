@@ -7,7 +7,7 @@ use Rattle.cdr_checks.specs.declared.request.Command.{Command}
 use Rattle.plain_house.specs.declared.entry.AccountEntry.{AccountEntry}
 use Rattle.plain_house.specs.declared.entry.BookEntry.{BookEntry}
 use Rattle.plain_house.specs.declared.event.Event.{Event}
-use Rattle.house_core.specs.declared.call.Call.{Call}
+use Rattle.house_core.specs.declared.running_call.RunningCall.{RunningCall}
 use Rattle.house_core.specs.declared.stage.Stage.TheVariants as stage
 use Rattle.house_core.specs.declared.step.Action.TheVariants as action
 use Rattle.house_core.specs.Calls.{due_in_account, due_in_book, held_account, held_book}
@@ -28,7 +28,7 @@ module _ (config : Config) (commands : List Command) (events : List Event) (numb
   abbrev HoldsNow : PlainWorld → Type 0
   HoldsNow world = Holds config commands events world
 
-  abbrev pub begun_call : Option ℕ → Option ℕ → Bool → Bool → Call
+  abbrev pub begun_call : Option ℕ → Option ℕ → Bool → Bool → RunningCall
   begun_call book account has_book has_account = record { book = book; account = account; has_book = has_book; has_account = has_account; begin = start; stage = stage.Begun told }
 
   -- the lock of the book is given back
@@ -51,8 +51,8 @@ module _ (config : Config) (commands : List Command) (events : List Event) (numb
       goes_on config commands events world holds number (begun_call None account true has_account) (begun_call None account false has_account) is refl refl refl refl
       (λ own named known. record { admitted = known.admitted; book = known.book; account = known.account; bookless = λ e. refl; accountless = known.accountless; at = known.at })
   gives_book world holds (Some at) account true has_account is =
-      let call : Call = begun_call (Some at) account true has_account in
-      let now : Call = begun_call (Some at) account false has_account in
+      let call : RunningCall = begun_call (Some at) account true has_account in
+      let now : RunningCall = begun_call (Some at) account false has_account in
       let found = its_lock held_book due_in_book world.books world.calls holds.books number call is refl at refl in
       let lock : Lock BookEntry = found.0 in
       subst (λ (o : Option (Lock BookEntry)). HoldsNow (record {
@@ -92,8 +92,8 @@ module _ (config : Config) (commands : List Command) (events : List Event) (numb
       goes_on config commands events world holds number (begun_call book None has_book true) (begun_call book None has_book false) is refl refl refl refl
       (λ own named known. record { admitted = known.admitted; book = known.book; account = known.account; bookless = known.bookless; accountless = λ e. refl; at = known.at })
   gives_account world holds book (Some at) has_book true is =
-      let call : Call = begun_call book (Some at) has_book true in
-      let now : Call = begun_call book (Some at) has_book false in
+      let call : RunningCall = begun_call book (Some at) has_book true in
+      let now : RunningCall = begun_call book (Some at) has_book false in
       let found = its_lock held_account due_in_account world.accounts world.calls holds.accounts number call is refl at refl in
       let lock : Lock AccountEntry = found.0 in
       subst (λ (o : Option (Lock AccountEntry)). HoldsNow (record {
@@ -117,10 +117,10 @@ module _ (config : Config) (commands : List Command) (events : List Event) (numb
       → slice_get world.calls number ≡ Some (begun_call book account has_book has_account)
       → HoldsNow (changed world number (change_by world number (begun_call book account has_book has_account) action.Abandon))
   abandons_begun world holds book account has_book has_account is =
-      let call : Call = begun_call book account has_book has_account in
-      let one : Call = begun_call book account false has_account in
-      let two : Call = begun_call book account false false in
-      let last : Call = record { book = book; account = account; has_book = false; has_account = false; begin = start; stage = stage.Ended } in
+      let call : RunningCall = begun_call book account has_book has_account in
+      let one : RunningCall = begun_call book account false has_account in
+      let two : RunningCall = begun_call book account false false in
+      let last : RunningCall = record { book = book; account = account; has_book = false; has_account = false; begin = start; stage = stage.Ended } in
       let first : PlainWorld = without_book world book account has_book has_account in
       let is_one : slice_get first.calls number ≡ Some one = get-set_same world.calls number one call is in
       let second : PlainWorld = without_account first book account false has_account in

@@ -12,7 +12,7 @@ use Rattle.plain_house.specs.Entries.{book_entries}
 use Rattle.plain_house.specs.Own.{own_book}
 use Rattle.operator_book.specs.Laws.{SumsAreNoLarger}
 use Rattle.period_order.specs.Dues.{DuesAreOfOwnBooks}
-use Rattle.house_core.specs.declared.call.Call.{Call}
+use Rattle.house_core.specs.declared.running_call.RunningCall.{RunningCall}
 use Rattle.house_core.specs.declared.stage.Netting.{Netting}
 use Rattle.house_core.specs.declared.stage.Stage.{Stage}
 use Rattle.house_core.specs.declared.stage.Stage.TheVariants as stage
@@ -32,7 +32,7 @@ use Rattle.house_core.proofs.StepLemmas.{call_changed}
 
 module _ (own_dues : DuesAreOfOwnBooks) (no_larger : SumsAreNoLarger) (config : Config) (is_config : IsConfiguration config) (commands : List Command) (events : List Event) (world : PlainWorld) (holds : Holds config commands events world)
     (number : ℕ) (book account : Option ℕ) (has_book has_account : Bool) (start : ℕ) where
-  abbrev pub call_at : Stage → Call
+  abbrev pub call_at : Stage → RunningCall
   call_at s = record { book = book; account = account; has_book = has_book; has_account = has_account; begin = start; stage = s }
 
   abbrev HoldsNow : PlainWorld → Type 0

@@ -19,7 +19,7 @@ use Rattle.plain_house.specs.declared.event.Event.{Event}
 use Rattle.plain_house.specs.Entries.{book_entries}
 use Rattle.plain_house.specs.LegalLists.{LegalListsCanBeNetted}
 use Rattle.period_order.specs.Dues.{DuesAreOfOwnBooks}
-use Rattle.house_core.specs.declared.call.Call.{Call}
+use Rattle.house_core.specs.declared.running_call.RunningCall.{RunningCall}
 use Rattle.house_core.specs.declared.stage.Netting.{Netting}
 use Rattle.house_core.specs.declared.stage.Stage.{Stage}
 use Rattle.house_core.specs.declared.stage.Stage.TheVariants as stage
@@ -67,24 +67,24 @@ stating_goes config number operator entries stating false = refl
 
 -- ---- calls
 
-goes_on_at : (call : Call) (o : Option Stage) → record call { stage = unwrap_or o call.stage } ≡ option_map_or (λ (change : Change). change.call) (option_map (λ (s : Stage). of_call (record call { stage = s })) o) call
+goes_on_at : (call : RunningCall) (o : Option Stage) → record call { stage = unwrap_or o call.stage } ≡ option_map_or (λ (change : Change). change.call) (option_map (λ (s : Stage). of_call (record call { stage = s })) o) call
 goes_on_at call None = refl
 goes_on_at call (Some s) = refl
 
-pub call_collects : (config : Config) (number : ℕ) (operator : Operator) (lock : Lock BookEntry) (call : Call) → lock.holder ≡ None
+pub call_collects : (config : Config) (number : ℕ) (operator : Operator) (lock : Lock BookEntry) (call : RunningCall) → lock.holder ≡ None
     → record call { stage = unwrap_or (collected config number operator lock.entries call.stage) call.stage } ≡ collected_call config number (Some operator) (Some lock) call
 call_collects config number operator lock call free =
     goes_on_at call (collected config number operator lock.entries call.stage)
     ∙ sym (ap (λ (h : Option ℕ). option_map_or (λ (change : Change). change.call) (if is_none h then option_map (λ (s : Stage). of_call (record call { stage = s })) (collected config number operator lock.entries call.stage) else None) call) free)
 
 -- it holds what it did, and carries what it did
-pub record IsAlike (now call : Call) : Type 0 where
+pub record IsAlike (now call : RunningCall) : Type 0 where
   pub book : held_book now ≡ held_book call
   pub account : held_account now ≡ held_account call
   pub carries : ordered now.stage ≡ ordered call.stage
 
 module _ (config : Config) (number : ℕ) (book account : Option ℕ) (has_book has_account : Bool) (begin : ℕ) where
-  abbrev call_at : Stage → Call
+  abbrev call_at : Stage → RunningCall
   call_at s = record { book = book; account = account; has_book = has_book; has_account = has_account; begin = begin; stage = s }
 
   alike : (operator : Operator) (entries : List BookEntry) (s : Stage) (free : Bool)
@@ -105,7 +105,7 @@ module _ (config : Config) (number : ℕ) (book account : Option ℕ) (has_book 
       by false = record { book = refl; account = refl; carries = refl }
   alike operator entries stage.Ended true = record { book = refl; account = refl; carries = refl }
 
-pub collects_alike : (config : Config) (number : ℕ) (operator : Option Operator) (lock : Option (Lock BookEntry)) (call : Call) → IsAlike (collected_call config number operator lock call) call
+pub collects_alike : (config : Config) (number : ℕ) (operator : Option Operator) (lock : Option (Lock BookEntry)) (call : RunningCall) → IsAlike (collected_call config number operator lock call) call
 collects_alike config number None lock call = record { book = refl; account = refl; carries = refl }
 collects_alike config number (Some operator) None call = record { book = refl; account = refl; carries = refl }
 collects_alike config number (Some operator) (Some lock) call =
@@ -113,7 +113,7 @@ collects_alike config number (Some operator) (Some lock) call =
 
 -- ---- the world
 
-made_call : (config : Config) (number : ℕ) (call : Call) (operator : Option Operator) (lock : Option (Lock BookEntry)) (change : Change) → collect_at config number call operator lock ≡ Some change
+made_call : (config : Config) (number : ℕ) (call : RunningCall) (operator : Option Operator) (lock : Option (Lock BookEntry)) (change : Change) → collect_at config number call operator lock ≡ Some change
     → change ≡ of_call change.call
 made_call config number call None lock change h = absurd (cc)
 made_call config number call (Some operator) None change h = absurd (cc)
@@ -126,7 +126,7 @@ made_call config number call (Some operator) (Some lock) change h = by (is_none 
         sym same ∙ ap (λ (c : Change). of_call c.call) same
     by false o g = absurd (cc)
 
-pub did_collect : (world : PlainWorld) (number : ℕ) (call : Call) → slice_get world.calls number ≡ Some call → (at : ℕ)
+pub did_collect : (world : PlainWorld) (number : ℕ) (call : RunningCall) → slice_get world.calls number ≡ Some call → (at : ℕ)
     → with_call world number (collected_call world.config at (slice_get world.config.operators at) (slice_get world.books at) call) ≡ step world (record { call = number; action = action.Collect at })
 did_collect world number call is at = by (collect_at world.config at call (slice_get world.config.operators at) (slice_get world.books at)) refl ∙ sym (stepped world number call (action.Collect at) is)
   where
@@ -148,7 +148,7 @@ filter_passes p q (o ∷ os) h = let parts = and_parts (p o) (list_all p os) h i
     by false one rest = rest
 
 module _ (own_dues : DuesAreOfOwnBooks) (no_larger : SumsAreNoLarger) (netted : LegalListsCanBeNetted) (config : Config) (is_config : IsConfiguration config) (commands : List Command) (events : List Event) (world : PlainWorld)
-    (holds : Holds config commands events world) (number : ℕ) (call : Call) (is : slice_get world.calls number ≡ Some call)
+    (holds : Holds config commands events world) (number : ℕ) (call : RunningCall) (is : slice_get world.calls number ≡ Some call)
     (at : ℕ) (operator : Operator) (lock : Lock BookEntry) (named : slice_get config.operators at ≡ Some operator) (here : slice_get world.books at ≡ Some lock) (free : lock.holder ≡ None) where
   -- what is due by the free book is what the operator is owed of all
   due_is : (period : ℕ) → due operator.party period lock.entries ≡ filter (λ (o : Obligation). same_party o.operator operator.party) (owed_in period events)

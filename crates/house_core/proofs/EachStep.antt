@@ -7,8 +7,8 @@ use Rattle.cdr_checks.specs.declared.request.Command.{Command}
 use Rattle.plain_house.specs.declared.entry.AccountEntry.{AccountEntry}
 use Rattle.plain_house.specs.declared.entry.BookEntry.{BookEntry}
 use Rattle.plain_house.specs.declared.event.Event.{Event}
-use Rattle.house_core.specs.declared.call.Call.{Call}
-use Rattle.house_core.specs.declared.call.ReplyDue.{ReplyDue}
+use Rattle.house_core.specs.declared.running_call.RunningCall.{RunningCall}
+use Rattle.house_core.specs.declared.running_call.ReplyDue.{ReplyDue}
 use Rattle.house_core.specs.declared.stage.Stage.{Stage}
 use Rattle.house_core.specs.declared.stage.Stage.TheVariants as stage
 use Rattle.house_core.specs.declared.step.Action.TheVariants as action
@@ -22,7 +22,7 @@ use Rattle.house_core.proofs.Keeping.{goes_on, goes_on_with_account, goes_on_wit
 use Rattle.house_core.proofs.StepLemmas.{account_changed, book_changed, call_changed}
 use Rattle.house_core.proofs.Wholes.{get-set_same}
 
-call_with : Call → ℕ → Stage → Call
+call_with : RunningCall → ℕ → Stage → RunningCall
 call_with call point stage = record call { begin = point; stage = stage }
 
 module _ (config : Config) (commands : List Command) (events : List Event) (world : PlainWorld) (holds : Holds config commands events world)
@@ -33,12 +33,12 @@ module _ (config : Config) (commands : List Command) (events : List Event) (worl
   -- ---- begin
 
   module _ (point : ℕ) (within : point ≤ length events) (book account : Option ℕ) (has_book has_account : Bool) (start : ℕ) where
-    abbrev pub at_stage : ℕ → Stage → Call
+    abbrev pub at_stage : ℕ → Stage → RunningCall
     at_stage begin stage = record { book = book; account = account; has_book = has_book; has_account = has_account; begin = begin; stage = stage }
 
     pub begins : (s : Stage) → slice_get world.calls number ≡ Some (at_stage start s) → HoldsNow (changed world number (begin point (at_stage start s)))
     begins (stage.Waiting command) is =
-        let now : Call = at_stage point (stage.Begun command) in
+        let now : RunningCall = at_stage point (stage.Begun command) in
         subst HoldsNow (sym (call_changed world number now))
         (goes_on config commands events world holds number (at_stage start (stage.Waiting command)) now is refl refl refl refl
         (λ own is_named known. record {
@@ -58,7 +58,7 @@ module _ (config : Config) (commands : List Command) (events : List Event) (worl
   -- ---- taking a lock
 
   module _ (account : Option ℕ) (has_account : Bool) (start : ℕ) where
-    abbrev pub of_book_call : Bool → Option ℕ → Stage → Call
+    abbrev pub of_book_call : Bool → Option ℕ → Stage → RunningCall
     of_book_call has_book book stage = record { book = book; account = account; has_book = has_book; has_account = has_account; begin = start; stage = stage }
 
     pub takes_book : (has_book : Bool) (book : Option ℕ) (s : Stage) → slice_get world.calls number ≡ Some (of_book_call has_book book s)
@@ -101,7 +101,7 @@ module _ (config : Config) (commands : List Command) (events : List Event) (worl
   -- ---- putting
 
   module _ (book : Option ℕ) (has_book : Bool) (start : ℕ) where
-    abbrev pub of_account_call : Bool → Option ℕ → Stage → Call
+    abbrev pub of_account_call : Bool → Option ℕ → Stage → RunningCall
     of_account_call has_account account stage = record { book = book; account = account; has_book = has_book; has_account = has_account; begin = start; stage = stage }
 
     pub puts_account : (has_account : Bool) (account : Option ℕ) (s : Stage) → slice_get world.calls number ≡ Some (of_account_call has_account account s)
@@ -203,8 +203,8 @@ module _ (config : Config) (commands : List Command) (events : List Event) (worl
         found None e = holds
         found (Some lock) here =
             let new : Lock BookEntry = record { holder = None; entries = lock.entries ++ in_book carried } in
-            let call : Call = of_book_call account false start true (Some at) (stage.Ordered carried) in
-            let now : Call = of_book_call account false start false (Some at) (stage.Ordered (record carried { event = None })) in
+            let call : RunningCall = of_book_call account false start true (Some at) (stage.Ordered carried) in
+            let now : RunningCall = of_book_call account false start false (Some at) (stage.Ordered (record carried { event = None })) in
             let mine : lock.holder ≡ Some number =
             sym (ap (option_and_then (λ (l : Lock BookEntry). l.holder)) here) ∙ holds.books.holding number call at is refl in
             subst HoldsNow (sym (book_changed world number now at new refl))
@@ -232,7 +232,7 @@ module _ (config : Config) (commands : List Command) (events : List Event) (worl
   -- ---- the end
 
   module _ (book account : Option ℕ) (start : ℕ) where
-    abbrev pub with_locks : Bool → Bool → Stage → Call
+    abbrev pub with_locks : Bool → Bool → Stage → RunningCall
     with_locks has_book has_account stage = record { book = book; account = account; has_book = has_book; has_account = has_account; begin = start; stage = stage }
 
     ended_now : (has_book has_account : Bool) (s : Stage) → slice_get world.calls number ≡ Some (with_locks has_book has_account s)

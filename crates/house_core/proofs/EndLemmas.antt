@@ -3,8 +3,8 @@ use Rattle.std.proofs.Common.{◌≡◌, ℕ, true, false, sym, ap, ◌∙◌, a
 use Rattle.std.specs.Option.{option_and_then}
 use Rattle.cdr_checks.specs.declared.request.Command.{Command}
 use Rattle.plain_house.specs.Replies.{stamped}
-use Rattle.house_core.specs.declared.call.Call.{Call}
-use Rattle.house_core.specs.declared.call.ReplyDue.{ReplyDue}
+use Rattle.house_core.specs.declared.running_call.RunningCall.{RunningCall}
+use Rattle.house_core.specs.declared.running_call.ReplyDue.{ReplyDue}
 use Rattle.house_core.specs.declared.finished.Done.TheVariants as done
 use Rattle.house_core.specs.declared.stage.Stage.TheVariants as stage
 use Rattle.house_core.specs.declared.step.Action.TheVariants as action
@@ -15,10 +15,10 @@ use Rattle.house_core.specs.World.{PlainWorld}
 use Rattle.house_core.proofs.PutLemmas.{some_there}
 use Rattle.house_core.proofs.StepLemmas.{call_changed, stepped, with_call}
 
-module _ (world : PlainWorld) (number : ℕ) (call : Call) (is : slice_get world.calls number ≡ Some call) where
+module _ (world : PlainWorld) (number : ℕ) (call : RunningCall) (is : slice_get world.calls number ≡ Some call) where
   -- ---- given up
 
-  abbrev pub given_up : Call
+  abbrev pub given_up : RunningCall
   given_up = record call { has_book = false; has_account = false; stage = stage.Ended }
 
   pub did_abandon : is_some (begun call.stage) ≡ true
@@ -45,7 +45,7 @@ module _ (world : PlainWorld) (number : ℕ) (call : Call) (is : slice_get world
   pub tells_abandoned : is_some (begun call.stage) ≡ true → Some (ended world number call done.Abandoned) ≡ finishes world (record { call = number; action = action.Abandon })
   tells_abandoned begins =
       let one = some_there (begun call.stage) begins in
-      sym (ap (option_and_then (λ (c : Call). option_map (λ (command : Command). ended world number c done.Abandoned) (begun c.stage))) is
+      sym (ap (option_and_then (λ (c : RunningCall). option_map (λ (command : Command). ended world number c done.Abandoned) (begun c.stage))) is
       ∙ ap (option_map (λ (command : Command). ended world number call done.Abandoned)) one.1)
 
   -- ---- with its reply
@@ -62,10 +62,10 @@ module _ (world : PlainWorld) (number : ℕ) (call : Call) (is : slice_get world
   pub tells_end : (due : ReplyDue) → reply_due call ≡ Some due
       → Some (ended world number call (done.Answered due.point (stamped due.point due.reply))) ≡ finishes world (record { call = number; action = action.End })
   tells_end due is_due =
-      sym (ap (option_and_then (λ (c : Call). option_map (λ (t : ReplyDue). ended world number c (done.Answered t.point (stamped t.point t.reply))) (reply_due c))) is
+      sym (ap (option_and_then (λ (c : RunningCall). option_map (λ (t : ReplyDue). ended world number c (done.Answered t.point (stamped t.point t.reply))) (reply_due c))) is
       ∙ ap (option_map (λ (t : ReplyDue). ended world number call (done.Answered t.point (stamped t.point t.reply)))) is_due)
 
   pub tells_nothing : reply_due call ≡ None → None ≡ finishes world (record { call = number; action = action.End })
   tells_nothing none =
-      sym (ap (option_and_then (λ (c : Call). option_map (λ (t : ReplyDue). ended world number c (done.Answered t.point (stamped t.point t.reply))) (reply_due c))) is
+      sym (ap (option_and_then (λ (c : RunningCall). option_map (λ (t : ReplyDue). ended world number c (done.Answered t.point (stamped t.point t.reply))) (reply_due c))) is
       ∙ ap (option_map (λ (t : ReplyDue). ended world number call (done.Answered t.point (stamped t.point t.reply)))) none)

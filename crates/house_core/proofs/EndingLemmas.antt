@@ -17,7 +17,7 @@ use Rattle.plain_house.specs.Entries.{book_entries}
 use Rattle.plain_house.specs.Legal.{EmptyListsAreLegal}
 use Rattle.plain_house.specs.Own.{own_account, own_book}
 use Rattle.period_order.specs.Places.{operator_number, provider_number}
-use Rattle.house_core.specs.declared.call.Call.{Call}
+use Rattle.house_core.specs.declared.running_call.RunningCall.{RunningCall}
 use Rattle.house_core.specs.declared.stage.Stage.{Stage}
 use Rattle.house_core.specs.declared.stage.Stage.TheVariants as stage
 use Rattle.house_core.specs.declared.step.Step.{Step}
@@ -60,16 +60,16 @@ waiting_known config events command begin stage.Ended own h at = absurd (none-so
 
 -- ---- a call that waits has no locks
 
-abbrev HasNoLocks : Call → Type 0
+abbrev HasNoLocks : RunningCall → Type 0
 HasNoLocks call = rank call.stage ≡ 0 → (call.has_book ≡ false) × (call.has_account ≡ false)
 
 abbrev NoneHas : PlainWorld → Type 0
-NoneHas world = (n : ℕ) (call : Call) → slice_get world.calls n ≡ Some call → HasNoLocks call
+NoneHas world = (n : ℕ) (call : RunningCall) → slice_get world.calls n ≡ Some call → HasNoLocks call
 
 step_none : (world : PlainWorld) (one : Step) → NoneHas world → NoneHas (step world one)
 step_none world one none = by (slice_get world.calls one.call) refl
   where
-    put : (call : Call) → slice_get world.calls one.call ≡ Some call → (o : Option Change) → change_by world one.call call one.action ≡ o → NoneHas (changed world one.call o)
+    put : (call : RunningCall) → slice_get world.calls one.call ≡ Some call → (o : Option Change) → change_by world one.call call one.action ≡ o → NoneHas (changed world one.call o)
     put call is None e n other there = none n other there
     put call is (Some change) e n other there = ⊎_elim
         (λ (same : n ≡ one.call).
@@ -79,7 +79,7 @@ step_none world one none = by (slice_get world.calls one.call) refl
         (λ (apart : n ≢ one.call). none n other (sym (get-set_other world.calls one.call n change.call apart) ∙ there))
         (cases_eq n one.call)
 
-    by : (o : Option Call) → slice_get world.calls one.call ≡ o → NoneHas (changed world one.call (option_and_then (λ (call : Call). change_by world one.call call one.action) o))
+    by : (o : Option RunningCall) → slice_get world.calls one.call ≡ o → NoneHas (changed world one.call (option_and_then (λ (call : RunningCall). change_by world one.call call one.action) o))
     by None e = none
     by (Some call) e = put call e (change_by world one.call call one.action) refl
 
@@ -94,7 +94,7 @@ first_open (x ∷ xs) zero h = (x, refl)
 first_open (x ∷ xs) (suc n) h = first_open xs n h
 
 module _ (laws : HouseLaws) (config : Config) (commands : List Command) (events : List Event) (world : PlainWorld) (holds : Holds config commands events world)
-    (number : ℕ) (call : Call) (is : slice_get world.calls number ≡ Some call) (own : Command) (waits : waiting call.stage ≡ Some own)
+    (number : ℕ) (call : RunningCall) (is : slice_get world.calls number ≡ Some call) (own : Command) (waits : waiting call.stage ≡ Some own)
     (admitted : IsAdmitted config own) (book_is : call.book ≡ option_map (operator_number config) (operator_of_command own))
     (account_is : call.account ≡ option_map (provider_number config) (provider_of_command own))
     (no_book : call.has_book ≡ false) (no_account : call.has_account ≡ false) (free : AreFree world call own) where
@@ -173,7 +173,7 @@ module _ (laws : HouseLaws) (config : Config) (commands : List Command) (events 
           is_one_of operators place.0 n place.1
 
 module _ (laws : HouseLaws) (config : Config) (commands : List Command) (events : List Event) (world : PlainWorld) (holds : Holds config commands events world)
-    (number : ℕ) (call : Call) (is : slice_get world.calls number ≡ Some call) (no_book : call.has_book ≡ false) (no_account : call.has_account ≡ false)
+    (number : ℕ) (call : RunningCall) (is : slice_get world.calls number ≡ Some call) (no_book : call.has_book ≡ false) (no_account : call.has_account ≡ false)
     (operators : List ℕ) (each : HasEach operators (length config.operators)) where
   ends_row : (own : Command) → waiting call.stage ≡ Some own → IsAdmitted config own → call.book ≡ option_map (operator_number config) (operator_of_command own)
       → call.account ≡ option_map (provider_number config) (provider_of_command own) → AreFree world call own → Ends world number (length world.order) (length world.order) (row operators own)

@@ -13,7 +13,7 @@ use Rattle.plain_house.specs.Replies.{with_event}
 use Rattle.period_order.specs.declared.decided.Outcome.{Outcome}
 use Rattle.period_order.specs.declared.decided.Outcome.TheVariants as outcome
 use Rattle.period_order.specs.Decided.{event_of, outcome_of}
-use Rattle.house_core.specs.declared.call.Call.{Call}
+use Rattle.house_core.specs.declared.running_call.RunningCall.{RunningCall}
 use Rattle.house_core.specs.declared.stage.Stage.{Stage}
 use Rattle.house_core.specs.declared.stage.Stage.TheVariants as stage
 use Rattle.house_core.specs.declared.step.Action.{Action}
@@ -21,7 +21,7 @@ use Rattle.house_core.specs.declared.step.Action.TheVariants as action
 use Rattle.house_core.specs.declared.step.Step.{Step}
 use Rattle.house_core.specs.Calls.{begun, has_its_account, has_its_book, ready}
 use Rattle.house_core.specs.Events.{events_of}
-use Rattle.house_core.specs.Inner.Sound.{Holds, IsCall}
+use Rattle.house_core.specs.Inner.Sound.{Holds, IsRunningCall}
 use Rattle.house_core.specs.Inner.Steps.{EventsGo, Kept, StepsKeep, event_added, event_of_stage}
 use Rattle.period_order.specs.Kept.{IsConfiguration}
 use Rattle.house_core.specs.OneHouse.{events_behind}
@@ -49,7 +49,7 @@ carries_event config known (outcome.Closed period) = refl
 carries_event config known (outcome.Stated ask) = refl
 
 -- a step that orders a command is an Order step of a ready call
-ordered_is : (call : Call) (a : Action) (own : Command) → ordered_by call a ≡ Some own → (a ≡ action.Order) × (ready call ≡ Some own)
+ordered_is : (call : RunningCall) (a : Action) (own : Command) → ordered_by call a ≡ Some own → (a ≡ action.Order) × (ready call ≡ Some own)
 ordered_is call action.Begin own h = absurd (none-some own h)
 ordered_is call action.TakeBook own h = absurd (none-some own h)
 ordered_is call action.TakeAccount own h = absurd (none-some own h)
@@ -60,29 +60,29 @@ ordered_is call (action.Collect operator) own h = absurd (none-some own h)
 ordered_is call action.Abandon own h = absurd (none-some own h)
 ordered_is call action.End own h = absurd (none-some own h)
 
-pub orders_is : (o : Option Call) (a : Action) (own : Command) → option_and_then (λ (call : Call). ordered_by call a) o ≡ Some own → (call : Call) × (o ≡ Some call) × (a ≡ action.Order) × (ready call ≡ Some own)
+pub orders_is : (o : Option RunningCall) (a : Action) (own : Command) → option_and_then (λ (call : RunningCall). ordered_by call a) o ≡ Some own → (call : RunningCall) × (o ≡ Some call) × (a ≡ action.Order) × (ready call ≡ Some own)
 orders_is None a own h = absurd (none-some own h)
 orders_is (Some call) a own h = let both = ordered_is call a own h in (call, refl, both.0, both.1)
 
 module _ (laws : HouseLaws) (config : Config) (is_config : IsConfiguration config) (commands : List Command) (events : List Event) (world : PlainWorld) (holds : Holds config commands events world) where
-  added_by_order : (number : ℕ) (call : Call) (own : Command) → slice_get world.calls number ≡ Some call → ready call ≡ Some own
+  added_by_order : (number : ℕ) (call : RunningCall) (own : Command) → slice_get world.calls number ≡ Some call → ready call ≡ Some own
       → event_added (step world (record { call = number; action = action.Order })) number ≡ (verdict config (known events) own).event
   added_by_order number call own there is_ready =
       let both = met (has_its_book call && has_its_account call) (begun call.stage) own is_ready in
       let parts = and_parts (has_its_book call) (has_its_account call) both.0 in
       let same : call ≡ record call { stage = stage.Begun own } = λ i. record call { stage = begun_is call.stage own both.1 i } in
-      let at : Call = record call { stage = stage.Begun own } in
-      let is : slice_get world.calls number ≡ Some at = there ∙ ap (λ (c : Call). Some c) same in
+      let at : RunningCall = record call { stage = stage.Begun own } in
+      let is : slice_get world.calls number ≡ Some at = there ∙ ap (λ (c : RunningCall). Some c) same in
       let one = holds.calls number at is in
       let own_is : own ≡ one.0 = one.2.at.0 in
       let placed =
       is_placed laws config is_config commands events world holds number call.book call.account call.has_book call.has_account call.begin own is
-      (one.1 ∙ ap (λ (c : Command). Some c) (sym own_is)) (subst (λ (c : Command). IsCall config events c at) (sym own_is) one.2) parts.0 parts.1 in
+      (one.1 ∙ ap (λ (c : Command). Some c) (sym own_is)) (subst (λ (c : Command). IsRunningCall config events c at) (sym own_is) one.2) parts.0 parts.1 in
       let seen : Known = known_to world at in
       let o : Outcome = outcome_of own (verdict world.config seen own) in
       ap (λ (w : PlainWorld). event_added w number)
       (stepped world number at action.Order is ∙ ap (λ x. changed world number (option_map (order world.config seen at) x)) (sym (ap ready same) ∙ is_ready))
-      ∙ ap (option_and_then (λ (c : Call). event_of_stage c.stage)) (get-set_same world.calls number (record at { stage = stage_after world.config seen o }) at is)
+      ∙ ap (option_and_then (λ (c : RunningCall). event_of_stage c.stage)) (get-set_same world.calls number (record at { stage = stage_after world.config seen o }) at is)
       ∙ carries_event world.config seen o
       ∙ ap (λ (c : Config). event_of (outcome_of own (verdict c seen own))) holds.config_is
       ∙ placed.event

@@ -5,7 +5,7 @@ use Rattle.ocpi_types.specs.declared.config.Config.{Config}
 use Rattle.cdr_checks.specs.declared.request.Command.{Command}
 use Rattle.plain_house.specs.Legal.{EmptyListsAreLegal}
 use Rattle.plain_house.specs.declared.event.Event.{Event}
-use Rattle.house_core.specs.declared.call.Call.{Call}
+use Rattle.house_core.specs.declared.running_call.RunningCall.{RunningCall}
 use Rattle.house_core.specs.Calls.{held_account, held_book}
 use Rattle.house_core.specs.Holders.{Agree, AreExclusive, NoTwoHave}
 use Rattle.house_core.specs.Inner.HouseLaws.{HouseLaws}
@@ -16,7 +16,7 @@ use Rattle.house_core.specs.World.{PlainWorld}
 use Rattle.house_core.proofs.OneHouseLemmas.{holds_after}
 
 -- a lock has one holder
-one_has : {E : Type 0} (held : Call → Option ℕ) (locks : List (Lock E)) (calls : List Call) → Agree held locks calls → NoTwoHave held calls
+one_has : {E : Type 0} (held : RunningCall → Option ℕ) (locks : List (Lock E)) (calls : List RunningCall) → Agree held locks calls → NoTwoHave held calls
 one_has held locks calls agree one another lock call other here there holds too =
     same_Some one another (sym (agree.holding one call lock here holds) ∙ agree.holding another other lock there too)
 

@@ -35,14 +35,14 @@ with_event-append events None = sym (append-nil events)
 with_event-append events (Some event) = refl
 
 -- events stay, and more come
-behind_longer : (config : Config) (events : List Event) (commands : List Command) → (more : List Event) × (events_behind config events commands ≡ events ++ more)
+pub behind_longer : (config : Config) (events : List Event) (commands : List Command) → (more : List Event) × (events_behind config events commands ≡ events ++ more)
 behind_longer config events [] = ([], sym (append-nil events))
 behind_longer config events (command ∷ later) =
     let added : List Event = option_to_list (verdict config (known events) command).event in
     let rest = behind_longer config (events_after config events command) later in
     (added ++ rest.0, rest.1 ∙ ap (λ (l : List Event). l ++ rest.0) (with_event-append events (verdict config (known events) command).event) ∙ append_assoc events added rest.0)
 
-behind-append : (config : Config) (events : List Event) (some others : List Command) → events_behind config events (some ++ others) ≡ events_behind config (events_behind config events some) others
+pub behind-append : (config : Config) (events : List Event) (some others : List Command) → events_behind config events (some ++ others) ≡ events_behind config (events_behind config events some) others
 behind-append config events [] others = refl
 behind-append config events (command ∷ some) others = behind-append config (events_after config events command) some others
 

@@ -10,7 +10,7 @@ use Rattle.period_order.specs.Resolved.{accounts_of}
 use Rattle.period_order.specs.Resolves.{OrdersResolve, Resolves}
 use Rattle.period_order.specs.Places.{order_of}
 use Rattle.period_order.specs.declared.order_entry.OrderEntry.{OrderEntry}
-use Rattle.house_core.specs.declared.call.Call.{Call}
+use Rattle.house_core.specs.declared.running_call.RunningCall.{RunningCall}
 use Rattle.house_core.specs.Calls.{due_in_account, due_in_book}
 use Rattle.house_core.specs.Events.{whole_account, whole_book}
 use Rattle.house_core.specs.Inner.Sound.{Holds}
@@ -19,11 +19,11 @@ use Rattle.house_core.specs.OneHouse.{HoldsEvents, NothingIsDue}
 use Rattle.house_core.specs.World.{PlainWorld}
 
 -- where nothing is due, what is whole is what stands there
-module _ {E : Type 0} (due : Call → List E) (calls : List Call) (none : (n : ℕ) (call : Call) → slice_get calls n ≡ Some call → due call ≡ []) where
+module _ {E : Type 0} (due : RunningCall → List E) (calls : List RunningCall) (none : (n : ℕ) (call : RunningCall) → slice_get calls n ≡ Some call → due call ≡ []) where
   whole_one : (lock : Lock E) → lock.entries ++ option_map_or due (option_and_then (slice_get calls) lock.holder) [] ≡ lock.entries
   whole_one lock = ap (λ (l : List E). lock.entries ++ l) (by lock.holder) ∙ append-nil lock.entries
     where
-      found : (n : ℕ) (o : Option Call) → slice_get calls n ≡ o → option_map_or due o [] ≡ []
+      found : (n : ℕ) (o : Option RunningCall) → slice_get calls n ≡ o → option_map_or due o [] ≡ []
       found n None e = refl
       found n (Some call) e = none n call e
 

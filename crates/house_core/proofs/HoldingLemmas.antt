@@ -3,7 +3,7 @@ use Rattle.std.proofs.Common.{◌≡◌, ℕ, true, refl, sym, ap, ◌∙◌, Op
 use Rattle.std.specs.Option.{option_and_then}
 use Rattle.std.proofs.lemmas.Option.{none-some, slice_get-map}
 use Rattle.cdr_checks.specs.declared.request.Command.{Command}
-use Rattle.house_core.specs.declared.call.Call.{Call}
+use Rattle.house_core.specs.declared.running_call.RunningCall.{RunningCall}
 use Rattle.house_core.specs.declared.locks.AccountLock.{AccountLock}
 use Rattle.house_core.specs.declared.locks.BookLock.{BookLock}
 use Rattle.house_core.specs.declared.parts.Parts.{Parts}
@@ -16,7 +16,7 @@ use Rattle.house_core.specs.Inner.Ready.{AreSound}
 use Rattle.house_core.specs.Inner.Shown.{shown_account, shown_book}
 
 module _ (parts : Parts) (sound : AreSound parts) where
-  pub holds_book : (n : ℕ) (call : Call) (at : ℕ) → slice_get parts.calls.items n ≡ Some call → held_book call ≡ Some at
+  pub holds_book : (n : ℕ) (call : RunningCall) (at : ℕ) → slice_get parts.calls.items n ≡ Some call → held_book call ≡ Some at
       → option_and_then (λ (l : BookLock). l.holder) (slice_get parts.books.items at) ≡ Some n
   holds_book n call at there holds =
       by (slice_get parts.books.items at) (ap (option_and_then (λ l. l.holder)) (sym (slice_get-map shown_book parts.books.items at)) ∙ sound.holds.books.holding n call at there holds)
@@ -25,7 +25,7 @@ module _ (parts : Parts) (sound : AreSound parts) where
       by None h = h
       by (Some lock) h = h
 
-  pub holds_account : (n : ℕ) (call : Call) (at : ℕ) → slice_get parts.calls.items n ≡ Some call → held_account call ≡ Some at
+  pub holds_account : (n : ℕ) (call : RunningCall) (at : ℕ) → slice_get parts.calls.items n ≡ Some call → held_account call ≡ Some at
       → option_and_then (λ (l : AccountLock). l.holder) (slice_get parts.accounts.items at) ≡ Some n
   holds_account n call at there holds =
       by (slice_get parts.accounts.items at) (ap (option_and_then (λ l. l.holder)) (sym (slice_get-map shown_account parts.accounts.items at)) ∙ sound.holds.accounts.holding n call at there holds)
@@ -44,11 +44,11 @@ begun_carries_nothing (stage.Stating stating) h = refl
 begun_carries_nothing stage.Ended h = refl
 
 -- one that begins carries what it did, and holds what it did
-pub begins_with : (point : ℕ) (call : Call) (o : Option Command) → (held_book (begun_when point call o) ≡ held_book call) × (held_account (begun_when point call o) ≡ held_account call)
+pub begins_with : (point : ℕ) (call : RunningCall) (o : Option Command) → (held_book (begun_when point call o) ≡ held_book call) × (held_account (begun_when point call o) ≡ held_account call)
 begins_with point call None = (refl, refl)
 begins_with point call (Some command) = (refl, refl)
 
-pub begins_carrying : (point : ℕ) (call : Call) (s : Stage) (carried : Carried) → call.stage ≡ s → ordered (begun_when point call (waiting s)).stage ≡ Some carried → ordered call.stage ≡ Some carried
+pub begins_carrying : (point : ℕ) (call : RunningCall) (s : Stage) (carried : Carried) → call.stage ≡ s → ordered (begun_when point call (waiting s)).stage ≡ Some carried → ordered call.stage ≡ Some carried
 begins_carrying point call (stage.Waiting command) carried e h = absurd (none-some carried h)
 begins_carrying point call (stage.Begun command) carried e h = h
 begins_carrying point call (stage.Ordered own) carried e h = h

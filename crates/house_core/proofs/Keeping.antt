@@ -9,9 +9,9 @@ use Rattle.plain_house.specs.declared.entry.BookEntry.{BookEntry}
 use Rattle.plain_house.specs.declared.event.Event.{Event}
 use Rattle.period_order.specs.declared.order_entry.OrderEntry.{OrderEntry}
 use Rattle.period_order.specs.Kept.{Keeps}
-use Rattle.house_core.specs.declared.call.Call.{Call}
+use Rattle.house_core.specs.declared.running_call.RunningCall.{RunningCall}
 use Rattle.house_core.specs.Calls.{due_in_account, due_in_book, held_account, held_book}
-use Rattle.house_core.specs.Inner.Sound.{Holds, IsCall}
+use Rattle.house_core.specs.Inner.Sound.{Holds, IsRunningCall}
 use Rattle.house_core.specs.Locks.{Lock}
 use Rattle.house_core.specs.World.{PlainWorld}
 use Rattle.house_core.proofs.StepLemmas.{put_back, with_call}
@@ -28,22 +28,22 @@ kept_as config books now_books accounts now_accounts order events keeps b a = re
 }
 
 module _ (config : Config) (commands : List Command) (events : List Event) (world : PlainWorld) (holds : Holds config commands events world)
-    (number : ℕ) (call now : Call) (is : slice_get world.calls number ≡ Some call) where
+    (number : ℕ) (call now : RunningCall) (is : slice_get world.calls number ≡ Some call) where
   -- each call is where it is, the changed one too
-  pub calls_after : ((command : Command) → slice_get commands number ≡ Some command → IsCall config events command call → IsCall config events command now)
-      → (n : ℕ) (other : Call) → slice_get (slice_set world.calls number now) n ≡ Some other
-      → (command : Command) × (slice_get commands n ≡ Some command) × IsCall config events command other
+  pub calls_after : ((command : Command) → slice_get commands number ≡ Some command → IsRunningCall config events command call → IsRunningCall config events command now)
+      → (n : ℕ) (other : RunningCall) → slice_get (slice_set world.calls number now) n ≡ Some other
+      → (command : Command) × (slice_get commands n ≡ Some command) × IsRunningCall config events command other
   calls_after goes_on n other there = ⊎_elim
       (λ (e : n ≡ number).
       let same : now ≡ other = same_Some now other (sym (get-set_same world.calls number now call is) ∙ ap (slice_get (slice_set world.calls number now)) (sym e) ∙ there) in
       let old = holds.calls number call is in
-      (old.0, ap (slice_get commands) e ∙ old.1, subst (IsCall config events old.0) same (goes_on old.0 old.1 old.2)))
+      (old.0, ap (slice_get commands) e ∙ old.1, subst (IsRunningCall config events old.0) same (goes_on old.0 old.1 old.2)))
       (λ (d : n ≢ number). holds.calls n other (sym (get-set_other world.calls number n now d) ∙ there))
       (cases_eq n number)
 
   -- a call goes on by itself
   pub goes_on : held_book now ≡ held_book call → due_in_book now ≡ due_in_book call → held_account now ≡ held_account call → due_in_account now ≡ due_in_account call
-      → ((command : Command) → slice_get commands number ≡ Some command → IsCall config events command call → IsCall config events command now)
+      → ((command : Command) → slice_get commands number ≡ Some command → IsRunningCall config events command call → IsRunningCall config events command now)
       → Holds config commands events (with_call world number now)
   goes_on book book_due account account_due further = record {
     config_is = holds.config_is;
@@ -67,7 +67,7 @@ module _ (config : Config) (commands : List Command) (events : List Event) (worl
     at_place : slice_get (wholes held_book due_in_book world.calls world.books) at ≡ Some (whole held_book due_in_book world.calls lock)
     at_place = slice_get-map (whole held_book due_in_book world.calls) world.books at ∙ ap (option_map (whole held_book due_in_book world.calls)) here
 
-    pub goes_on_with_book : ((command : Command) → slice_get commands number ≡ Some command → IsCall config events command call → IsCall config events command now)
+    pub goes_on_with_book : ((command : Command) → slice_get commands number ≡ Some command → IsRunningCall config events command call → IsRunningCall config events command now)
         → Holds config commands events (record { config = world.config; books = slice_set world.books at new; accounts = world.accounts; order = world.order; calls = slice_set world.calls number now })
     goes_on_with_book further = record {
       config_is = holds.config_is;
@@ -93,7 +93,7 @@ module _ (config : Config) (commands : List Command) (events : List Event) (worl
     account_place : slice_get (wholes held_account due_in_account world.calls world.accounts) at ≡ Some (whole held_account due_in_account world.calls lock)
     account_place = slice_get-map (whole held_account due_in_account world.calls) world.accounts at ∙ ap (option_map (whole held_account due_in_account world.calls)) here
 
-    pub goes_on_with_account : ((command : Command) → slice_get commands number ≡ Some command → IsCall config events command call → IsCall config events command now)
+    pub goes_on_with_account : ((command : Command) → slice_get commands number ≡ Some command → IsRunningCall config events command call → IsRunningCall config events command now)
         → Holds config commands events (record { config = world.config; books = world.books; accounts = slice_set world.accounts at new; order = world.order; calls = slice_set world.calls number now })
     goes_on_with_account further = record {
       config_is = holds.config_is;

@@ -1,5 +1,6 @@
 pub mod Abandoning
 pub mod BegunLemmas
+pub mod ClaimLemmas
 pub mod CollectSteps
 pub mod CollectedLemmas
 pub mod CollectingLemmas

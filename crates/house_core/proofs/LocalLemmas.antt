@@ -10,8 +10,8 @@ use Rattle.plain_house.specs.Known.{Known}
 use Rattle.plain_house.specs.Replies.{stamped}
 use Rattle.period_order.specs.declared.order_entry.OrderEntry.{OrderEntry}
 use Rattle.period_order.specs.Order.{is_close_entry}
-use Rattle.house_core.specs.declared.call.Call.{Call}
-use Rattle.house_core.specs.declared.call.ReplyDue.{ReplyDue}
+use Rattle.house_core.specs.declared.running_call.RunningCall.{RunningCall}
+use Rattle.house_core.specs.declared.running_call.ReplyDue.{ReplyDue}
 use Rattle.house_core.specs.declared.finished.Done.{Done}
 use Rattle.house_core.specs.declared.finished.Done.TheVariants as done
 use Rattle.house_core.specs.declared.finished.Finished.{Finished}
@@ -29,7 +29,7 @@ use Rattle.house_core.proofs.TimeLemmas.{made, made_then, where_free}
 abbrev seen_by : List BookEntry → List AccountEntry → List OrderEntry → Known
 seen_by book account kept = record { book = book; account = account; point = length kept; period = count_by is_close_entry kept }
 
-abbrev ended_at : ℕ → Call → ℕ → Done → Finished
+abbrev ended_at : ℕ → RunningCall → ℕ → Done → Finished
 ended_at number call point done = record { call = number; begin = call.begin; end = point; done = done }
 
 pub decided : StepsAreDecided

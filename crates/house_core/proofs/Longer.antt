@@ -13,13 +13,13 @@ use Rattle.plain_house.specs.House.{verdict}
 use Rattle.plain_house.specs.Known.{known}
 use Rattle.plain_house.specs.Obligations.{ClosedPeriodsStay}
 use Rattle.plain_house.specs.Replies.{Reply, stamped}
-use Rattle.house_core.specs.declared.call.Call.{Call}
+use Rattle.house_core.specs.declared.running_call.RunningCall.{RunningCall}
 use Rattle.house_core.specs.declared.stage.Netting.{Netting}
 use Rattle.house_core.specs.declared.stage.Stage.{Stage}
 use Rattle.house_core.specs.declared.stage.Stage.TheVariants as stage
 use Rattle.house_core.specs.declared.stage.Stating.{Stating}
 use Rattle.house_core.specs.Inner.Collecting.{Fits, IsNetting, IsStating, IsWhole, owed_in}
-use Rattle.house_core.specs.Inner.Sound.{IsAt, IsCall}
+use Rattle.house_core.specs.Inner.Sound.{IsAt, IsRunningCall}
 use Rattle.house_core.specs.OneHouse.{IsAnswered}
 
 module _ (stay : ClosedPeriodsStay) (config : Config) (events more : List Event) (command : Command) (begin : ℕ) where
@@ -81,7 +81,7 @@ module _ (stay : ClosedPeriodsStay) (config : Config) (events more : List Event)
   at_longer (stage.Stating stating) h = stating_longer stating h
   at_longer stage.Ended h = tt
 
-pub call_longer : ClosedPeriodsStay → (config : Config) (events more : List Event) (command : Command) (call : Call) → IsCall config events command call → IsCall config (events ++ more) command call
+pub call_longer : ClosedPeriodsStay → (config : Config) (events more : List Event) (command : Command) (call : RunningCall) → IsRunningCall config events command call → IsRunningCall config (events ++ more) command call
 call_longer stay config events more command call h = record {
   admitted = h.admitted;
   book = h.book;

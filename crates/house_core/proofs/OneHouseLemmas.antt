@@ -22,8 +22,8 @@ use Rattle.plain_house.specs.Legal.{EmptyListsAreLegal}
 use Rattle.plain_house.specs.Own.{own_account, own_book}
 use Rattle.plain_house.specs.Replies.{stamped}
 use Rattle.period_order.specs.Resolved.{resolved}
-use Rattle.house_core.specs.declared.call.Call.{Call}
-use Rattle.house_core.specs.declared.call.ReplyDue.{ReplyDue}
+use Rattle.house_core.specs.declared.running_call.RunningCall.{RunningCall}
+use Rattle.house_core.specs.declared.running_call.ReplyDue.{ReplyDue}
 use Rattle.house_core.specs.declared.finished.Done.TheVariants as done
 use Rattle.house_core.specs.declared.finished.Finished.{Finished}
 use Rattle.house_core.specs.declared.stage.Netting.{Netting}
@@ -39,7 +39,7 @@ use Rattle.std.specs.List.{AllByRecursion}
 use Rattle.house_core.specs.Events.{events_of, whole_account, whole_book}
 use Rattle.house_core.specs.Inner.Collecting.{IsNetting, IsStating, owed_in}
 use Rattle.house_core.specs.Holders.{holder_at}
-use Rattle.house_core.specs.Inner.Sound.{Holds, IsCall}
+use Rattle.house_core.specs.Inner.Sound.{Holds, IsRunningCall}
 use Rattle.period_order.specs.Kept.{IsConfiguration}
 use Rattle.house_core.specs.OneHouse.{IsAnswered, IsFinished, after, events_behind}
 use Rattle.house_core.specs.Start.{call_of, start}
@@ -80,11 +80,11 @@ module _ (config : Config) (commands : List Command) (laws : HouseLaws) (is_conf
     ordering true book account has_book has_account start (stage.Waiting own) e is = holds
     ordering true book account has_book has_account start (stage.Begun own) e is =
         let parts = and_parts (is_none book || has_book) (is_none account || has_account) e in
-        let call : Call = record { book = book; account = account; has_book = has_book; has_account = has_account; begin = start; stage = stage.Begun own } in
+        let call : RunningCall = record { book = book; account = account; has_book = has_book; has_account = has_account; begin = start; stage = stage.Begun own } in
         let one = holds.calls number call is in
         let own_is : own ≡ one.0 = one.2.at.0 in
         (is_placed laws config is_config commands events world holds number book account has_book has_account start own is
-        (one.1 ∙ ap (λ x. Some x) (sym own_is)) (subst (λ c. IsCall config events c call) (sym own_is) one.2) parts.0 parts.1).holds_then
+        (one.1 ∙ ap (λ x. Some x) (sym own_is)) (subst (λ c. IsRunningCall config events c call) (sym own_is) one.2) parts.0 parts.1).holds_then
     ordering true book account has_book has_account start (stage.Ordered carried) e is = holds
     ordering true book account has_book has_account start (stage.Netting netting) e is = holds
     ordering true book account has_book has_account start (stage.Stating stating) e is = holds
@@ -100,13 +100,13 @@ module _ (config : Config) (commands : List Command) (laws : HouseLaws) (is_conf
     abandoning book account has_book has_account start (stage.Stating stating) is = holds
     abandoning book account has_book has_account start stage.Ended is = holds
 
-    collecting : (at : ℕ) (call : Call) → slice_get world.calls number ≡ Some call → HoldsAt events (changed world number (change_by world number call (action.Collect at)))
+    collecting : (at : ℕ) (call : RunningCall) → slice_get world.calls number ≡ Some call → HoldsAt events (changed world number (change_by world number call (action.Collect at)))
     collecting at call is =
         subst (λ c. HoldsAt events (changed world number (collect_at c at call (slice_get c.operators at) (slice_get world.books at)))) (sym holds.config_is)
         (collects_book laws.own_dues laws.no_larger config is_config commands events world holds number call.book call.account call.has_book call.has_account call.begin at call.stage is
         (slice_get config.operators at) refl (slice_get world.books at) refl)
 
-    keeps_by : (call : Call) (a : Action) → slice_get world.calls number ≡ Some call
+    keeps_by : (call : RunningCall) (a : Action) → slice_get world.calls number ≡ Some call
         → HoldsAt (events_behind config events (option_to_list (ordered_by call a))) (changed world number (change_by world number call a))
     keeps_by call action.Begin is =
         let point : length world.order ≡ length events = at_point events world holds in
@@ -123,16 +123,16 @@ module _ (config : Config) (commands : List Command) (laws : HouseLaws) (is_conf
   pub keeps : (events : List Event) (world : PlainWorld) (one : Step) → HoldsAt events world → HoldsAt (events_behind config events (option_to_list (orders world one))) (step world one)
   keeps events world one holds = by (slice_get world.calls one.call) refl
     where
-      by : (o : Option Call) → slice_get world.calls one.call ≡ o
-          → HoldsAt (events_behind config events (option_to_list (option_and_then (λ (call : Call). ordered_by call one.action) o)))
-          (changed world one.call (option_and_then (λ (call : Call). change_by world one.call call one.action) o))
+      by : (o : Option RunningCall) → slice_get world.calls one.call ≡ o
+          → HoldsAt (events_behind config events (option_to_list (option_and_then (λ (call : RunningCall). ordered_by call one.action) o)))
+          (changed world one.call (option_and_then (λ (call : RunningCall). change_by world one.call call one.action) o))
       by None e = holds
       by (Some call) e = keeps_by events world holds one.call call one.action e
 
   -- ---- calls that end
 
   module _ (events : List Event) (world : PlainWorld) (holds : HoldsAt events world) (number : ℕ) where
-    abbrev call_at : Option ℕ → Option ℕ → Bool → Bool → ℕ → Stage → Call
+    abbrev call_at : Option ℕ → Option ℕ → Bool → Bool → ℕ → Stage → RunningCall
     call_at book account has_book has_account start s = record { book = book; account = account; has_book = has_book; has_account = has_account; begin = start; stage = s }
 
     -- what such a reply ends
@@ -215,7 +215,7 @@ module _ (config : Config) (commands : List Command) (laws : HouseLaws) (is_conf
     abandoned book account has_book has_account start (stage.Stating stating) is = tt
     abandoned book account has_book has_account start stage.Ended is = tt
 
-    done_by : (call : Call) (a : Action) → slice_get world.calls number ≡ Some call → AllByRecursion (IsFinished config commands events) (option_to_list (ended_by world number call a))
+    done_by : (call : RunningCall) (a : Action) → slice_get world.calls number ≡ Some call → AllByRecursion (IsFinished config commands events) (option_to_list (ended_by world number call a))
     done_by call action.Begin is = tt
     done_by call action.TakeBook is = tt
     done_by call action.TakeAccount is = tt
@@ -229,21 +229,21 @@ module _ (config : Config) (commands : List Command) (laws : HouseLaws) (is_conf
   pub finishes_well : (events : List Event) (world : PlainWorld) (one : Step) → HoldsAt events world → AllByRecursion (IsFinished config commands events) (option_to_list (finishes world one))
   finishes_well events world one holds = by (slice_get world.calls one.call) refl
     where
-      by : (o : Option Call) → slice_get world.calls one.call ≡ o
-          → AllByRecursion (IsFinished config commands events) (option_to_list (option_and_then (λ (call : Call). ended_by world one.call call one.action) o))
+      by : (o : Option RunningCall) → slice_get world.calls one.call ≡ o
+          → AllByRecursion (IsFinished config commands events) (option_to_list (option_and_then (λ (call : RunningCall). ended_by world one.call call one.action) o))
       by None e = tt
       by (Some call) e = done_by events world holds one.call call one.action e
 
   -- ---- before any step
 
   module _ (empty : EmptyListsAreLegal) (admitted : (n : ℕ) (own : Command) → slice_get commands n ≡ Some own → IsAdmitted config own) where
-    pub waiting_at : (own : List Command) (n : ℕ) (call : Call) → slice_get (map (call_of config) own) n ≡ Some call
+    pub waiting_at : (own : List Command) (n : ℕ) (call : RunningCall) → slice_get (map (call_of config) own) n ≡ Some call
         → (one : Command) × (slice_get own n ≡ Some one) × (call_of config one ≡ call)
     waiting_at [] n call h = absurd (none-some call h)
     waiting_at (x ∷ xs) zero call h = (x, refl, same_Some (call_of config x) call h)
     waiting_at (x ∷ xs) (suc n) call h = waiting_at xs n call h
 
-    abbrev calls_at : List Call
+    abbrev calls_at : List RunningCall
     calls_at = map (call_of config) commands
 
     empty_books : (ops : List Operator) → map (whole_book calls_at) (map (λ operator. record { holder = None; entries = [] }) ops) ≡ map (λ operator. own_book operator.party (book_entries [])) ops
@@ -275,7 +275,7 @@ module _ (config : Config) (commands : List Command) (laws : HouseLaws) (is_conf
           let one = waiting_at commands n call is in (
             one.0,
             one.1,
-            subst (IsCall config [] one.0) one.2 (record {
+            subst (IsRunningCall config [] one.0) one.2 (record {
               admitted = admitted n one.0 one.1;
               book = refl;
               account = refl;

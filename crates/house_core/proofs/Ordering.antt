@@ -19,12 +19,12 @@ use Rattle.plain_house.specs.Verdict.{Verdict}
 use Rattle.period_order.specs.Kept.{AreDistinct, Keeps, with_added}
 use Rattle.period_order.specs.Order.{is_close_entry}
 use Rattle.period_order.specs.Places.{operator_number, order_entry, provider_number}
-use Rattle.house_core.specs.declared.call.Call.{Call}
+use Rattle.house_core.specs.declared.running_call.RunningCall.{RunningCall}
 use Rattle.house_core.specs.declared.stage.Stage.{Stage}
 use Rattle.house_core.specs.declared.stage.Stage.TheVariants as stage
 use Rattle.house_core.specs.Calls.{due_in_account, due_in_book, held_account, held_book}
 use Rattle.house_core.specs.Calls.{collects}
-use Rattle.house_core.specs.Inner.Sound.{Holds, IsAt, IsCall}
+use Rattle.house_core.specs.Inner.Sound.{Holds, IsAt, IsRunningCall}
 use Rattle.house_core.specs.Locks.{Lock, entries_at}
 use Rattle.house_core.specs.OneHouse.{IsAnswered}
 use Rattle.house_core.specs.Steps.{known_to}
@@ -57,13 +57,13 @@ module _ (config : Config) (commands : List Command) (events : List Event) (worl
   -- ---- the place of one command
 
   module _ (number : ℕ) (book account : Option ℕ) (has_book has_account : Bool) (begin : ℕ) (told : Command) where
-    abbrev pub at_stage : Stage → Call
+    abbrev pub at_stage : Stage → RunningCall
     at_stage s = record { book = book; account = account; has_book = has_book; has_account = has_account; begin = begin; stage = s }
 
-    abbrev pub ready_call : Call
+    abbrev pub ready_call : RunningCall
     ready_call = at_stage (stage.Begun told)
 
-    module _ (is : slice_get world.calls number ≡ Some ready_call) (named : slice_get commands number ≡ Some told) (mine : IsCall config events told ready_call)
+    module _ (is : slice_get world.calls number ≡ Some ready_call) (named : slice_get commands number ≡ Some told) (mine : IsRunningCall config events told ready_call)
         (ready_book : (is_none book || has_book) ≡ true) (ready_account : (is_none account || has_account) ≡ true)
         (laws : HouseLaws) (distinct : AreDistinct config) where
       parties : HasParties config told
@@ -158,10 +158,10 @@ module _ (config : Config) (commands : List Command) (events : List Event) (worl
       }
 
       module _ (s : Stage) where
-        abbrev now : Call
+        abbrev now : RunningCall
         now = at_stage s
 
-        is_call_now : (event : Option Event) → IsAt config (with_event events event) told begin s → IsCall config (with_event events event) told now
+        is_call_now : (event : Option Event) → IsAt config (with_event events event) told begin s → IsRunningCall config (with_event events event) told now
         is_call_now event at = record {
           admitted = mine.admitted;
           book = mine.book;
@@ -171,16 +171,16 @@ module _ (config : Config) (commands : List Command) (events : List Event) (worl
           at = at;
         }
 
-        call_after : (event : Option Event) (command : Command) (other : Call) → IsCall config events command other → IsCall config (with_event events event) command other
+        call_after : (event : Option Event) (command : Command) (other : RunningCall) → IsRunningCall config events command other → IsRunningCall config (with_event events event) command other
         call_after None command other h = h
         call_after (Some e) command other h = call_longer laws.stay config events (e ∷ []) command other h
 
-        calls_now : (event : Option Event) → IsAt config (with_event events event) told begin s → (n : ℕ) (other : Call) → slice_get (slice_set world.calls number now) n ≡ Some other
-            → (command : Command) × (slice_get commands n ≡ Some command) × IsCall config (with_event events event) command other
+        calls_now : (event : Option Event) → IsAt config (with_event events event) told begin s → (n : ℕ) (other : RunningCall) → slice_get (slice_set world.calls number now) n ≡ Some other
+            → (command : Command) × (slice_get commands n ≡ Some command) × IsRunningCall config (with_event events event) command other
         calls_now event at n other there = ⊎_elim
             (λ (same : n ≡ number).
             let it : now ≡ other = same_Some now other (sym (get-set_same world.calls number now ready_call is) ∙ ap (slice_get (slice_set world.calls number now)) (sym same) ∙ there) in
-            (told, ap (slice_get commands) same ∙ named, subst (IsCall config (with_event events event) told) it (is_call_now event at)))
+            (told, ap (slice_get commands) same ∙ named, subst (IsRunningCall config (with_event events event) told) it (is_call_now event at)))
             (λ (apart : n ≢ number).
             let old = holds.calls n other (sym (get-set_other world.calls number n now apart) ∙ there) in
             (old.0, old.1, call_after event old.0 other old.2))

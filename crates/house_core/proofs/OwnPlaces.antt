@@ -14,8 +14,8 @@ use Rattle.plain_house.specs.Replies.{stamped}
 use Rattle.period_order.specs.declared.decided.Outcome.{Outcome}
 use Rattle.period_order.specs.declared.decided.Outcome.TheVariants as outcome
 use Rattle.period_order.specs.Decided.{outcome_of}
-use Rattle.house_core.specs.declared.call.Call.{Call}
-use Rattle.house_core.specs.declared.call.ReplyDue.{ReplyDue}
+use Rattle.house_core.specs.declared.running_call.RunningCall.{RunningCall}
+use Rattle.house_core.specs.declared.running_call.ReplyDue.{ReplyDue}
 use Rattle.house_core.specs.declared.finished.Done.{Done}
 use Rattle.house_core.specs.declared.finished.Done.TheVariants as done
 use Rattle.house_core.specs.declared.finished.Finished.{Finished}
@@ -115,7 +115,7 @@ module _ (first : PlainWorld) where
   StandsDone steps call done.Abandoned = NotOrdered steps call
 
   abbrev pub AllStand : List Step → Type 0
-  AllStand past = (n : ℕ) (call : Call) → slice_get (after first past).calls n ≡ Some call → StandsAt past n call.stage
+  AllStand past = (n : ℕ) (call : RunningCall) → slice_get (after first past).calls n ≡ Some call → StandsAt past n call.stage
 
   placed_longer : (past more : List Step) (call point : ℕ) → OrderedAt past call point → OrderedAt (past ++ more) call point
   placed_longer past more call point is = record {
@@ -214,21 +214,21 @@ module _ (first : PlainWorld) where
         by (Some own) = ((λ (same : one.call ≡ n). apart (sym same)), tt)
 
     -- an action other than Order orders nothing
-    is_quiet : (n : ℕ) (a : Action) → ((call : Call) → ordered_by call a ≡ None) → OtherAt (record { call = n; action = a }) n
+    is_quiet : (n : ℕ) (a : Action) → ((call : RunningCall) → ordered_by call a ≡ None) → OtherAt (record { call = n; action = a }) n
     is_quiet n a quiet = none_ordered (record { call = n; action = a }) n (by (slice_get now.calls n))
       where
-        by : (o : Option Call) → option_and_then (λ (call : Call). ordered_by call a) o ≡ None
+        by : (o : Option RunningCall) → option_and_then (λ (call : RunningCall). ordered_by call a) o ≡ None
         by None = refl
         by (Some call) = quiet call
 
-    module _ (number : ℕ) (call : Call) (is : slice_get now.calls number ≡ Some call) (stands : StandsAt past number call.stage) where
+    module _ (number : ℕ) (call : RunningCall) (is : slice_get now.calls number ≡ Some call) (stands : StandsAt past number call.stage) where
       abbrev with_step : Action → List Step
       with_step a = past ++ record { call = number; action = a } ∷ []
 
       abbrev StandsBy : Action → Change → Type 0
       StandsBy a change = StandsAt (with_step a) number change.call.stage
 
-      stays : (a : Action) → ((call : Call) → ordered_by call a ≡ None) → StandsAt (with_step a) number call.stage
+      stays : (a : Action) → ((call : RunningCall) → ordered_by call a ≡ None) → StandsAt (with_step a) number call.stage
       stays a quiet = stands_longer past (record { call = number; action = a } ∷ []) number call.stage (alone (record { call = number; action = a }) number (is_quiet number a quiet)) stands
 
       change_stands : (a : Action) (change : Change) → change_by now number call a ≡ Some change → StandsBy a change
@@ -248,7 +248,7 @@ module _ (first : PlainWorld) where
             later = [];
             command = own;
             split = refl;
-            placed = ap (option_and_then (λ (c : Call). ready c)) is ∙ e;
+            placed = ap (option_and_then (λ (c : RunningCall). ready c)) is ∙ e;
             at = refl;
           })) h
       change_stands action.PutAccount change h =
@@ -283,7 +283,7 @@ module _ (first : PlainWorld) where
       unchanged_stands action.Order h =
           stands_longer past (record { call = number; action = action.Order } ∷ []) number call.stage
           (alone (record { call = number; action = action.Order }) number
-          (none_ordered (record { call = number; action = action.Order }) number (ap (option_and_then (λ (c : Call). ready c)) is ∙ by (ready call) h))) stands
+          (none_ordered (record { call = number; action = action.Order }) number (ap (option_and_then (λ (c : RunningCall). ready c)) is ∙ by (ready call) h))) stands
         where
           by : (o : Option Command) → option_map (order now.config (known_to now call) call) o ≡ None → o ≡ None
           by None g = refl
@@ -326,19 +326,19 @@ module _ (first : PlainWorld) where
               (placed_longer past (record { call = number; action = action.End } ∷ later) number due.point (due_stands past number _ call.stage due e stands))
 
     module _ (one : Step) (all : AllStand past) where
-      step_stands : (n : ℕ) (other : Call) → slice_get (step now one).calls n ≡ Some other → StandsAt (past ++ one ∷ []) n other.stage
+      step_stands : (n : ℕ) (other : RunningCall) → slice_get (step now one).calls n ≡ Some other → StandsAt (past ++ one ∷ []) n other.stage
       step_stands = by (slice_get now.calls one.call) refl
         where
-          beside : (n : ℕ) (other : Call) → n ≢ one.call → slice_get now.calls n ≡ Some other → StandsAt (past ++ one ∷ []) n other.stage
+          beside : (n : ℕ) (other : RunningCall) → n ≢ one.call → slice_get now.calls n ≡ Some other → StandsAt (past ++ one ∷ []) n other.stage
           beside n other apart there = stands_longer past (one ∷ []) n other.stage (other_ordered one n apart) (all n other there)
 
-          put : (call : Call) → slice_get now.calls one.call ≡ Some call → (o : Option Change) → change_by now one.call call one.action ≡ o
-              → (n : ℕ) (other : Call) → slice_get (changed now one.call o).calls n ≡ Some other → StandsAt (past ++ one ∷ []) n other.stage
+          put : (call : RunningCall) → slice_get now.calls one.call ≡ Some call → (o : Option Change) → change_by now one.call call one.action ≡ o
+              → (n : ℕ) (other : RunningCall) → slice_get (changed now one.call o).calls n ≡ Some other → StandsAt (past ++ one ∷ []) n other.stage
           put call is None e n other there = ⊎_elim
               (λ (same : n ≡ one.call).
               let it : call ≡ other = same_Some call other (sym is ∙ ap (slice_get now.calls) (sym same) ∙ there) in
               subst (λ (m : ℕ). StandsAt (past ++ one ∷ []) m other.stage) (sym same)
-              (subst (λ (c : Call). StandsAt (past ++ one ∷ []) one.call c.stage) it (unchanged_stands one.call call is (all one.call call is) one.action e)))
+              (subst (λ (c : RunningCall). StandsAt (past ++ one ∷ []) one.call c.stage) it (unchanged_stands one.call call is (all one.call call is) one.action e)))
               (λ (apart : n ≢ one.call). beside n other apart there)
               (cases_eq n one.call)
           put call is (Some change) e n other there = ⊎_elim
@@ -346,12 +346,12 @@ module _ (first : PlainWorld) where
               let it : change.call ≡ other =
               same_Some change.call other (sym (get-set_same now.calls one.call change.call call is) ∙ ap (slice_get (slice_set now.calls one.call change.call)) (sym same) ∙ there) in
               subst (λ (m : ℕ). StandsAt (past ++ one ∷ []) m other.stage) (sym same)
-              (subst (λ (c : Call). StandsAt (past ++ one ∷ []) one.call c.stage) it (change_stands one.call call is (all one.call call is) one.action change e)))
+              (subst (λ (c : RunningCall). StandsAt (past ++ one ∷ []) one.call c.stage) it (change_stands one.call call is (all one.call call is) one.action change e)))
               (λ (apart : n ≢ one.call). beside n other apart (sym (get-set_other now.calls one.call n change.call apart) ∙ there))
               (cases_eq n one.call)
 
-          by : (o : Option Call) → slice_get now.calls one.call ≡ o → (n : ℕ) (other : Call)
-              → slice_get (changed now one.call (option_and_then (λ (call : Call). change_by now one.call call one.action) o)).calls n ≡ Some other → StandsAt (past ++ one ∷ []) n other.stage
+          by : (o : Option RunningCall) → slice_get now.calls one.call ≡ o → (n : ℕ) (other : RunningCall)
+              → slice_get (changed now one.call (option_and_then (λ (call : RunningCall). change_by now one.call call one.action) o)).calls n ≡ Some other → StandsAt (past ++ one ∷ []) n other.stage
           by None e n other there = ⊎_elim
               (λ (same : n ≡ one.call). absurd (none-some other (sym e ∙ ap (slice_get now.calls) (sym same) ∙ there)))
               (λ (apart : n ≢ one.call). beside n other apart there)
@@ -366,7 +366,7 @@ module _ (first : PlainWorld) where
   one_done : (past : List Step) → AllStand past → (one : Step) (rest : List Step) (f : Finished) → finishes (after first past) one ≡ Some f → StandsDone (past ++ one ∷ rest) f.call f.done
   one_done past all one rest f e = by (slice_get (after first past).calls one.call) refl e
     where
-      by : (o : Option Call) → slice_get (after first past).calls one.call ≡ o → option_and_then (λ (call : Call). ended_by (after first past) one.call call one.action) o ≡ Some f
+      by : (o : Option RunningCall) → slice_get (after first past).calls one.call ≡ o → option_and_then (λ (call : RunningCall). ended_by (after first past) one.call call one.action) o ≡ Some f
           → StandsDone (past ++ one ∷ rest) f.call f.done
       by None is g = absurd (none-some f g)
       by (Some call) is g =

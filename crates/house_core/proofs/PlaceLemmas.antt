@@ -25,7 +25,7 @@ use Rattle.period_order.specs.declared.order_entry.OrderEntry.{OrderEntry}
 use Rattle.period_order.specs.Decided.{AccountTakes, AccountTakesAny, AreOfAccount, AreOfBook, BookTakes, BookTakesAny, Decides, account_length, book_length, closed_by, event_of, order_with, outcome_of, stated_by, with_entry}
 use Rattle.period_order.specs.Order.{PlainOrder, current_of, point_of}
 use Rattle.period_order.specs.Places.{operator_number, order_entry, provider_number}
-use Rattle.house_core.specs.declared.call.Call.{Call}
+use Rattle.house_core.specs.declared.running_call.RunningCall.{RunningCall}
 use Rattle.house_core.specs.declared.locks.AccountLock.{AccountLock}
 use Rattle.house_core.specs.declared.locks.BookLock.{BookLock}
 use Rattle.house_core.specs.declared.parts.Parts.{Parts}
@@ -38,7 +38,7 @@ use Rattle.house_core.specs.Calls.{begun, has_its_account, has_its_book, held_ac
 use Rattle.house_core.specs.Inner.Moves.{ready_at}
 use Rattle.house_core.specs.Inner.Ready.{AccountIsReady, AreReady, AreSound, BookIsReady, HaveRoom, shown}
 use Rattle.house_core.specs.Inner.Shown.{shown_account, shown_accounts, shown_book, shown_books}
-use Rattle.house_core.specs.Inner.Sound.{IsAt, IsCall}
+use Rattle.house_core.specs.Inner.Sound.{IsAt, IsRunningCall}
 use Rattle.house_core.specs.Inner.Tables.{IsTableOf, stage_with, table_for}
 use Rattle.house_core.specs.Locks.{Lock, entries_at}
 use Rattle.house_core.specs.Steps.{changed, known_to, order, stage_after, step}
@@ -156,7 +156,7 @@ module _ (parts : Parts) where
       by (Some lock) = (refl, refl)
 
 -- a call whose table is given is ready, and the table is its command's
-pub table_given : (parts : Parts) (number : ℕ) (call : Call) → slice_get parts.calls.items number ≡ Some call → (table : Table) (own : Command) → begun call.stage ≡ Some own
+pub table_given : (parts : Parts) (number : ℕ) (call : RunningCall) → slice_get parts.calls.items number ≡ Some call → (table : Table) (own : Command) → begun call.stage ≡ Some own
     → Some table ≡ option_map (table_for parts.config) (ready_at (shown parts) number) → (ready call ≡ Some own) × (table ≡ table_for parts.config own)
 table_given parts number call is table own begins given =
     let one = some_mapped (table_for parts.config) (ready_at (shown parts) number) table given in
@@ -164,7 +164,7 @@ table_given parts number call is table own begins given =
     let same : one.0 ≡ own = same_Some one.0 own (sym (met (has_its_book call && has_its_account call) (begun call.stage) one.0 its).1 ∙ begins) in
     (its ∙ ap (λ (c : Command). Some c) same, one.2 ∙ ap (table_for parts.config) same)
 
-module _ (parts : Parts) (sound : AreSound parts) (number : ℕ) (call : Call) (is : slice_get parts.calls.items number ≡ Some call) (own : Command) (is_ready : ready call ≡ Some own) where
+module _ (parts : Parts) (sound : AreSound parts) (number : ℕ) (call : RunningCall) (is : slice_get parts.calls.items number ≡ Some call) (own : Command) (is_ready : ready call ≡ Some own) where
   both : (has_its_book call && has_its_account call ≡ true) × (begun call.stage ≡ Some own)
   both = met (has_its_book call && has_its_account call) (begun call.stage) own is_ready
 
@@ -177,10 +177,10 @@ module _ (parts : Parts) (sound : AreSound parts) (number : ℕ) (call : Call) (
   own_is (stage.Stating stating) other h at = absurd (none-some own h)
   own_is stage.Ended other h at = absurd (none-some own h)
 
-  mine : IsCall parts.config sound.events own call
+  mine : IsRunningCall parts.config sound.events own call
   mine =
       let one = sound.holds.calls number call is in
-      subst (λ (c : Command). IsCall parts.config sound.events c call) (own_is call.stage one.0 both.1 one.2.at) one.2
+      subst (λ (c : Command). IsRunningCall parts.config sound.events c call) (own_is call.stage one.0 both.1 one.2.at) one.2
 
   -- the book is there where the command looks into one, and the account
   pub has_book_given : is_some (given_book parts call.book) ≡ is_some (operator_of_command own)
@@ -247,7 +247,7 @@ module _ (parts : Parts) (sound : AreSound parts) (number : ℕ) (call : Call) (
         ∙ sym (stepped (shown parts) number call action.Order is)
 
     module _ (room : HaveRoom parts number) (s : Stage) (stage_now : s ≡ stage_after parts.config seen_by o) where
-      abbrev placed_call : Call
+      abbrev placed_call : RunningCall
       placed_call = record call { stage = s }
 
       takes_in_book : (at : ℕ) (lock : BookLock) (event : Event) → call.book ≡ Some at → slice_get parts.books.items at ≡ Some lock → event_of o ≡ Some event → BookTakes lock.book.entries event

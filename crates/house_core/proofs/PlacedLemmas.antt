@@ -7,7 +7,7 @@ use Rattle.cdr_checks.specs.declared.request.Command.{Command}
 use Rattle.cdr_checks.specs.Admission.{IsAdmitted}
 use Rattle.plain_house.specs.declared.event.Event.{Event}
 use Rattle.plain_house.specs.Legal.{EmptyListsAreLegal, IsLegal}
-use Rattle.house_core.specs.declared.call.Call.{Call}
+use Rattle.house_core.specs.declared.running_call.RunningCall.{RunningCall}
 use Rattle.house_core.specs.declared.finished.Done.{Done}
 use Rattle.house_core.specs.declared.finished.Done.TheVariants as done
 use Rattle.house_core.specs.declared.finished.Finished.{Finished}
@@ -45,7 +45,7 @@ module _ (config : Config) (commands : List Command) (laws : HouseLaws) (is_conf
   named_by : (events : List Event) (world : PlainWorld) (one : Step) (own : Command) → Holds config commands events world → orders world one ≡ Some own → slice_get commands one.call ≡ Some own
   named_by events world one own holds h =
       let it = orders_is (slice_get world.calls one.call) one.action own h in
-      let call : Call = it.0 in
+      let call : RunningCall = it.0 in
       let known = holds.calls one.call call it.1 in
       known.1 ∙ ap (λ (c : Command). Some c) (sym (begun_at config events known.0 call.begin call.stage own (met _ (begun call.stage) own it.3).1 known.2.at))
 
@@ -68,7 +68,7 @@ module _ (config : Config) (commands : List Command) (laws : HouseLaws) (is_conf
     stand_first : AllStand first []
     stand_first n call is =
         let one = waiting_at config commands laws is_config empty admitted commands n call is in
-        subst (λ (c : Call). StandsAt first [] n c.stage) one.2 tt
+        subst (λ (c : RunningCall). StandsAt first [] n c.stage) one.2 tt
 
     place_of : (steps : List Step) (n : ℕ) (d : Done) → StandsDone first steps n d → HasPlace config commands steps n d
     place_of steps n (done.Answered point reply) is =

@@ -29,12 +29,12 @@ use Rattle.period_order.specs.declared.decided.Outcome.TheVariants as outcome
 use Rattle.period_order.specs.Decided.{closed_by, event_of, outcome_of, replied_by, stated_by}
 use Rattle.period_order.specs.Order.{is_close_entry}
 use Rattle.period_order.specs.Places.{order_entry}
-use Rattle.house_core.specs.declared.call.Call.{Call}
+use Rattle.house_core.specs.declared.running_call.RunningCall.{RunningCall}
 use Rattle.house_core.specs.declared.stage.Stage.{Stage}
 use Rattle.house_core.specs.declared.stage.Stage.TheVariants as stage
 use Rattle.house_core.specs.Calls.{collects, due_in_account, due_in_book}
 use Rattle.house_core.specs.Inner.Collecting.{Fits, IsWhole}
-use Rattle.house_core.specs.Inner.Sound.{Holds, IsAt, IsCall}
+use Rattle.house_core.specs.Inner.Sound.{Holds, IsAt, IsRunningCall}
 use Rattle.period_order.specs.Kept.{IsConfiguration}
 use Rattle.house_core.specs.Locks.{Lock, entries_at}
 use Rattle.house_core.specs.OneHouse.{IsAnswered}
@@ -66,7 +66,7 @@ is_less a b e = grind (arith, nat_tests)
 
 module _ (laws : HouseLaws) (config : Config) (is_config : IsConfiguration config) (commands : List Command) (events : List Event) (world : PlainWorld)
     (holds : Holds config commands events world) (number : ℕ) (book account : Option ℕ) (has_book has_account : Bool) (begin : ℕ) where
-  abbrev call_at : Stage → Call
+  abbrev call_at : Stage → RunningCall
   call_at s = record { book = book; account = account; has_book = has_book; has_account = has_account; begin = begin; stage = s }
 
   -- what holds, holds with its event; and this is the event of what it comes to
@@ -75,7 +75,7 @@ module _ (laws : HouseLaws) (config : Config) (is_config : IsConfiguration confi
     pub event : event_of (outcome_of own (verdict config (known_to world (call_at (stage.Begun own))) own)) ≡ (verdict config (known events) own).event
 
   module _ (own : Command) (is : slice_get world.calls number ≡ Some (call_at (stage.Begun own))) (named : slice_get commands number ≡ Some own)
-      (mine : IsCall config events own (call_at (stage.Begun own)))
+      (mine : IsRunningCall config events own (call_at (stage.Begun own)))
       (its_book : (is_none book || has_book) ≡ true) (its_account : (is_none account || has_account) ≡ true) where
     abbrev seen : Known
     seen = known_to world (call_at (stage.Begun own))
@@ -134,7 +134,7 @@ module _ (laws : HouseLaws) (config : Config) (is_config : IsConfiguration confi
   -- ---- a close
 
   module _ (close : Close) (is : slice_get world.calls number ≡ Some (call_at (stage.Begun (command.Close close)))) (named : slice_get commands number ≡ Some (command.Close close))
-      (mine : IsCall config events (command.Close close) (call_at (stage.Begun (command.Close close))))
+      (mine : IsRunningCall config events (command.Close close) (call_at (stage.Begun (command.Close close))))
       (its_book : (is_none book || has_book) ≡ true) (its_account : (is_none account || has_account) ≡ true) where
     abbrev close_seen : Known
     close_seen = known_to world (call_at (stage.Begun (command.Close close)))
@@ -200,7 +200,7 @@ module _ (laws : HouseLaws) (config : Config) (is_config : IsConfiguration confi
   -- ---- a statement
 
   module _ (ask : StatementOf) (is : slice_get world.calls number ≡ Some (call_at (stage.Begun (command.Statement ask)))) (named : slice_get commands number ≡ Some (command.Statement ask))
-      (mine : IsCall config events (command.Statement ask) (call_at (stage.Begun (command.Statement ask))))
+      (mine : IsRunningCall config events (command.Statement ask) (call_at (stage.Begun (command.Statement ask))))
       (its_book : (is_none book || has_book) ≡ true) (its_account : (is_none account || has_account) ≡ true) where
     abbrev ask_seen : Known
     ask_seen = known_to world (call_at (stage.Begun (command.Statement ask)))
@@ -240,7 +240,7 @@ module _ (laws : HouseLaws) (config : Config) (is_config : IsConfiguration confi
   -- ---- any command
 
   pub is_placed : (own : Command) → slice_get world.calls number ≡ Some (call_at (stage.Begun own)) → slice_get commands number ≡ Some own
-      → IsCall config events own (call_at (stage.Begun own)) → (is_none book || has_book) ≡ true → (is_none account || has_account) ≡ true → Placed own
+      → IsRunningCall config events own (call_at (stage.Begun own)) → (is_none book || has_book) ≡ true → (is_none account || has_account) ≡ true → Placed own
   is_placed (command.PutTariff tariff) is named mine its_book its_account = entry_placed (command.PutTariff tariff) is named mine its_book its_account refl
   is_placed (command.PutToken token) is named mine its_book its_account = entry_placed (command.PutToken token) is named mine its_book its_account refl
   is_placed (command.Authorize ask) is named mine its_book its_account = entry_placed (command.Authorize ask) is named mine its_book its_account refl

@@ -7,7 +7,7 @@ use Rattle.std.proofs.lemmas.Option.{none-some, same_Some, slice_get-map}
 use Rattle.plain_house.specs.declared.entry.AccountEntry.{AccountEntry}
 use Rattle.plain_house.specs.declared.entry.BookEntry.{BookEntry}
 use Rattle.plain_house.specs.declared.event.Event.{Event}
-use Rattle.house_core.specs.declared.call.Call.{Call}
+use Rattle.house_core.specs.declared.running_call.RunningCall.{RunningCall}
 use Rattle.house_core.specs.declared.stage.Carried.{Carried}
 use Rattle.house_core.specs.declared.stage.Stage.{Stage}
 use Rattle.house_core.specs.declared.stage.Stage.TheVariants as stage
@@ -35,10 +35,10 @@ wants : {X : Type 0} (b c : Bool) (o : Option X) (x : X) → (if b && c then o e
 wants true c o x h = refl
 wants false c o x h = absurd (none-some x h)
 
-pub begun_wants_book : (call : Call) (at : ℕ) → wanted_book call ≡ Some at → is_some (begun call.stage) ≡ true
+pub begun_wants_book : (call : RunningCall) (at : ℕ) → wanted_book call ≡ Some at → is_some (begun call.stage) ≡ true
 begun_wants_book call at h = wants (is_some (begun call.stage)) (not call.has_book) call.book at h
 
-pub begun_wants_account : (call : Call) (at : ℕ) → wanted_account call ≡ Some at → is_some (begun call.stage) ≡ true
+pub begun_wants_account : (call : RunningCall) (at : ℕ) → wanted_account call ≡ Some at → is_some (begun call.stage) ≡ true
 begun_wants_account call at h = by (is_some (begun call.stage)) (has_its_book call) h
   where
     by : (b d : Bool) → (if b && d && not call.has_account then call.account else None) ≡ Some at → b ≡ true
@@ -69,10 +69,10 @@ both_due f true true o carried h = ap (λ (x : Option Carried). option_map_or f 
 both_due f true false o carried h = absurd (none-some carried h)
 both_due f false c o carried h = absurd (none-some carried h)
 
-pub due_account : (call : Call) (carried : Carried) → for_account call ≡ Some carried → due_in_account call ≡ in_account carried
+pub due_account : (call : RunningCall) (carried : Carried) → for_account call ≡ Some carried → due_in_account call ≡ in_account carried
 due_account call carried h = due_is in_account call.has_account (ordered call.stage) carried h
 
-pub due_book : (call : Call) (carried : Carried) → for_book call ≡ Some carried → due_in_book call ≡ in_book carried
+pub due_book : (call : RunningCall) (carried : Carried) → for_book call ≡ Some carried → due_in_book call ≡ in_book carried
 due_book call carried h = both_due in_book call.has_book (not call.has_account) (ordered call.stage) carried h
 
 -- nothing is carried any more
@@ -93,7 +93,7 @@ carries_none (stage.Stating stating) carried h = absurd (none-some carried h)
 carries_none stage.Ended carried h = absurd (none-some carried h)
 
 -- where it puts, it carries and holds
-pub puts_account_at : (call : Call) (at : ℕ) → (if is_some (for_account call) then call.account else None) ≡ Some at
+pub puts_account_at : (call : RunningCall) (at : ℕ) → (if is_some (for_account call) then call.account else None) ≡ Some at
     → ((carried : Carried) × (for_account call ≡ Some carried)) × (call.account ≡ Some at) × (held_account call ≡ Some at)
 puts_account_at call at h =
     let both = met (is_some (for_account call)) call.account at h in
@@ -101,7 +101,7 @@ puts_account_at call at h =
     let has = met call.has_account (ordered call.stage) one.0 one.1 in
     (one, both.1, ap (λ b. if b then call.account else None) has.0 ∙ both.1)
 
-pub puts_book_at : (call : Call) (at : ℕ) → (if is_some (for_book call) then call.book else None) ≡ Some at
+pub puts_book_at : (call : RunningCall) (at : ℕ) → (if is_some (for_book call) then call.book else None) ≡ Some at
     → ((carried : Carried) × (for_book call ≡ Some carried)) × (call.book ≡ Some at) × (held_book call ≡ Some at)
 puts_book_at call at h =
     let both = met (is_some (for_book call)) call.book at h in
@@ -111,7 +111,7 @@ puts_book_at call at h =
 
 -- ---- the world
 
-module _ (world : PlainWorld) (number : ℕ) (call : Call) (is : slice_get world.calls number ≡ Some call) where
+module _ (world : PlainWorld) (number : ℕ) (call : RunningCall) (is : slice_get world.calls number ≡ Some call) where
   pub did_put_account : (carried : Carried) (at : ℕ) (lock : Lock AccountEntry) → for_account call ≡ Some carried → call.account ≡ Some at → slice_get world.accounts at ≡ Some lock
       → record {
         config = world.config;
@@ -138,7 +138,7 @@ module _ (world : PlainWorld) (number : ℕ) (call : Call) (is : slice_get world
       } ≡ step world (record { call = number; action = action.PutBook })
   did_put_book carried at lock puts own there =
       let carries : ordered call.stage ≡ Some carried = (met (call.has_book && not call.has_account) (ordered call.stage) carried puts).1 in
-      let now : Call = record call { has_book = false; stage = stage.Ordered (record carried { event = None }) } in
+      let now : RunningCall = record call { has_book = false; stage = stage.Ordered (record carried { event = None }) } in
       (λ i. record {
         config = world.config;
         books = slice_set world.books at (record { holder = None; entries = lock.entries ++ in_book carried });

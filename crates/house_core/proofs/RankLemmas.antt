@@ -14,8 +14,8 @@ use Rattle.plain_house.specs.Replies.{stamped}
 use Rattle.period_order.specs.declared.decided.Outcome.{Outcome}
 use Rattle.period_order.specs.declared.decided.Outcome.TheVariants as outcome
 use Rattle.period_order.specs.Decided.{outcome_of}
-use Rattle.house_core.specs.declared.call.Call.{Call}
-use Rattle.house_core.specs.declared.call.ReplyDue.{ReplyDue}
+use Rattle.house_core.specs.declared.running_call.RunningCall.{RunningCall}
+use Rattle.house_core.specs.declared.running_call.ReplyDue.{ReplyDue}
 use Rattle.house_core.specs.declared.finished.Done.TheVariants as done
 use Rattle.house_core.specs.declared.finished.Finished.{Finished}
 use Rattle.house_core.specs.declared.stage.Carried.{Carried}
@@ -104,10 +104,10 @@ collected_rank config n operator entries (stage.Stating c) next h = (refl, sym (
 collected_rank config n operator entries stage.Ended next h = absurd (none-some next h)
 
 -- where a step changes a call, the call is no less far, and has begun
-abbrev pub Further : Call → Call → Type 0
+abbrev pub Further : RunningCall → RunningCall → Type 0
 Further call now = (rank call.stage ≤ rank now.stage) × (1 ≤ rank now.stage)
 
-module _ (world : PlainWorld) (number : ℕ) (call : Call) where
+module _ (world : PlainWorld) (number : ℕ) (call : RunningCall) where
   abbrev FurtherBy : Change → Type 0
   FurtherBy change = Further call change.call
 
@@ -171,20 +171,20 @@ module _ (world : PlainWorld) (number : ℕ) (call : Call) where
 
 -- of a call that is not there, as if it had ended
 abbrev pub rank_at : PlainWorld → ℕ → ℕ
-rank_at world number = option_map_or (λ (call : Call). rank call.stage) (slice_get world.calls number) 3
+rank_at world number = option_map_or (λ (call : RunningCall). rank call.stage) (slice_get world.calls number) 3
 
-rank_is : (world : PlainWorld) (number : ℕ) (call : Call) → slice_get world.calls number ≡ Some call → rank_at world number ≡ rank call.stage
-rank_is world number call is = ap (λ (o : Option Call). option_map_or (λ (c : Call). rank c.stage) o 3) is
+rank_is : (world : PlainWorld) (number : ℕ) (call : RunningCall) → slice_get world.calls number ≡ Some call → rank_at world number ≡ rank call.stage
+rank_is world number call is = ap (λ (o : Option RunningCall). option_map_or (λ (c : RunningCall). rank c.stage) o 3) is
 
 -- the call of a step is changed, and no other
-rank_set : (world : PlainWorld) (number : ℕ) (call now : Call) → slice_get world.calls number ≡ Some call
-    → option_map_or (λ (c : Call). rank c.stage) (slice_get (slice_set world.calls number now) number) 3 ≡ rank now.stage
-rank_set world number call now is = ap (λ (o : Option Call). option_map_or (λ (c : Call). rank c.stage) o 3) (get-set_same world.calls number now call is)
+rank_set : (world : PlainWorld) (number : ℕ) (call now : RunningCall) → slice_get world.calls number ≡ Some call
+    → option_map_or (λ (c : RunningCall). rank c.stage) (slice_get (slice_set world.calls number now) number) 3 ≡ rank now.stage
+rank_set world number call now is = ap (λ (o : Option RunningCall). option_map_or (λ (c : RunningCall). rank c.stage) o 3) (get-set_same world.calls number now call is)
 
 pub step_rank : (world : PlainWorld) (one : Step) (n : ℕ) → rank_at world n ≤ rank_at (step world one) n
 step_rank world one n = by (slice_get world.calls one.call) refl
   where
-    put : (call : Call) → slice_get world.calls one.call ≡ Some call → (o : Option Change) → change_by world one.call call one.action ≡ o → rank_at world n ≤ rank_at (changed world one.call o) n
+    put : (call : RunningCall) → slice_get world.calls one.call ≡ Some call → (o : Option Change) → change_by world one.call call one.action ≡ o → rank_at world n ≤ rank_at (changed world one.call o) n
     put call is None e = omega arith
     put call is (Some change) e = ⊎_elim
         (λ (same : n ≡ one.call).
@@ -195,11 +195,11 @@ step_rank world one n = by (slice_get world.calls one.call) refl
         omega (arith, further, was, now))
         (λ (apart : n ≢ one.call).
         let same : rank_at (changed world one.call (Some change)) n ≡ rank_at world n =
-        ap (λ (o : Option Call). option_map_or (λ (c : Call). rank c.stage) o 3) (get-set_other world.calls one.call n change.call apart) in
+        ap (λ (o : Option RunningCall). option_map_or (λ (c : RunningCall). rank c.stage) o 3) (get-set_other world.calls one.call n change.call apart) in
         omega (arith, same))
         (cases_eq n one.call)
 
-    by : (o : Option Call) → slice_get world.calls one.call ≡ o → rank_at world n ≤ rank_at (changed world one.call (option_and_then (λ (call : Call). change_by world one.call call one.action) o)) n
+    by : (o : Option RunningCall) → slice_get world.calls one.call ≡ o → rank_at world n ≤ rank_at (changed world one.call (option_and_then (λ (call : RunningCall). change_by world one.call call one.action) o)) n
     by None e = omega arith
     by (Some call) e = put call e (change_by world one.call call one.action) refl
 
@@ -209,12 +209,12 @@ step_rank world one n = by (slice_get world.calls one.call) refl
 pub order_rank : (world : PlainWorld) (one : Step) (own : Command) → orders world one ≡ Some own → (rank_at world one.call ≡ 1) × (2 ≤ rank_at (step world one) one.call)
 order_rank world one own h =
     let it = orders_is (slice_get world.calls one.call) one.action own h in
-    let call : Call = it.0 in
+    let call : RunningCall = it.0 in
     let begins : rank call.stage ≡ 1 = begun_rank call.stage own (met _ (begun call.stage) own it.3).1 in
     let change : Change = order world.config (known_to world call) call own in
     let two : rank change.call.stage ≡ 2 = after_rank world.config (known_to world call) (outcome_of own (verdict world.config (known_to world call) own)) in
     let stepped : step world one ≡ changed world one.call (Some change) =
-    ap (λ (o : Option Call). changed world one.call (option_and_then (λ (c : Call). change_by world one.call c one.action) o)) it.1
+    ap (λ (o : Option RunningCall). changed world one.call (option_and_then (λ (c : RunningCall). change_by world one.call c one.action) o)) it.1
     ∙ ap (λ (a : Action). changed world one.call (change_by world one.call call a)) it.2
     ∙ ap (λ (o : Option Command). changed world one.call (option_map (order world.config (known_to world call) call) o)) it.3 in
     let now : rank_at (step world one) one.call ≡ 2 = ap (λ (w : PlainWorld). rank_at w one.call) stepped ∙ rank_set world one.call call change.call it.1 ∙ two in
@@ -237,7 +237,7 @@ ordered_later n world (one ∷ later) far =
 
 -- ---- ends
 
-ended_is : (world : PlainWorld) (number : ℕ) (call : Call) (a : Action) (f : Finished) → ended_by world number call a ≡ Some f
+ended_is : (world : PlainWorld) (number : ℕ) (call : RunningCall) (a : Action) (f : Finished) → ended_by world number call a ≡ Some f
     → (f.call ≡ number) × (rank call.stage ≤ 2) × ((change : Change) × (change_by world number call a ≡ Some change) × (rank change.call.stage ≡ 3))
 ended_is world number call action.Begin f h = absurd (none-some f h)
 ended_is world number call action.TakeBook f h = absurd (none-some f h)
@@ -274,8 +274,8 @@ ended_is world number call action.End f h = by (reply_due call) refl h
 pub end_rank : (world : PlainWorld) (one : Step) (f : Finished) → finishes world one ≡ Some f → (f.call ≡ one.call) × (rank_at world f.call ≤ 2) × (3 ≤ rank_at (step world one) f.call)
 end_rank world one f h = by (slice_get world.calls one.call) refl h
   where
-    by : (o : Option Call) → slice_get world.calls one.call ≡ o → option_and_then (λ (call : Call). ended_by world one.call call one.action) o ≡ Some f
-        → (f.call ≡ one.call) × (rank_at world f.call ≤ 2) × (3 ≤ rank_at (changed world one.call (option_and_then (λ (call : Call). change_by world one.call call one.action) o)) f.call)
+    by : (o : Option RunningCall) → slice_get world.calls one.call ≡ o → option_and_then (λ (call : RunningCall). ended_by world one.call call one.action) o ≡ Some f
+        → (f.call ≡ one.call) × (rank_at world f.call ≤ 2) × (3 ≤ rank_at (changed world one.call (option_and_then (λ (call : RunningCall). change_by world one.call call one.action) o)) f.call)
     by None e g = absurd (none-some f g)
     by (Some call) e g =
         let it = ended_is world one.call call one.action f g in

@@ -19,8 +19,8 @@ use Rattle.period_order.specs.declared.decided.Outcome.{Outcome}
 use Rattle.period_order.specs.declared.decided.Outcome.TheVariants as outcome
 use Rattle.period_order.specs.Decided.{event_of, outcome_of, replied_by}
 use Rattle.period_order.specs.Places.{order_entry}
-use Rattle.house_core.specs.declared.call.Call.{Call}
-use Rattle.house_core.specs.declared.call.ReplyDue.{ReplyDue}
+use Rattle.house_core.specs.declared.running_call.RunningCall.{RunningCall}
+use Rattle.house_core.specs.declared.running_call.ReplyDue.{ReplyDue}
 use Rattle.house_core.specs.declared.finished.Done.TheVariants as done
 use Rattle.house_core.specs.declared.finished.Finished.{Finished}
 use Rattle.house_core.specs.declared.stage.Carried.{Carried}
@@ -44,12 +44,12 @@ pub record Ends (world : PlainWorld) (number begin point : ℕ) (actions : List 
   pub reply : Reply
   pub ended : finished world (steps_of number actions) ≡ record { call = number; begin = begin; end = length (after world (steps_of number actions)).order; done = done.Answered point reply } ∷ []
 
-abbrev pub call_at : Option ℕ → Option ℕ → Bool → Bool → ℕ → Stage → Call
+abbrev pub call_at : Option ℕ → Option ℕ → Bool → Bool → ℕ → Stage → RunningCall
 call_at book account has_book has_account begin s = record { book = book; account = account; has_book = has_book; has_account = has_account; begin = begin; stage = s }
 
-module _ (world : PlainWorld) (number : ℕ) (call : Call) (is : slice_get world.calls number ≡ Some call) (begin point : ℕ) where
+module _ (world : PlainWorld) (number : ℕ) (call : RunningCall) (is : slice_get world.calls number ≡ Some call) (begin point : ℕ) where
   tells : (a : Action) → finishes world (record { call = number; action = a }) ≡ ended_by world number call a
-  tells a = ap (option_and_then (λ (c : Call). ended_by world number c a)) is
+  tells a = ap (option_and_then (λ (c : RunningCall). ended_by world number c a)) is
 
   -- one action, and the rest
   goes : (a : Action) (now : PlainWorld) (rest : List Action) → changed world number (change_by world number call a) ≡ now → ended_by world number call a ≡ None
@@ -97,7 +97,7 @@ module _ (number begin point : ℕ) where
       → slice_get world.calls number ≡ Some (call_at (Some at) account true false begin (stage.Ordered carried)) → slice_get world.books at ≡ Some lock
       → carried.point ≡ point → Ends world number begin point (action.PutBook ∷ action.End ∷ [])
   ends_by_book world at account lock carried is here same =
-      let call : Call = call_at (Some at) account true false begin (stage.Ordered carried) in
+      let call : RunningCall = call_at (Some at) account true false begin (stage.Ordered carried) in
       let change : Change = put_book call carried lock in
       moves world number call is begin point action.PutBook change (action.End ∷ []) (ap (option_map (put_book call carried)) here) refl
       (ends_put (changed world number (Some change)) (Some at) account (record { point = carried.point; period = carried.period; reply = carried.reply; event = None })
@@ -108,7 +108,7 @@ module _ (number begin point : ℕ) where
       → ((now : PlainWorld) → slice_get now.calls number ≡ Some (call_at book (Some at) has_book false begin (stage.Ordered carried)) → now.books ≡ world.books → Ends now number begin point rest)
       → Ends world number begin point (action.PutAccount ∷ rest)
   ends_by_account world book at has_book lock carried rest is here onward =
-      let call : Call = call_at book (Some at) has_book true begin (stage.Ordered carried) in
+      let call : RunningCall = call_at book (Some at) has_book true begin (stage.Ordered carried) in
       let change : Change = put_account call carried lock in
       moves world number call is begin point action.PutAccount change rest (ap (option_map (put_account call carried)) here) refl
       (onward (changed world number (Some change)) (get-set_same world.calls number change.call call is) (no_lock world.books book))
@@ -117,7 +117,7 @@ module _ (number begin point : ℕ) where
 
   module _ (own : Command) (entry : collects own ≡ false) (book account : Option ℕ) (has_book has_account : Bool)
       (its_book : (is_none book || has_book) ≡ true) (its_account : (is_none account || has_account) ≡ true) where
-    abbrev begun_call : Call
+    abbrev begun_call : RunningCall
     begun_call = call_at book account has_book has_account begin (stage.Begun own)
 
     orders_entry : (world : PlainWorld) (rest : List Action) → slice_get world.calls number ≡ Some begun_call → length world.order ≡ point
@@ -148,7 +148,7 @@ module _ (number begin point : ℕ) where
       → now.accounts ≡ world.accounts → length now.order ≡ length world.order → Ends now number begin point rest)
       → Ends world number begin point (action.TakeBook ∷ rest)
   takes_the_book world own at account lock rest is here free onward =
-      let call : Call = call_at (Some at) account false false begin (stage.Begun own) in
+      let call : RunningCall = call_at (Some at) account false false begin (stage.Begun own) in
       let change : Change = of_book (call_at (Some at) account true false begin (stage.Begun own)) (held number lock) in
       moves world number call is begin point action.TakeBook change rest
       (ap (option_and_then (take_book number call)) here ∙ ap (λ (h : Option ℕ). if is_none h then Some change else None) free) refl
@@ -161,7 +161,7 @@ module _ (number begin point : ℕ) where
       → now.books ≡ world.books → length now.order ≡ length world.order → Ends now number begin point rest)
       → Ends world number begin point (action.TakeAccount ∷ rest)
   takes_the_account world own book at has_book its_book lock rest is here free onward =
-      let call : Call = call_at book (Some at) has_book false begin (stage.Begun own) in
+      let call : RunningCall = call_at book (Some at) has_book false begin (stage.Begun own) in
       let change : Change = of_account (call_at book (Some at) has_book true begin (stage.Begun own)) (held number lock) in
       moves world number call is begin point action.TakeAccount change rest
       (ap (λ (b : Bool). option_and_then (take_account number call) (lock_at world.accounts (if b && true then Some at else None))) its_book
@@ -209,7 +209,7 @@ open_before (x ∷ marks) (suc n) zero h = ((λ e. zero_suc n e), h)
 open_before (x ∷ marks) (suc n) (suc m) h = let both = open_before marks n m h in ((λ e. both.0 (suc_same m n e)), both.1)
 
 module _ (number begin point : ℕ) where
-  abbrev free_call : Stage → Call
+  abbrev free_call : Stage → RunningCall
   free_call s = call_at None None false false begin s
 
   -- a table with its marks, as a stage: a book that is open and free is collected, and the reply is due once all are
@@ -318,7 +318,7 @@ module _ (world : PlainWorld) (number : ℕ) (own : Command) (before : ℕ) wher
       → now.books ≡ world.books → now.accounts ≡ world.accounts → length now.order ≡ begin → Ends now number begin begin rest)
       → Ends world number begin begin (action.Begin ∷ rest)
   begins_it book account rest is onward =
-      let call : Call = call_at book account false false before (stage.Waiting own) in
+      let call : RunningCall = call_at book account false false before (stage.Waiting own) in
       let change : Change = of_call (call_at book account false false begin (stage.Begun own)) in
       moves world number call is begin begin action.Begin change rest refl refl
       (onward (changed world number (Some change)) (get-set_same world.calls number change.call call is) refl (no_lock world.books book) (no_lock world.accounts account) (ap length (append-nil world.order)))
@@ -359,8 +359,8 @@ module _ (world : PlainWorld) (number : ℕ) (own : Command) (before : ℕ) wher
       → ((n : ℕ) → is_open (replicate (length world.config.operators) false) n ≡ true → IsOneOf operators n)
       → Ends world number begin begin (by_all_books operators)
   ends_collecting_row operators is there among =
-      let was : Call = call_at None None false false before (stage.Waiting own) in
-      let call : Call = call_at None None false false begin (stage.Begun own) in
+      let was : RunningCall = call_at None None false false before (stage.Waiting own) in
+      let call : RunningCall = call_at None None false false begin (stage.Begun own) in
       let first : Change = of_call call in
       let w1 : PlainWorld = changed world number (Some first) in
       let is1 : slice_get w1.calls number ≡ Some call = get-set_same world.calls number call was is in

@@ -8,7 +8,7 @@ use Rattle.ocpi_types.specs.declared.config.Config.{Config}
 use Rattle.cdr_checks.specs.declared.request.Command.{Command}
 use Rattle.cdr_checks.specs.Admission.{IsAdmitted}
 use Rattle.plain_house.specs.declared.event.Event.{Event}
-use Rattle.house_core.specs.declared.call.Call.{Call}
+use Rattle.house_core.specs.declared.running_call.RunningCall.{RunningCall}
 use Rattle.house_core.specs.declared.parts.Parts.{Parts}
 use Rattle.house_core.specs.declared.step.Step.{Step}
 use Rattle.house_core.specs.Calls.{ordered}
@@ -43,9 +43,9 @@ events_go parts now sound keep one (Err e) ok = tt
 
 -- ---- before any step
 
-carries_nothing : (config : Config) (commands : List Command) (n : ℕ) (call : Call) → slice_get (map (call_of config) commands) n ≡ Some call → ordered call.stage ≡ None
+carries_nothing : (config : Config) (commands : List Command) (n : ℕ) (call : RunningCall) → slice_get (map (call_of config) commands) n ≡ Some call → ordered call.stage ≡ None
 carries_nothing config [] n call h = absurd (none-some call h)
-carries_nothing config (x ∷ xs) zero call h = ap (λ (c : Call). ordered c.stage) (sym (same_Some (call_of config x) call h))
+carries_nothing config (x ∷ xs) zero call h = ap (λ (c : RunningCall). ordered c.stage) (sym (same_Some (call_of config x) call h))
 carries_nothing config (x ∷ xs) (suc n) call h = carries_nothing config xs n call h
 
 pub each_admitted : (config : Config) (commands : List Command) → All (IsAdmitted config) commands → (n : ℕ) (own : Command) → slice_get commands n ≡ Some own → IsAdmitted config own

@@ -5,7 +5,7 @@ use Rattle.std.proofs.lemmas.List.{map-set}
 use Rattle.std.proofs.lemmas.Option.{same_Some, slice_get-get_or, slice_get-map}
 use Rattle.plain_house.specs.declared.entry.AccountEntry.{AccountEntry}
 use Rattle.plain_house.specs.declared.entry.BookEntry.{BookEntry}
-use Rattle.house_core.specs.declared.call.Call.{Call}
+use Rattle.house_core.specs.declared.running_call.RunningCall.{RunningCall}
 use Rattle.house_core.specs.declared.step.Action.{Action}
 use Rattle.house_core.specs.Locks.{Lock, with_lock}
 use Rattle.house_core.specs.Steps.{change_by, changed, of_account, of_book, step}
@@ -18,10 +18,10 @@ put_back (y ∷ xs) zero x h = ap (λ z. z ∷ xs) (sym (same_Some y x h))
 put_back (y ∷ xs) (suc i) x h = ap (λ l. y ∷ l) (put_back xs i x h)
 
 -- the step of the call that is there
-pub stepped : (world : PlainWorld) (number : ℕ) (call : Call) (action : Action) → slice_get world.calls number ≡ Some call
+pub stepped : (world : PlainWorld) (number : ℕ) (call : RunningCall) (action : Action) → slice_get world.calls number ≡ Some call
     → step world (record { call = number; action = action }) ≡ changed world number (change_by world number call action)
 stepped world number call action is =
-    ap (λ (o : Option Call). changed world number (option_and_then (λ (c : Call). change_by world number c action) o)) is
+    ap (λ (o : Option RunningCall). changed world number (option_and_then (λ (c : RunningCall). change_by world number c action) o)) is
 
 -- no lock is put in the place of another
 pub no_lock : {E : Type 0} (locks : List (Lock E)) (number : Option ℕ) → with_lock locks number None ≡ locks
@@ -29,7 +29,7 @@ no_lock locks None = refl
 no_lock locks (Some number) = refl
 
 -- the world with a call in the place where it stands
-pub same_call : (world : PlainWorld) (number : ℕ) (call : Call) → slice_get world.calls number ≡ Some call
+pub same_call : (world : PlainWorld) (number : ℕ) (call : RunningCall) → slice_get world.calls number ≡ Some call
     → world ≡ record { config = world.config; books = world.books; accounts = world.accounts; order = world.order; calls = slice_set world.calls number call }
 same_call world number call is = λ i. record {
   config = world.config;
@@ -40,7 +40,7 @@ same_call world number call is = λ i. record {
 }
 
 -- the world with another call in that place
-abbrev pub with_call : PlainWorld → ℕ → Call → PlainWorld
+abbrev pub with_call : PlainWorld → ℕ → RunningCall → PlainWorld
 with_call world number call = record {
   config = world.config;
   books = world.books;
@@ -50,7 +50,7 @@ with_call world number call = record {
 }
 
 -- where the call alone changes
-pub call_changed : (world : PlainWorld) (number : ℕ) (call : Call)
+pub call_changed : (world : PlainWorld) (number : ℕ) (call : RunningCall)
     → changed world number (Some (record { call = call; book = None; account = None; entry = None })) ≡ with_call world number call
 call_changed world number call = λ i. record {
   config = world.config;
@@ -65,7 +65,7 @@ pub borrowed : {X : Type 0} (items : List X) (number : ℕ) (old : X) → number
 borrowed items number old within value = slice_get-get_or items number old within ∙ ap (λ x. Some x) (sym value)
 
 -- where a call changes, and the lock of its book
-pub book_changed : (world : PlainWorld) (number : ℕ) (call : Call) (at : ℕ) (lock : Lock BookEntry) → call.book ≡ Some at
+pub book_changed : (world : PlainWorld) (number : ℕ) (call : RunningCall) (at : ℕ) (lock : Lock BookEntry) → call.book ≡ Some at
     → changed world number (Some (of_book call lock))
     ≡ record { config = world.config; books = slice_set world.books at lock; accounts = world.accounts; order = world.order; calls = slice_set world.calls number call }
 book_changed world number call at lock own = λ i. record {
@@ -77,7 +77,7 @@ book_changed world number call at lock own = λ i. record {
 }
 
 -- or of its account
-pub account_changed : (world : PlainWorld) (number : ℕ) (call : Call) (at : ℕ) (lock : Lock AccountEntry) → call.account ≡ Some at
+pub account_changed : (world : PlainWorld) (number : ℕ) (call : RunningCall) (at : ℕ) (lock : Lock AccountEntry) → call.account ≡ Some at
     → changed world number (Some (of_account call lock))
     ≡ record { config = world.config; books = world.books; accounts = slice_set world.accounts at lock; order = world.order; calls = slice_set world.calls number call }
 account_changed world number call at lock own = λ i. record {

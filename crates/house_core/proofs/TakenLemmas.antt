@@ -4,7 +4,7 @@ use Rattle.std.specs.Option.{option_and_then}
 use Rattle.std.proofs.lemmas.Option.{none-some}
 use Rattle.plain_house.specs.declared.entry.AccountEntry.{AccountEntry}
 use Rattle.plain_house.specs.declared.entry.BookEntry.{BookEntry}
-use Rattle.house_core.specs.declared.call.Call.{Call}
+use Rattle.house_core.specs.declared.running_call.RunningCall.{RunningCall}
 use Rattle.house_core.specs.declared.step.Action.TheVariants as action
 use Rattle.house_core.specs.Calls.{wanted_account, wanted_book}
 use Rattle.house_core.specs.Locks.{Lock, held, lock_at, with_lock}
@@ -20,7 +20,7 @@ only_if false o x h = absurd (none-some x h)
 free_lock : (holder : Option ℕ) (given : Change) → holder ≡ None → (if is_none holder then Some given else None) ≡ Some given
 free_lock holder given h = ap (λ (o : Option ℕ). if is_none o then Some given else None) h
 
-module _ (world : PlainWorld) (number : ℕ) (call : Call) (is : slice_get world.calls number ≡ Some call) (at : ℕ) where
+module _ (world : PlainWorld) (number : ℕ) (call : RunningCall) (is : slice_get world.calls number ≡ Some call) (at : ℕ) where
   pub took_book : (lock : Lock BookEntry) → wanted_book call ≡ Some at → slice_get world.books at ≡ Some lock → lock.holder ≡ None
       → record {
         config = world.config;
@@ -30,7 +30,7 @@ module _ (world : PlainWorld) (number : ℕ) (call : Call) (is : slice_get world
         calls = slice_set world.calls number (record call { has_book = true });
       } ≡ step world (record { call = number; action = action.TakeBook })
   took_book lock wanted there free =
-      let now : Call = record call { has_book = true } in
+      let now : RunningCall = record call { has_book = true } in
       let given : Change = of_book now (held number lock) in
       let own : call.book ≡ Some at = only_if _ call.book at wanted in
       (λ i. record {
@@ -54,7 +54,7 @@ module _ (world : PlainWorld) (number : ℕ) (call : Call) (is : slice_get world
         calls = slice_set world.calls number (record call { has_account = true });
       } ≡ step world (record { call = number; action = action.TakeAccount })
   took_account lock wanted there free =
-      let now : Call = record call { has_account = true } in
+      let now : RunningCall = record call { has_account = true } in
       let given : Change = of_account now (held number lock) in
       let own : call.account ≡ Some at = only_if _ call.account at wanted in
       (λ i. record {

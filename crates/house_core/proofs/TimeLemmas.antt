@@ -8,8 +8,8 @@ use Rattle.ocpi_types.specs.declared.config.Operator.{Operator}
 use Rattle.cdr_checks.specs.declared.request.Command.{Command}
 use Rattle.plain_house.specs.declared.entry.BookEntry.{BookEntry}
 use Rattle.plain_house.specs.Replies.{stamped}
-use Rattle.house_core.specs.declared.call.Call.{Call}
-use Rattle.house_core.specs.declared.call.ReplyDue.{ReplyDue}
+use Rattle.house_core.specs.declared.running_call.RunningCall.{RunningCall}
+use Rattle.house_core.specs.declared.running_call.ReplyDue.{ReplyDue}
 use Rattle.house_core.specs.declared.finished.Done.TheVariants as done
 use Rattle.house_core.specs.declared.stage.Carried.{Carried}
 use Rattle.house_core.specs.declared.stage.Stage.{Stage}
@@ -45,7 +45,7 @@ after_longer world (one ∷ later) =
 -- ---- what has begun behind a number of events
 
 -- where the call has begun, so many events were there
-abbrev pub Late : ℕ → Call → Type 0
+abbrev pub Late : ℕ → RunningCall → Type 0
 Late n call = waiting call.stage ≡ None → n ≤ call.begin
 
 -- what is so of what is made of what is given
@@ -103,7 +103,7 @@ collected_waits config n operator entries (stage.Netting c) next h = refl
 collected_waits config n operator entries (stage.Stating c) next h = refl
 collected_waits config n operator entries stage.Ended next h = refl
 
-module _ (n : ℕ) (world : PlainWorld) (within : n ≤ length world.order) (number : ℕ) (call : Call) (late : Late n call) where
+module _ (n : ℕ) (world : PlainWorld) (within : n ≤ length world.order) (number : ℕ) (call : RunningCall) (late : Late n call) where
   abbrev LateChange : Change → Type 0
   LateChange change = Late n change.call
 
@@ -146,12 +146,12 @@ module _ (n : ℕ) (world : PlainWorld) (within : n ≤ length world.order) (num
 
 -- the call of that number, if it is there
 abbrev pub LateAt : ℕ → ℕ → PlainWorld → Type 0
-LateAt n c world = (call : Call) → slice_get world.calls c ≡ Some call → Late n call
+LateAt n c world = (call : RunningCall) → slice_get world.calls c ≡ Some call → Late n call
 
 step_late : (n c : ℕ) (world : PlainWorld) (one : Step) → n ≤ length world.order → LateAt n c world → LateAt n c (step world one)
 step_late n c world one within late = by (slice_get world.calls one.call) refl
   where
-    put : (call : Call) → slice_get world.calls one.call ≡ Some call → (o : Option Change) → change_by world one.call call one.action ≡ o → LateAt n c (changed world one.call o)
+    put : (call : RunningCall) → slice_get world.calls one.call ≡ Some call → (o : Option Change) → change_by world one.call call one.action ≡ o → LateAt n c (changed world one.call o)
     put call is None e other there = late other there
     put call is (Some change) e other there = ⊎_elim
         (λ (same : c ≡ one.call).
@@ -160,13 +160,13 @@ step_late n c world one within late = by (slice_get world.calls one.call) refl
         (λ (apart : c ≢ one.call). late other (sym (get-set_other world.calls one.call c change.call apart) ∙ there))
         (cases_eq c one.call)
 
-    by : (o : Option Call) → slice_get world.calls one.call ≡ o → LateAt n c (changed world one.call (option_and_then (λ (call : Call). change_by world one.call call one.action) o))
+    by : (o : Option RunningCall) → slice_get world.calls one.call ≡ o → LateAt n c (changed world one.call (option_and_then (λ (call : RunningCall). change_by world one.call call one.action) o))
     by None e other there = late other there
     by (Some call) e other there = put call e (change_by world one.call call one.action) refl other there
 
 -- ---- calls that end
 
-ended_late : (n : ℕ) (world : PlainWorld) (number : ℕ) (call : Call) → Late n call → (a : Action) (f : Finished) → ended_by world number call a ≡ Some f → (f.call ≡ number) × (n ≤ f.begin) × (f.end ≡ length world.order)
+ended_late : (n : ℕ) (world : PlainWorld) (number : ℕ) (call : RunningCall) → Late n call → (a : Action) (f : Finished) → ended_by world number call a ≡ Some f → (f.call ≡ number) × (n ≤ f.begin) × (f.end ≡ length world.order)
 ended_late n world number call late action.Begin f h = absurd (none-some f h)
 ended_late n world number call late action.TakeBook f h = absurd (none-some f h)
 ended_late n world number call late action.TakeAccount f h = absurd (none-some f h)
@@ -183,7 +183,7 @@ ended_late n world number call late action.End f h =
 finishes_late : (n : ℕ) (world : PlainWorld) (one : Step) (f : Finished) → finishes world one ≡ Some f → (LateAt n f.call world → n ≤ f.begin) × (f.end ≡ length world.order)
 finishes_late n world one f h = by (slice_get world.calls one.call) refl h
   where
-    by : (o : Option Call) → slice_get world.calls one.call ≡ o → option_and_then (λ (call : Call). ended_by world one.call call one.action) o ≡ Some f
+    by : (o : Option RunningCall) → slice_get world.calls one.call ≡ o → option_and_then (λ (call : RunningCall). ended_by world one.call call one.action) o ≡ Some f
         → (LateAt n f.call world → n ≤ f.begin) × (f.end ≡ length world.order)
     by None e g = absurd (none-some f g)
     by (Some call) e g = (
@@ -223,9 +223,9 @@ pub each_then : {X : Type 0} (P Q : X → Type 0) (xs : List X) → ((x : X) →
 each_then P Q [] all h = tt
 each_then P Q (x ∷ xs) all h = (all x h.0, each_then P Q xs all h.1)
 
-not_begun : (n : ℕ) (o : Option Call) (call : Call) → IsWaiting o → o ≡ Some call → Late n call
+not_begun : (n : ℕ) (o : Option RunningCall) (call : RunningCall) → IsWaiting o → o ≡ Some call → Late n call
 not_begun n None call w e none = absurd (none-some call e)
-not_begun n (Some other) call w e none = absurd (none-some w.0 (sym none ∙ ap (λ (c : Call). waiting c.stage) (sym (same_Some other call e)) ∙ w.1))
+not_begun n (Some other) call w e none = absurd (none-some w.0 (sym none ∙ ap (λ (c : RunningCall). waiting c.stage) (sym (same_Some other call e)) ∙ w.1))
 
 -- where one call has ended before another begins, its end is not behind the other's begin
 pub keeps_time : (world : PlainWorld) (steps : List Step) → KeepTime world steps

@@ -3,7 +3,7 @@ use Rattle.std.proofs.Common.{◌≡◌, ◌≢◌, ℕ, zero, suc, List, [], �
 use Rattle.std.specs.Option.{option_and_then, option_map_or}
 use Rattle.std.proofs.lemmas.Bool.{cases_eq}
 use Rattle.std.proofs.lemmas.Option.{none-some, same_Some, slice_get-map}
-use Rattle.house_core.specs.declared.call.Call.{Call}
+use Rattle.house_core.specs.declared.running_call.RunningCall.{RunningCall}
 use Rattle.house_core.specs.Holders.{Agree, holder_at}
 use Rattle.house_core.specs.Locks.{Lock}
 use Rattle.period_order.specs.Kept.{with_added}
@@ -32,16 +32,16 @@ by_places (x ∷ xs) (y ∷ ys) h = ap₂ ◌∷◌ (same_Some x y (h 0)) (by_pl
 
 -- ---- locks and calls
 
-module _ {E : Type 0} (held : Call → Option ℕ) (due : Call → List E) where
+module _ {E : Type 0} (held : RunningCall → Option ℕ) (due : RunningCall → List E) where
   -- the entries, and what the holder still has to put
-  abbrev pub whole : List Call → Lock E → List E
+  abbrev pub whole : List RunningCall → Lock E → List E
   whole calls lock = lock.entries ++ option_map_or due (option_and_then (slice_get calls) lock.holder) []
 
-  abbrev pub wholes : List Call → List (Lock E) → List (List E)
+  abbrev pub wholes : List RunningCall → List (Lock E) → List (List E)
   wholes calls locks = map (whole calls) locks
 
-  module _ (locks : List (Lock E)) (calls : List Call) (agree : Agree held locks calls) (number : ℕ) (call now : Call) (is : slice_get calls number ≡ Some call) where
-    abbrev pub after : List Call
+  module _ (locks : List (Lock E)) (calls : List RunningCall) (agree : Agree held locks calls) (number : ℕ) (call now : RunningCall) (is : slice_get calls number ≡ Some call) where
+    abbrev pub after : List RunningCall
     after = slice_set calls number now
 
     -- what a lock with another holder has is as it was
@@ -161,7 +161,7 @@ module _ {E : Type 0} (held : Call → Option ℕ) (due : Call → List E) where
   lock_there h None e = absurd (none-some h e)
   lock_there h (Some lock) e = (lock, refl, e)
 
-  module _ (locks : List (Lock E)) (calls : List Call) (agree : Agree held locks calls) (number : ℕ) (call : Call) (is : slice_get calls number ≡ Some call) (nothing : due call ≡ []) where
+  module _ (locks : List (Lock E)) (calls : List RunningCall) (agree : Agree held locks calls) (number : ℕ) (call : RunningCall) (is : slice_get calls number ≡ Some call) (nothing : due call ≡ []) where
     pub its_lock : (at : ℕ) → held call ≡ Some at → (lock : Lock E) × (slice_get locks at ≡ Some lock) × (lock.holder ≡ Some number)
     its_lock at holds = lock_there number (slice_get locks at) (agree.holding number call at is holds)
 
@@ -177,7 +177,7 @@ module _ {E : Type 0} (held : Call → Option ℕ) (due : Call → List E) where
         slice_get-map (whole calls) locks at ∙ ap (option_map (whole calls)) found.1 ∙ ap (λ l. Some l) (whole_of found.0 found.2)
 
     -- and grows by what it then has to put
-    module _ (now : Call) (holds_same : held now ≡ held call) (added : List E) where
+    module _ (now : RunningCall) (holds_same : held now ≡ held call) (added : List E) where
       pub grown : (n : Option ℕ) → held call ≡ n → (n ≡ None → due now ≡ []) → ((at : ℕ) → n ≡ Some at → due now ≡ added)
           → wholes (slice_set calls number now) locks ≡ with_added (wholes calls locks) n added
       grown None holds none some = wholes_same locks calls agree number call now is holds_same (none refl ∙ sym nothing)

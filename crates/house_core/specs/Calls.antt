@@ -9,8 +9,8 @@ use Rattle.plain_house.specs.declared.answer.Answer.TheVariants as answer
 use Rattle.plain_house.specs.declared.entry.AccountEntry.{AccountEntry}
 use Rattle.plain_house.specs.declared.entry.BookEntry.{BookEntry}
 use Rattle.plain_house.specs.Entries.{account_entry, book_entry}
-use Rattle.house_core.specs.declared.call.Call.{Call}
-use Rattle.house_core.specs.declared.call.ReplyDue.{ReplyDue}
+use Rattle.house_core.specs.declared.running_call.RunningCall.{RunningCall}
+use Rattle.house_core.specs.declared.running_call.ReplyDue.{ReplyDue}
 use Rattle.house_core.specs.declared.stage.Carried.{Carried}
 use Rattle.house_core.specs.declared.stage.Stage.{Stage}
 use Rattle.house_core.specs.declared.stage.Stage.TheVariants as stage
@@ -63,36 +63,36 @@ ordered stage.Ended = None
 -- ---- what is next: first the book, then the account, then the order; behind it the account, then the book
 
 -- the number of the book whose lock it takes next
-abbrev pub wanted_book : Call → Option ℕ
+abbrev pub wanted_book : RunningCall → Option ℕ
 wanted_book call = if is_some (begun call.stage) && not call.has_book then call.book else None
 
-abbrev pub has_its_book : Call → Bool
+abbrev pub has_its_book : RunningCall → Bool
 has_its_book call = is_none call.book || call.has_book
 
-abbrev pub has_its_account : Call → Bool
+abbrev pub has_its_account : RunningCall → Bool
 has_its_account call = is_none call.account || call.has_account
 
 -- the number of the account whose lock it takes next
-abbrev pub wanted_account : Call → Option ℕ
+abbrev pub wanted_account : RunningCall → Option ℕ
 wanted_account call =
     if is_some (begun call.stage) && has_its_book call && not call.has_account then call.account else None
 
 -- the command, once the call holds all locks that it needs
-abbrev pub ready : Call → Option Command
+abbrev pub ready : RunningCall → Option Command
 ready call = if has_its_book call && has_its_account call then begun call.stage else None
 
 -- the numbers of the book and of the account whose lock it holds
-abbrev pub held_book : Call → Option ℕ
+abbrev pub held_book : RunningCall → Option ℕ
 held_book call = if call.has_book then call.book else None
 
-abbrev pub held_account : Call → Option ℕ
+abbrev pub held_account : RunningCall → Option ℕ
 held_account call = if call.has_account then call.account else None
 
 -- what it puts into its account next, and into its book
-abbrev pub for_account : Call → Option Carried
+abbrev pub for_account : RunningCall → Option Carried
 for_account call = if call.has_account then ordered call.stage else None
 
-abbrev pub for_book : Call → Option Carried
+abbrev pub for_book : RunningCall → Option Carried
 for_book call = if call.has_book && not call.has_account then ordered call.stage else None
 
 -- ---- what it still has to put
@@ -103,10 +103,10 @@ in_book carried = option_map_or (λ event. book_entry event carried.period) carr
 abbrev pub in_account : Carried → List AccountEntry
 in_account carried = option_map_or (λ event. account_entry event carried.period) carried.event []
 
-abbrev pub due_in_book : Call → List BookEntry
+abbrev pub due_in_book : RunningCall → List BookEntry
 due_in_book call = if call.has_book then option_map_or in_book (ordered call.stage) [] else []
 
-abbrev pub due_in_account : Call → List AccountEntry
+abbrev pub due_in_account : RunningCall → List AccountEntry
 due_in_account call = if call.has_account then option_map_or in_account (ordered call.stage) [] else []
 
 -- ---- the reply
@@ -129,5 +129,5 @@ reply_due_at has_lock (stage.Stating stating) =
     }) else None
 reply_due_at has_lock stage.Ended = None
 
-abbrev pub reply_due : Call → Option ReplyDue
+abbrev pub reply_due : RunningCall → Option ReplyDue
 reply_due call = reply_due_at (call.has_book || call.has_account) call.stage

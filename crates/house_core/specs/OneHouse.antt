@@ -17,7 +17,7 @@ use Rattle.plain_house.specs.Obligations.{obligations}
 use Rattle.plain_house.specs.Replies.{Reply}
 use Rattle.period_order.specs.Kept.{Keeps}
 use Rattle.period_order.specs.Resolves.{Resolves}
-use Rattle.house_core.specs.declared.call.Call.{Call}
+use Rattle.house_core.specs.declared.running_call.RunningCall.{RunningCall}
 use Rattle.house_core.specs.declared.finished.Done.{Done}
 use Rattle.house_core.specs.declared.finished.Done.TheVariants as done
 use Rattle.house_core.specs.declared.finished.Finished.{Finished}
@@ -114,7 +114,7 @@ pub record ArePlaced (config : Config) (commands : List Command) (steps : List S
 -- ---- time
 
 -- a call that has not begun
-abbrev pub IsWaiting : Option Call → Type 0
+abbrev pub IsWaiting : Option RunningCall → Type 0
 IsWaiting None = Unit {0}
 IsWaiting (Some call) = (command : Command) × (waiting call.stage ≡ Some command)
 
@@ -127,9 +127,9 @@ KeepTime world steps =
 -- ---- books, accounts and the order
 
 -- no call has entries that it still has to put
-abbrev pub NothingIsDue : List Call → Type 0
+abbrev pub NothingIsDue : List RunningCall → Type 0
 NothingIsDue calls =
-    (number : ℕ) (call : Call) → slice_get calls number ≡ Some call → (due_in_book call ≡ []) × (due_in_account call ≡ [])
+    (number : ℕ) (call : RunningCall) → slice_get calls number ≡ Some call → (due_in_book call ≡ []) × (due_in_account call ≡ [])
 
 -- with what calls still have to put, the books, the accounts and the order are those of these events, and the order names the
 -- events there, one by one; where no call has anything to put, it names them in the books and accounts as they are

@@ -3,7 +3,7 @@ use Rattle.std.specs.Prelude.{◌≡◌, ◌<◌, ℕ, true, List, [], ◌∷◌
 use Rattle.cdr_checks.specs.declared.request.Command.{Command}
 use Rattle.cdr_checks.specs.declared.request.Command.TheVariants as command
 use Rattle.plain_house.specs.Replies.{Reply}
-use Rattle.house_core.specs.declared.call.Call.{Call}
+use Rattle.house_core.specs.declared.running_call.RunningCall.{RunningCall}
 use Rattle.house_core.specs.declared.finished.Done.TheVariants as done
 use Rattle.house_core.specs.declared.step.Action.{Action}
 use Rattle.house_core.specs.declared.step.Action.TheVariants as action
@@ -50,7 +50,7 @@ steps_of call actions = map (λ action. record { call = call; action = action })
 -- ---- where they end the call
 
 -- the locks that the call's steps take are free, and so are those of all books where it collects them
-pub record AreFree (world : PlainWorld) (call : Call) (command : Command) : Type 0 where
+pub record AreFree (world : PlainWorld) (call : RunningCall) (command : Command) : Type 0 where
   pub book : (number : ℕ) → call.book ≡ Some number → holder_at world.books number ≡ None
   pub account : (number : ℕ) → call.account ≡ Some number → holder_at world.accounts number ≡ None
   pub collected : collects command ≡ true → (number : ℕ) → holder_at world.books number ≡ None

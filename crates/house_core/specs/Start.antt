@@ -3,12 +3,12 @@ use Rattle.std.specs.Prelude.{false, List, [], None, map}
 use Rattle.ocpi_types.specs.declared.config.Config.{Config}
 use Rattle.cdr_checks.specs.declared.request.Command.{Command}
 use Rattle.period_order.specs.Kept.{account_number, book_number}
-use Rattle.house_core.specs.declared.call.Call.{Call}
+use Rattle.house_core.specs.declared.running_call.RunningCall.{RunningCall}
 use Rattle.house_core.specs.declared.stage.Stage.TheVariants as stage
 use Rattle.house_core.specs.World.{PlainWorld}
 
 -- a call that has not begun
-abbrev pub call_of : Config → Command → Call
+abbrev pub call_of : Config → Command → RunningCall
 call_of config command = record {
   book = book_number config command;
   account = account_number config command;

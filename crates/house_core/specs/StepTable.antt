@@ -1,6 +1,6 @@
 -- What decides a step, and what it changes.
 use Rattle.std.specs.Prelude.{◌≡◌, ℕ, List, ◌++◌, Option, Some, None, length, slice_get}
-use Rattle.house_core.specs.declared.call.Call.{Call}
+use Rattle.house_core.specs.declared.running_call.RunningCall.{RunningCall}
 use Rattle.house_core.specs.declared.step.Action.{Action}
 use Rattle.house_core.specs.declared.step.Action.TheVariants as action
 use Rattle.house_core.specs.Calls.{due_in_account, due_in_book, held_account, held_book, wanted_account, wanted_book}
@@ -10,7 +10,7 @@ use Rattle.house_core.specs.World.{PlainWorld}
 
 -- ---- two worlds agree in what decides a step of the call
 
-abbrev pub AgreeFor : Call → Action → PlainWorld → PlainWorld → Type 0
+abbrev pub AgreeFor : RunningCall → Action → PlainWorld → PlainWorld → Type 0
 -- the number of events
 AgreeFor call action.Begin one another = length one.order ≡ length another.order
 AgreeFor call action.End one another = length one.order ≡ length another.order
@@ -34,13 +34,13 @@ AgreeFor call action.Abandon one another =
     × (length one.order ≡ length another.order)
 
 -- then the step changes the same, and ends the call alike
-pub record IsDecided (number : ℕ) (call : Call) (action : Action) (one another : PlainWorld) : Type 0 where
+pub record IsDecided (number : ℕ) (call : RunningCall) (action : Action) (one another : PlainWorld) : Type 0 where
   pub changes : change_by one number call action ≡ change_by another number call action
   pub ends : ended_by one number call action ≡ ended_by another number call action
 
 abbrev pub StepsAreDecided : Type 0
 StepsAreDecided =
-    (number : ℕ) (call : Call) (action : Action) (one another : PlainWorld) → AgreeFor call action one another →
+    (number : ℕ) (call : RunningCall) (action : Action) (one another : PlainWorld) → AgreeFor call action one another →
     IsDecided number call action one another
 
 -- ---- a step changes no more than
@@ -60,25 +60,25 @@ HasEntries None entries = Unit {0}
 HasEntries (Some lock) entries = lock.entries ≡ entries
 
 -- the call is as before but for its stage, and what else is named
-abbrev pub OnlyStage : Call → Call → Type 0
+abbrev pub OnlyStage : RunningCall → RunningCall → Type 0
 OnlyStage call now = now ≡ record call { stage = now.stage }
 
-abbrev pub OnlyBeginAndStage : Call → Call → Type 0
+abbrev pub OnlyBeginAndStage : RunningCall → RunningCall → Type 0
 OnlyBeginAndStage call now = now ≡ record call { begin = now.begin; stage = now.stage }
 
-abbrev pub OnlyBookLock : Call → Call → Type 0
+abbrev pub OnlyBookLock : RunningCall → RunningCall → Type 0
 OnlyBookLock call now = now ≡ record call { has_book = now.has_book }
 
-abbrev pub OnlyAccountLock : Call → Call → Type 0
+abbrev pub OnlyAccountLock : RunningCall → RunningCall → Type 0
 OnlyAccountLock call now = now ≡ record call { has_account = now.has_account }
 
-abbrev pub OnlyBookLockAndStage : Call → Call → Type 0
+abbrev pub OnlyBookLockAndStage : RunningCall → RunningCall → Type 0
 OnlyBookLockAndStage call now = now ≡ record call { has_book = now.has_book; stage = now.stage }
 
-abbrev pub OnlyLocksAndStage : Call → Call → Type 0
+abbrev pub OnlyLocksAndStage : RunningCall → RunningCall → Type 0
 OnlyLocksAndStage call now = now ≡ record call { has_book = now.has_book; has_account = now.has_account; stage = now.stage }
 
-abbrev pub ChangesNoMore : PlainWorld → Call → Action → Change → Type 0
+abbrev pub ChangesNoMore : PlainWorld → RunningCall → Action → Change → Type 0
 -- the call
 ChangesNoMore world call action.Begin change =
     NoBook change × NoAccount change × NoEntry change × OnlyBeginAndStage call change.call
@@ -108,5 +108,5 @@ ChangesNoMore world call action.Abandon change =
 
 abbrev pub StepsChangeNoMore : Type 0
 StepsChangeNoMore =
-    (number : ℕ) (call : Call) (action : Action) (world : PlainWorld) (change : Change) → change_by world number call action ≡ Some change →
+    (number : ℕ) (call : RunningCall) (action : Action) (world : PlainWorld) (change : Change) → change_by world number call action ≡ Some change →
     ChangesNoMore world call action change

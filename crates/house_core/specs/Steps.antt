@@ -16,7 +16,7 @@ use Rattle.period_order.specs.declared.order_entry.OrderEntry.{OrderEntry}
 use Rattle.period_order.specs.Decided.{event_of, outcome_of}
 use Rattle.period_order.specs.Order.{is_close_entry}
 use Rattle.period_order.specs.Places.{order_entry}
-use Rattle.house_core.specs.declared.call.Call.{Call}
+use Rattle.house_core.specs.declared.running_call.RunningCall.{RunningCall}
 use Rattle.house_core.specs.declared.finished.Done.{Done}
 use Rattle.house_core.specs.declared.finished.Done.TheVariants as done
 use Rattle.house_core.specs.declared.finished.Finished.{Finished}
@@ -35,34 +35,34 @@ use Rattle.house_core.specs.World.{PlainWorld}
 
 -- the call; the lock of its book and that of its account, where they change; and what the order keeps more, if anything
 pub record Change : Type 0 where
-  pub call : Call
+  pub call : RunningCall
   pub book : Option (Lock BookEntry)
   pub account : Option (Lock AccountEntry)
   pub entry : Option OrderEntry
 
 -- the call alone
-abbrev pub of_call : Call → Change
+abbrev pub of_call : RunningCall → Change
 of_call call = record { call = call; book = None; account = None; entry = None }
 
-abbrev pub of_book : Call → Lock BookEntry → Change
+abbrev pub of_book : RunningCall → Lock BookEntry → Change
 of_book call lock = record { call = call; book = Some lock; account = None; entry = None }
 
-abbrev pub of_account : Call → Lock AccountEntry → Change
+abbrev pub of_account : RunningCall → Lock AccountEntry → Change
 of_account call lock = record { call = call; book = None; account = Some lock; entry = None }
 
 -- ---- each step; none where it cannot be taken
 
 -- by the number of events
-abbrev pub begin : ℕ → Call → Option Change
+abbrev pub begin : ℕ → RunningCall → Option Change
 begin point call =
     option_map (λ command. of_call (record call { begin = point; stage = stage.Begun command })) (waiting call.stage)
 
 -- by the lock being free
-abbrev pub take_book : ℕ → Call → Lock BookEntry → Option Change
+abbrev pub take_book : ℕ → RunningCall → Lock BookEntry → Option Change
 take_book number call lock =
     if is_none lock.holder then Some (of_book (record call { has_book = true }) (held number lock)) else None
 
-abbrev pub take_account : ℕ → Call → Lock AccountEntry → Option Change
+abbrev pub take_account : ℕ → RunningCall → Lock AccountEntry → Option Change
 take_account number call lock =
     if is_none lock.holder then Some (of_account (record call { has_account = true }) (held number lock)) else None
 
@@ -76,7 +76,7 @@ stage_after config known (outcome.Stated ask) =
     stage.Stating (record { point = known.point; period = ask.period; collection = of_no_book config (no_statement config ask.party) })
 
 -- by the order, and the book and the account that it holds
-abbrev pub order : Config → Known → Call → Command → Change
+abbrev pub order : Config → Known → RunningCall → Command → Change
 order config known call command =
     let outcome : Outcome = outcome_of command (verdict config known command) in
     record {
@@ -87,12 +87,12 @@ order config known call command =
     }
 
 -- by that account
-abbrev pub put_account : Call → Carried → Lock AccountEntry → Change
+abbrev pub put_account : RunningCall → Carried → Lock AccountEntry → Change
 put_account call carried lock =
     of_account (record call { has_account = false }) (record { holder = None; entries = lock.entries ++ in_account carried })
 
 -- by that book; nothing is carried then
-abbrev pub put_book : Call → Carried → Lock BookEntry → Change
+abbrev pub put_book : RunningCall → Carried → Lock BookEntry → Change
 put_book call carried lock =
     of_book (record call { has_book = false; stage = stage.Ordered (record carried { event = None }) })
     (record { holder = None; entries = lock.entries ++ in_book carried })
@@ -113,14 +113,14 @@ collected config number operator entries (stage.Stating stating) =
 collected config number operator entries stage.Ended = None
 
 -- by that book, free
-abbrev pub collect : Config → ℕ → Call → Operator → Lock BookEntry → Option Change
+abbrev pub collect : Config → ℕ → RunningCall → Operator → Lock BookEntry → Option Change
 collect config number call operator lock =
     if is_none lock.holder
     then option_map (λ stage. of_call (record call { stage = stage })) (collected config number operator lock.entries call.stage)
     else None
 
 -- by its locks, which are given back
-abbrev pub abandon : Call → Option (Lock BookEntry) → Option (Lock AccountEntry) → Change
+abbrev pub abandon : RunningCall → Option (Lock BookEntry) → Option (Lock AccountEntry) → Change
 abandon call book account = record {
   call = record call { has_book = false; has_account = false; stage = stage.Ended };
   book = option_map freed book;
@@ -128,13 +128,13 @@ abandon call book account = record {
   entry = None;
 }
 
-abbrev pub end : Call → Change
+abbrev pub end : RunningCall → Change
 end call = of_call (record call { stage = stage.Ended })
 
 -- ---- in a world
 
 -- what is known at the order to a call: the entries of its own book and account, the number of events and the current period
-abbrev pub known_to : PlainWorld → Call → Known
+abbrev pub known_to : PlainWorld → RunningCall → Known
 known_to world call = record {
   book = entries_at world.books call.book;
   account = entries_at world.accounts call.account;
@@ -143,13 +143,13 @@ known_to world call = record {
 }
 
 -- the operator of that number and its lock, where they are there
-abbrev pub collect_at : Config → ℕ → Call → Option Operator → Option (Lock BookEntry) → Option Change
+abbrev pub collect_at : Config → ℕ → RunningCall → Option Operator → Option (Lock BookEntry) → Option Change
 collect_at config number call None lock = None
 collect_at config number call (Some operator) None = None
 collect_at config number call (Some operator) (Some lock) = collect config number call operator lock
 
 -- what the call of that number changes by an action
-abbrev pub change_by : PlainWorld → ℕ → Call → Action → Option Change
+abbrev pub change_by : PlainWorld → ℕ → RunningCall → Action → Option Change
 change_by world number call action.Begin = begin (length world.order) call
 change_by world number call action.TakeBook =
     option_and_then (take_book number call) (lock_at world.books (wanted_book call))
@@ -187,10 +187,10 @@ step world one = changed world one.call (change world one)
 -- ---- what a step tells
 
 -- the call that a step ends
-abbrev pub ended : PlainWorld → ℕ → Call → Done → Finished
+abbrev pub ended : PlainWorld → ℕ → RunningCall → Done → Finished
 ended world number call done = record { call = number; begin = call.begin; end = length world.order; done = done }
 
-abbrev pub ended_by : PlainWorld → ℕ → Call → Action → Option Finished
+abbrev pub ended_by : PlainWorld → ℕ → RunningCall → Action → Option Finished
 ended_by world number call action.Begin = None
 ended_by world number call action.TakeBook = None
 ended_by world number call action.TakeAccount = None
@@ -206,7 +206,7 @@ abbrev pub finishes : PlainWorld → Step → Option Finished
 finishes world step = option_and_then (λ call. ended_by world step.call call step.action) (slice_get world.calls step.call)
 
 -- the command that a step gives its place in the order
-abbrev pub ordered_by : Call → Action → Option Command
+abbrev pub ordered_by : RunningCall → Action → Option Command
 ordered_by call action.Begin = None
 ordered_by call action.TakeBook = None
 ordered_by call action.TakeAccount = None

@@ -2,9 +2,9 @@
 
 ghost use Rattle.std.specs.Prelude.{◌≡◌};
 
-use crate::call::Call;
 use crate::finished::Finished;
 use crate::locks::{AccountLock, BookLock};
+use crate::running_call::RunningCall;
 use crate::step::{Action, Step};
 use ocpi_types::Config;
 use period_order::Order;
@@ -23,7 +23,7 @@ pub struct Parts {
     pub books: Vec<BookLock>,
     pub accounts: Vec<AccountLock>,
     pub order: Order,
-    pub calls: Vec<Call>,
+    pub calls: Vec<RunningCall>,
 }
 
 impl Parts {

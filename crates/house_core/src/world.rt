@@ -3,11 +3,11 @@
 ghost use Rattle.std.specs.Prelude.{◌≡◌};
 ghost use Rattle.period_order.specs.Kept.{IsConfiguration};
 
-use crate::call::waiting_calls;
 use crate::finished::{Finished, Trace};
 use crate::laws::steps_keep;
 use crate::locks::{free_accounts, free_books};
 use crate::parts::Parts;
+use crate::running_call::waiting_calls;
 use crate::step::Step;
 use cdr_checks::Command;
 use ocpi_types::{Config, TryCopy};

@@ -12,11 +12,11 @@ mod printed;
 mod row;
 mod terminal_text;
 
-use crate::ended_house::{EndedHouse, Fault, house_of, tell_refused};
+use crate::ended_house::{EndedHouse, house_of, tell_refused};
+use command_line::{Fault, Output};
 use form::{Form, asked_of};
-use house_program::Output;
 use printed::print;
-use request_lines::Device;
+use request_lines::{Device, Source};
 use std::cell::Cell;
 
 fn print_house(
@@ -31,14 +31,15 @@ fn print_house(
     Ok(())
 }
 
-/// Prints it of a house after the lines of standard input; how many lines were refused is told on standard error.
-pub fn perform<'a>(
+/// Prints it of a house after the lines of a reader; how many lines were refused is told on standard error.
+pub fn perform<'a, R: Source>(
     rt: &HostRuntime,
     is_gone: &Cell<bool>,
     words: &'a [String],
+    reader: &mut R,
 ) -> Result<u8, Fault<'a>> {
     let asked = asked_of(words)?;
-    let ended = house_of(rt, asked.path)?;
+    let ended = house_of(rt, asked.path, reader)?;
     print_house(rt, is_gone, &ended, asked.form)?;
     Ok(0)
 }

@@ -1,7 +1,8 @@
 //! The commands.
 
-use crate::ended_house::{Fault, tell};
 use crate::{balances, explain_lines, statements};
+use command_line::Fault;
+use request_lines::Source;
 use std::cell::Cell;
 use std::process::ExitCode;
 
@@ -24,44 +25,37 @@ impl Command {
         }
     }
 
-    // The form of its words.
-    fn words(self) -> &'static str {
-        match self {
-            Command::Statements => "statements CONFIG < LINES",
-            Command::Balances => "balances CONFIG [--table] < LINES",
-            Command::ExplainLines => "explain_lines CONFIG < LINES",
-        }
-    }
-
     // Does it by its words, its name first, and gives the exit status. It notes that the reader of the output has gone.
-    fn perform<'a>(
+    fn perform<'a, R: Source>(
         self,
         rt: &HostRuntime,
         is_gone: &Cell<bool>,
         words: &'a [String],
+        reader: &mut R,
     ) -> Result<u8, Fault<'a>> {
         match self {
-            Command::Statements => statements::perform(rt, is_gone, words),
-            Command::Balances => balances::perform(rt, is_gone, words),
-            Command::ExplainLines => explain_lines::perform(rt, is_gone, words),
+            Command::Statements => statements::perform(rt, is_gone, words, reader),
+            Command::Balances => balances::perform(rt, is_gone, words, reader),
+            Command::ExplainLines => explain_lines::perform(rt, is_gone, words, reader),
         }
     }
 
-    // Tells the fault, but that the reader of the output has gone.
-    fn told(self, rt: &HostRuntime, is_gone: bool, fault: &Fault<'_>) -> ExitCode {
-        if !is_gone {
-            let _ = tell(rt, self.words(), fault);
-        }
-        ExitCode::from(fault.status())
-    }
-
-    /// Does it by its words, its name first, and gives the exit status: 2 for words of another form, and 1 for another fault, which is
-    /// told in one line on standard error, but for a reader of the output that has gone.
-    pub fn done(self, rt: &HostRuntime, words: &[String]) -> ExitCode {
+    /// Does it by its words, its name first, over the lines of a reader, and returns the exit status.
+    ///
+    /// # Errors
+    ///
+    /// The fault that ends the command early. If the reader of the output has gone, the fault is not told: its status is returned.
+    pub fn done<'a, R: Source>(
+        self,
+        rt: &HostRuntime,
+        words: &'a [String],
+        reader: &mut R,
+    ) -> Result<ExitCode, Fault<'a>> {
         let is_gone = Cell::new(false);
-        match self.perform(rt, &is_gone, words) {
-            Ok(status) => ExitCode::from(status),
-            Err(fault) => self.told(rt, is_gone.get(), &fault),
+        match self.perform(rt, &is_gone, words, reader) {
+            Ok(status) => Ok(ExitCode::from(status)),
+            Err(fault) if is_gone.get() => Ok(ExitCode::from(fault.status())),
+            Err(fault) => Err(fault),
         }
     }
 }

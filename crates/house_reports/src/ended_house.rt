@@ -2,16 +2,19 @@
 
 mod counted;
 mod ended;
-mod fault;
+mod writing;
 
+use command_line::{Fault, read_config};
 pub use ended::EndedHouse;
-pub use fault::{Fault, tell, tell_refused, write_text};
-use house_program::read_config;
-use request_lines::Device;
+use request_lines::Source;
+pub use writing::{tell_refused, write_text};
 
-/// A house of the configuration at this path, after the lines of standard input.
-pub fn house_of<'a>(rt: &HostRuntime, path: &'a str) -> Result<EndedHouse, Fault<'a>> {
+/// A house of the configuration at this path, after the lines of a reader.
+pub fn house_of<'a, R: Source>(
+    rt: &HostRuntime,
+    path: &'a str,
+    reader: &mut R,
+) -> Result<EndedHouse, Fault<'a>> {
     let file = read_config(rt, path)?;
-    let mut reader = Device::new(rt.stdin());
-    Ok(EndedHouse::of_file(rt.alloc(), file.as_slice(), &mut reader)?)
+    Ok(EndedHouse::of_file(rt.alloc(), file.as_slice(), reader)?)
 }

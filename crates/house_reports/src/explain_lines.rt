@@ -8,15 +8,14 @@ mod explainer;
 mod explaining;
 mod happened;
 mod line;
-mod place;
+mod member_path;
 mod row;
 mod table;
 mod telling;
 mod turned_down;
 
-use crate::ended_house::Fault;
-use house_program::{Output, only_word, read_config};
-use request_lines::Device;
+use command_line::{Fault, Output, only_word, read_config};
+use request_lines::{Device, Source};
 use std::cell::Cell;
 use table::explain;
 
@@ -27,15 +26,15 @@ fn status(is_any_turned_down: bool) -> u8
     if is_any_turned_down { 3 } else { 0 }
 }
 
-/// Prints it of the lines of standard input, and gives the exit status.
-pub fn perform<'a>(
+/// Prints it of the lines of a reader, and gives the exit status.
+pub fn perform<'a, R: Source>(
     rt: &HostRuntime,
     is_gone: &Cell<bool>,
     words: &'a [String],
+    reader: &mut R,
 ) -> Result<u8, Fault<'a>> {
     let file = read_config(rt, only_word(words)?)?;
-    let mut reader = Device::new(rt.stdin());
     let mut writer = Device::new(Output::new(rt.stdout(), is_gone));
-    let is_any_turned_down = explain(rt.alloc(), file.as_slice(), &mut reader, &mut writer)?;
+    let is_any_turned_down = explain(rt.alloc(), file.as_slice(), reader, &mut writer)?;
     Ok(status(is_any_turned_down))
 }

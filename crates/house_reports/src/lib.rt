@@ -1,4 +1,4 @@
-//! Tells what a house has after the lines of standard input, or what it turned down, each by a command:
+//! Tells what a house has after the lines of a reader, or what it turned down, each by a command:
 //!
 //! - `statements CONFIG` prints the order of what happened, and for each closed period the statement of each party, as CSV;
 //! - `balances CONFIG [--table]` prints what is owed, settled and open, as CSV or as a table for a terminal;

@@ -2,10 +2,10 @@
 
 mod printed;
 
-use crate::ended_house::{EndedHouse, Fault, house_of, tell_refused};
-use house_program::{Output, only_word};
+use crate::ended_house::{EndedHouse, house_of, tell_refused};
+use command_line::{Fault, Output, only_word};
 use printed::print;
-use request_lines::Device;
+use request_lines::{Device, Source};
 use std::cell::Cell;
 
 fn print_house(
@@ -19,13 +19,14 @@ fn print_house(
     Ok(())
 }
 
-/// Prints them of a house after the lines of standard input; how many lines were refused is told on standard error.
-pub fn perform<'a>(
+/// Prints them of a house after the lines of a reader; how many lines were refused is told on standard error.
+pub fn perform<'a, R: Source>(
     rt: &HostRuntime,
     is_gone: &Cell<bool>,
     words: &'a [String],
+    reader: &mut R,
 ) -> Result<u8, Fault<'a>> {
-    let ended = house_of(rt, only_word(words)?)?;
+    let ended = house_of(rt, only_word(words)?, reader)?;
     print_house(rt, is_gone, &ended)?;
     Ok(0)
 }

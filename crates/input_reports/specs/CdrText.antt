@@ -6,10 +6,10 @@ use Rattle.ocpi_json.specs.declared.name.Name.{Name}
 use Rattle.ocpi_types.specs.declared.cdr.Cdr.{Cdr}
 use Rattle.ocpi_types.specs.declared.refusal.Refusal.TheVariants.{Syntax, Field}
 use Rattle.ocpi_types.specs.Cdr.{cdr_at}
-use Rattle.input_reports.specs.declared.fault.Fault.{Fault}
-use Rattle.input_reports.specs.declared.fault.Fault.TheVariants.{NoAmount, Refused, CreditCdr, NoMemory}
+use Rattle.input_reports.specs.declared.rating_fault.RatingFault.{RatingFault}
+use Rattle.input_reports.specs.declared.rating_fault.RatingFault.TheVariants.{NoAmount, Refused, CreditCdr, NoMemory}
 
-abbrev pub is_no_memory : Fault → Bool
+abbrev pub is_no_memory : RatingFault → Bool
 is_no_memory NoAmount = false
 is_no_memory (Refused refusal) = false
 is_no_memory CreditCdr = false
@@ -17,17 +17,17 @@ is_no_memory NoMemory = true
 
 infixl 10 ◌>>=◌
 -- the first fault is the fault of the whole
-abbrev pub ◌>>=◌ : {A B : Type 0} → Result A Fault → (A → Result B Fault) → Result B Fault
+abbrev pub ◌>>=◌ : {A B : Type 0} → Result A RatingFault → (A → Result B RatingFault) → Result B RatingFault
 (Ok x) >>= f = f x
 (Err fault) >>= f = Err fault
 
-abbrev pub cdr_or_fault : Result Cdr Name → Result Cdr Fault
+abbrev pub cdr_or_fault : Result Cdr Name → Result Cdr RatingFault
 cdr_or_fault (Ok cdr) = Ok cdr
 cdr_or_fault (Err called) = Err (Refused (Field called))
 
-abbrev pub cdr_if_json : Option Data → Result Cdr Fault
+abbrev pub cdr_if_json : Option Data → Result Cdr RatingFault
 cdr_if_json None = Err (Refused Syntax)
 cdr_if_json (Some node) = cdr_or_fault (cdr_at node)
 
-unfoldable pub cdr_of : List ℕ → Result Cdr Fault
+unfoldable pub cdr_of : List ℕ → Result Cdr RatingFault
 cdr_of text = cdr_if_json (data_of text)

@@ -10,8 +10,8 @@ use Rattle.cdr_rating.specs.Price.{price}
 use Rattle.cdr_rating.specs.Pricing.{lacks_tariff}
 use Rattle.cdr_checks.specs.CdrConditions.{has_reservation, has_supported_tariffs}
 use Rattle.cdr_checks.specs.FirstRefusal.{◌>>=◌, ensure}
-use Rattle.input_reports.specs.declared.fault.Fault.{Fault}
-use Rattle.input_reports.specs.declared.fault.Fault.TheVariants.{Refused}
+use Rattle.input_reports.specs.declared.rating_fault.RatingFault.{RatingFault}
+use Rattle.input_reports.specs.declared.rating_fault.RatingFault.TheVariants.{Refused}
 
 -- refusals 8 and 9, as a posted CDR has them
 abbrev pub all_rated : Cdr → Result Unit Refusal
@@ -30,6 +30,6 @@ rated_price cdr zone = do
   price cdr zone
 
 -- the same with its refusal as a fault
-abbrev pub or_fault : {A : Type 0} → Result A Refusal → Result A Fault
+abbrev pub or_fault : {A : Type 0} → Result A Refusal → Result A RatingFault
 or_fault (Ok x) = Ok x
 or_fault (Err refusal) = Err (Refused refusal)

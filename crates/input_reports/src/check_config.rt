@@ -5,7 +5,6 @@ ghost use Rattle.std.specs.Prelude.{◌≡◌, ◌≢◌, ◌↔◌, []};
 mod alike;
 mod expected;
 mod failing;
-mod fault;
 mod in_force;
 mod near;
 mod no_json;
@@ -14,13 +13,11 @@ mod offset;
 mod passed_over;
 mod report;
 mod spelled;
-mod standing;
 mod warning;
 mod warnings;
 mod wrong;
 
-use fault::{Fault, tell};
-use house_program::{only_word, read_config};
+use command_line::{Fault, only_word, read_config};
 use report::{Report, report_of};
 use std::io::{self, ErrorKind};
 use std::process::ExitCode;
@@ -70,16 +67,12 @@ fn print_report<'a>(rt: &HostRuntime, words: &'a [String]) -> Result<u8, Fault<'
     }
 }
 
-fn told(rt: &HostRuntime, fault: &Fault<'_>) -> ExitCode {
-    let _ = tell(rt, fault);
-    ExitCode::from(fault.status())
-}
-
 /// Tells of the configuration at the path that is the one word behind the command, and gives the exit status: 3 if
-/// members are passed over or there is a warning, 1 if there is a fault, and 2 for words of another form.
-pub fn tell_config(rt: &HostRuntime, words: &[String]) -> ExitCode {
-    match print_report(rt, words) {
-        Ok(status) => ExitCode::from(status),
-        Err(fault) => told(rt, &fault),
-    }
+/// members are passed over or there is a warning, and 1 if a member is at fault, which is told on standard error.
+///
+/// # Errors
+///
+/// `CannotWrite`, or the fault that ends the command before it writes anything on standard output.
+pub fn tell_config<'a>(rt: &HostRuntime, words: &'a [String]) -> Result<ExitCode, Fault<'a>> {
+    Ok(ExitCode::from(print_report(rt, words)?))
 }

@@ -11,10 +11,10 @@
 mod cdr_text;
 mod check_config;
 mod explain_cost;
-mod fault;
 mod printing;
 mod ratable;
 mod rate;
+mod rating_fault;
 mod re_rate;
 
 pub use check_config::tell_config;

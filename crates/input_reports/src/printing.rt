@@ -1,8 +1,8 @@
 //! What a CDR of standard input costs, on standard output.
 
 use crate::explain_cost::explain_text;
-use crate::fault::Fault;
 use crate::rate::rate_text;
+use crate::rating_fault::RatingFault;
 use ocpi_types::Zone;
 use std::io::{self, Read, Write};
 
@@ -12,7 +12,7 @@ fn given_text(rt: &HostRuntime) -> io::Result<Vec<u8>> {
     Ok(text)
 }
 
-fn told(rt: &HostRuntime, fault: Fault) -> io::Result<u8> {
+fn told(rt: &HostRuntime, fault: RatingFault) -> io::Result<u8> {
     let (kind, member) = fault.words();
     eprintln!(rt; "clear: {kind}{member}")?;
     Ok(1)

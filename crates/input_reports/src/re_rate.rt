@@ -3,7 +3,7 @@
 
 mod line;
 
-use crate::fault::Fault;
+use crate::rating_fault::RatingFault;
 use line::read_record;
 use ocpi_json::Room;
 use re_rating::{Difference, Record};
@@ -17,9 +17,9 @@ pub struct Records {
     has_bad_line: bool,
 }
 
-fn tell_fault(rt: &HostRuntime, number: u64, fault: Fault) -> io::Result<()> {
+fn tell_fault(rt: &HostRuntime, number: u64, fault: RatingFault) -> io::Result<()> {
     let (kind, member) = match fault {
-        Fault::NoMemory => return Err(io::Error::from(ErrorKind::OutOfMemory)),
+        RatingFault::NoMemory => return Err(io::Error::from(ErrorKind::OutOfMemory)),
         other => other.words(),
     };
     eprintln!(rt; "line {number}: {kind}{member}")

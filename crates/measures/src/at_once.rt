@@ -6,7 +6,7 @@ mod workers;
 ghost use Rattle.std.specs.Prelude.{◌≡◌, length};
 ghost use Rattle.shared_house.specs.Names.{IsLedgerOf};
 
-use house_program::read_config;
+use command_line::read_config;
 use ocpi_types::Config;
 use shared_house::{Blanks, Configured, Ended, FinishFault, House, Names, Part, Pass};
 use std::io;

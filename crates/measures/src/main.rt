@@ -15,7 +15,7 @@ mod records;
 mod tariffs;
 
 use asked::{Asked, Subject, calls_at_once};
-use house_program::given_words;
+use command_line::given_words;
 use ocpi_types::Zone;
 use std::io;
 use std::process::ExitCode;

@@ -1,12 +1,12 @@
 //! Multilateral netting: what each party is to receive less what it is to pay, by currency.
 #![tactic(auto)]
 
-mod exact;
 mod history;
 mod laws;
 mod obligation;
 mod positions;
 mod row;
+mod same;
 mod statement;
 mod table;
 

@@ -194,16 +194,6 @@ pub fn word<'a>(node: &Node<'a>, name: Name) -> Result<&'a str, Name>
     word_in(&member(node, name)?, name)
 }
 
-/// The same, where the member may be missing or null.
-pub fn word_or_none<'a>(node: &Node<'a>, name: Name) -> Result<Option<&'a str>, Name>
-    ensures { shown (option_map (λ t. t.now)) result ≡ optional as_text name node.now }
-{
-    match present(node, name) {
-        Some(member) => Ok(Some(word_in(&member, name)?)),
-        None => Ok(None),
-    }
-}
-
 /// A text that stands for a value, as an enumeration of OCPI; the node is the text itself.
 pub fn parsed_in<T: FromText + Drop>(member: &Node, name: Name) -> Result<T, Name>
     ensures { result ≡ or_name name (as_parsed T.of_text member.now) }
@@ -360,13 +350,6 @@ pub fn instant(node: &Node, name: Name) -> Result<Timestamp, Name>
     parsed(node, name)
 }
 
-/// The same, where the member may be missing or null.
-pub fn instant_or_none(node: &Node, name: Name) -> Result<Option<Timestamp>, Name>
-    ensures { result ≡ optional (as_parsed instant_of) name node.now }
-{
-    parsed_or_none(node, name)
-}
-
 /// A date, `YYYY-MM-DD`.
 pub fn date(node: &Node, name: Name) -> Result<Date, Name>
     ensures { result ≡ required (as_parsed date_of) name node.now }
@@ -381,14 +364,7 @@ pub fn date_or_none(node: &Node, name: Name) -> Result<Option<Date>, Name>
     parsed_or_none(node, name)
 }
 
-/// A time of day, `HH:MM`.
-pub fn clock(node: &Node, name: Name) -> Result<Time, Name>
-    ensures { result ≡ required (as_parsed clock_of) name node.now }
-{
-    parsed(node, name)
-}
-
-/// The same, where the member may be missing or null.
+/// A time of day, `HH:MM`, where the member may be missing or null.
 pub fn clock_or_none(node: &Node, name: Name) -> Result<Option<Time>, Name>
     ensures { result ≡ optional (as_parsed clock_of) name node.now }
 {
@@ -415,21 +391,6 @@ pub fn list<'a>(node: &Node<'a>, name: Name, least: usize, most: usize) -> Resul
     ensures { result ≡ required (as_list least most) name node.now }
 {
     list_in(&member(node, name)?, name, least, most)
-}
-
-/// The same, where the member may be missing or null.
-pub fn list_or_none<'a>(
-    node: &Node<'a>,
-    name: Name,
-    least: usize,
-    most: usize,
-) -> Result<Option<Nodes<'a>>, Name>
-    ensures { result ≡ optional (as_list least most) name node.now }
-{
-    match present(node, name) {
-        Some(member) => Ok(Some(list_in(&member, name, least, most)?)),
-        None => Ok(None),
-    }
 }
 
 /// The items of an array of up to `most`, and none where the member is missing or null.

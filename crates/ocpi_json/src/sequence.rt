@@ -61,13 +61,6 @@ impl<T> Sequence<T> {
         Sequence { items }
     }
 
-    /// The items, without taking memory.
-    pub fn into_vec(self) -> Vec<T>
-        ensures { result.items ≡ self }
-    {
-        self.items
-    }
-
     pub fn as_slice(&self) -> &[T]
         ensures { result.now ≡ self.now }
     {

@@ -20,7 +20,7 @@ use Rattle.ocpi_types.specs.Restrictions.{restrictions_at, as_seconds, days_at, 
 use Rattle.ocpi_types.specs.declared.cdr.reading.Authorised.{Authorised}
 use Rattle.ocpi_types.specs.declared.cdr.Cdr.{Cdr}
 use Rattle.ocpi_types.specs.declared.cdr.reading.Opening.{Opening}
-use Rattle.ocpi_types.specs.declared.cdr.reading.Parts.{Parts}
+use Rattle.ocpi_types.specs.declared.cdr.reading.CdrMembers.{CdrMembers}
 use Rattle.ocpi_types.specs.declared.cdr.reading.Totals.{Totals}
 use Rattle.ocpi_types.specs.declared.charging_period.ChargingPeriod.{ChargingPeriod}
 use Rattle.ocpi_types.specs.declared.config.Config.{Config}
@@ -109,7 +109,7 @@ restrictions node =
 
 -- ---- CDRs
 
-abbrev parts : Opening → Authorised → List Tariff → List ChargingPeriod → Totals → Parts
+abbrev parts : Opening → Authorised → List Tariff → List ChargingPeriod → Totals → CdrMembers
 parts opening authorised tariffs charging_periods totals =
     record { opening = opening; authorised = authorised; tariffs = tariffs; charging_periods = charging_periods; totals = totals }
 

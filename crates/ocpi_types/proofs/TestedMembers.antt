@@ -9,7 +9,7 @@ use Rattle.ocpi_json.specs.declared.name.Name.TheVariants as name
 use Rattle.ocpi_types.specs.ChargingPeriod.{has_volumes_in_range}
 use Rattle.ocpi_types.specs.Inner.CdrParts.{cdr_of, cdr_with}
 use Rattle.ocpi_types.specs.Members.{true_or}
-use Rattle.ocpi_types.specs.declared.cdr.reading.Parts.{Parts}
+use Rattle.ocpi_types.specs.declared.cdr.reading.CdrMembers.{CdrMembers}
 
 pub passed : {R : Type 0} (n : Name) (b : Bool) (rest : b ≡ true → Result R Name) (h : b ≡ true) → true_or n b >>= rest ≡ rest h
 passed n true rest h = ap rest (Bool-set true true refl h)
@@ -19,7 +19,7 @@ pub failed : {R : Type 0} (n : Name) (b : Bool) (rest : b ≡ true → Result R 
 failed n true rest h = absurd (cc)
 failed n false rest h = refl
 
-pub all_passed : (parts : Parts)
+pub all_passed : (parts : CdrMembers)
     (id : (is_some parts.totals.credit || nat_le (length parts.opening.id) 36) ≡ true)
     (volumes : (is_some parts.totals.credit || list_all has_volumes_in_range parts.charging_periods) ≡ true)
     (energy : (is_some parts.totals.credit || int_le (pos 0) parts.totals.total_energy) ≡ true)

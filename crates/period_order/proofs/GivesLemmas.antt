@@ -44,7 +44,7 @@ use Rattle.period_order.specs.Kept.{Keeps}
 use Rattle.period_order.specs.Order.{PlainOrder, current_of}
 use Rattle.period_order.specs.Places.{operator_number, provider_number}
 use Rattle.period_order.specs.Resolved.{entries_of_accounts, entries_of_books}
-use Rattle.period_order.proofs.LedgersLemmas.{same_operator, same_provider}
+use Rattle.period_order.proofs.EntryBooksLemmas.{same_operator, same_provider}
 use Rattle.period_order.proofs.PerformLemmas.{account_given, book_given, period_kept}
 
 -- ---- cases

@@ -8,7 +8,7 @@ pub mod GivesLemmas
 pub mod HouseLemmas
 pub mod KeptLemmas
 pub mod LawLemmas
-pub mod LedgersLemmas
+pub mod EntryBooksLemmas
 pub mod NumberLemmas
 pub mod OrderLemmas
 pub mod OutcomeLemmas

@@ -2,7 +2,7 @@ pub mod Decided
 pub mod Dues
 pub mod Inner
 pub mod Kept
-pub mod Ledgers
+pub mod EntryBooks
 pub mod Order
 pub mod Places
 pub mod Resolved

@@ -85,14 +85,6 @@ impl PlainHouse {
         self.events.as_slice()
     }
 
-    /// What has happened, taken out of the house; it is legal under the configuration.
-    pub fn into_events(self) -> Vec<Event>
-        ensures events { result.items ≡ self.events }
-        ensures legal { IsLegal self.config result.items }
-    {
-        self.events
-    }
-
     /// States that what has happened is legal under the configuration.
     pub fn has_legal_list(&self)
         ensures { IsLegal self.now.config self.now.events }

@@ -7,12 +7,12 @@ mod booked_amount;
 mod entry;
 mod entry_laws;
 mod event;
-mod exact;
 mod hold_reference;
 mod laws;
 mod posting;
 mod replies;
 mod reply_room;
+mod same;
 mod scope;
 mod sequential;
 

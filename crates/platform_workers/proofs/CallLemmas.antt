@@ -7,7 +7,7 @@ use Rattle.ocpi_types.specs.declared.refusal.Refusal.{Refusal}
 use Rattle.cdr_checks.specs.declared.request.Command.{Command}
 use Rattle.plain_house.specs.Replies.{Reply, is_no_memory, no_memory}
 use Rattle.request_lines.specs.Script.{command_in}
-use Rattle.shared_house.specs.declared.made.Made.{Made}
+use Rattle.shared_house.specs.declared.call.Call.{Call}
 use Rattle.shared_house.specs.Calls.{Keeps}
 use Rattle.shared_house.specs.PassView.{PassView}
 use Rattle.platform_workers.specs.Platforms.{IsReplied, LineReplied}
@@ -25,14 +25,14 @@ kept command before after reply found (inr nothing) = absurd (not_both reply fou
 first_called : (config : Config) (found : Result Command Refusal) (before after : PassView) (reply : Reply) → is_no_memory reply ≡ false → IsReplied config found before reply after
     → HasCalled (command_before found []) before after
 first_called config (Ok command) before after reply found call = record {
-  made = record { command = command; reply = reply } ∷ [];
+  calls = record { command = command; reply = reply } ∷ [];
   calls_are = kept command before after reply found call.calls;
   one_each = refl;
   found_memory = All-cons FoundMemory (record { command = command; reply = reply }) [] found (All-nil FoundMemory);
   number_kept = call.number;
 }
 first_called config (Err refusal) before after reply found h = record {
-  made = [];
+  calls = [];
   calls_are = ap (λ (p : PassView). p.calls) h.1 ∙ sym (append-nil _);
   one_each = refl;
   found_memory = All-nil FoundMemory;
@@ -42,10 +42,10 @@ first_called config (Err refusal) before after reply found h = record {
 -- calls, and then more
 called_more : (xs ys : List Command) (a b c : PassView) → HasCalled xs a b → HasCalled ys b c → HasCalled (xs ++ ys) a c
 called_more xs ys a b c h k = record {
-  made = h.made ++ k.made;
-  calls_are = k.calls_are ∙ ap (λ (l : List Made). l ++ k.made) h.calls_are ∙ append_assoc a.calls h.made k.made;
-  one_each = map-append (λ (call : Made). call.command) h.made k.made ∙ ap (λ (l : List Command). l ++ map (λ call. call.command) k.made) h.one_each ∙ ap (λ (l : List Command). xs ++ l) k.one_each;
-  found_memory = All-append FoundMemory h.made k.made h.found_memory k.found_memory;
+  calls = h.calls ++ k.calls;
+  calls_are = k.calls_are ∙ ap (λ (l : List Call). l ++ k.calls) h.calls_are ∙ append_assoc a.calls h.calls k.calls;
+  one_each = map-append (λ (call : Call). call.command) h.calls k.calls ∙ ap (λ (l : List Command). l ++ map (λ call. call.command) k.calls) h.one_each ∙ ap (λ (l : List Command). xs ++ l) k.one_each;
+  found_memory = All-append FoundMemory h.calls k.calls h.found_memory k.found_memory;
   number_kept = k.number_kept ∙ h.number_kept;
 }
 
@@ -62,7 +62,7 @@ unfolding_first config line before after reply found h = first_called config (co
 
 pub calls_of_lines : CallsAreThoseOfLines
 calls_of_lines config before after [] text h = record {
-  made = [];
+  calls = [];
   calls_are = ap (λ (p : PassView). p.calls) h.1 ∙ sym (append-nil _);
   one_each = refl;
   found_memory = All-nil FoundMemory;

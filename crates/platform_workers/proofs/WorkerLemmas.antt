@@ -49,11 +49,11 @@ shows name pass config s = record {
 -- what is told of the result of a run is so of the end of a worker
 has_ended : {I O : Type 0} (streams : Streams I O) (config : Config) (work : Work I O) (result : Result Count ScriptFault)
     → MatchResult result (λ count. AreAllAnswered (platform_rule config) work.bytes (run_of work) count) (λ fault. IsFault (platform_rule config) (input_of streams work) (run_of work) fault)
-    → OnOk result (streams.at_end work.reader')
-    → MatchResult result (λ _. streams.reader_failed work.reader' ≡ streams.reader_failed work.reader) (λ fault. is_read_fault fault ≡ false → streams.reader_failed work.reader' ≡ streams.reader_failed work.reader)
-    → OnOk result (streams.writer_failed work.writer' ≡ streams.writer_failed work.writer)
-    → IfErr result (λ fault. is_write_fault fault ≡ true → streams.writer_failed work.writer' ≡ true)
-    → IfErr result (λ fault. is_write_fault fault ≡ false → streams.writer_failed work.writer' ≡ streams.writer_failed work.writer)
+    → OnOk result (streams.reading.at_end work.reader')
+    → MatchResult result (λ _. streams.reading.failed work.reader' ≡ streams.reading.failed work.reader) (λ fault. is_read_fault fault ≡ false → streams.reading.failed work.reader' ≡ streams.reading.failed work.reader)
+    → OnOk result (streams.writing.failed work.writer' ≡ streams.writing.failed work.writer)
+    → IfErr result (λ fault. is_write_fault fault ≡ true → streams.writing.failed work.writer' ≡ true)
+    → IfErr result (λ fault. is_write_fault fault ≡ false → streams.writing.failed work.writer' ≡ streams.writing.failed work.writer)
     → HasEnded streams config work (end_of result)
 has_ended streams config work (Ok count) told end reader unfailed failed kept =
     record { answered = told; ended = end; reader_kept = reader; writer_kept = unfailed }
@@ -64,15 +64,15 @@ pub worker_ran : {A I O : Type 0} (start now : A) (name : A → ℕ) (pass : A �
     → work.pass ≡ pass start
     → (name now ≡ name start → work.pass' ≡ pass now)
     → work.calls ≤ 2 ^ 40
-    → streams.gives work.reader work.calls work.bytes work.reader'
-    → streams.takes work.writer work.written work.writer'
+    → streams.reading.gives work.reader work.calls work.bytes work.reader'
+    → streams.writing.takes work.writer work.written work.writer'
     → MatchResult result (λ count. AreAllAnswered (rule_of name pass config) work.bytes (run_by start now work) count)
     (λ fault. IsFault (rule_of name pass config) (input_of streams work) (run_by start now work) fault)
-    → OnOk result (streams.at_end work.reader')
-    → MatchResult result (λ _. streams.reader_failed work.reader' ≡ streams.reader_failed work.reader) (λ fault. is_read_fault fault ≡ false → streams.reader_failed work.reader' ≡ streams.reader_failed work.reader)
-    → OnOk result (streams.writer_failed work.writer' ≡ streams.writer_failed work.writer)
-    → IfErr result (λ fault. is_write_fault fault ≡ true → streams.writer_failed work.writer' ≡ true)
-    → IfErr result (λ fault. is_write_fault fault ≡ false → streams.writer_failed work.writer' ≡ streams.writer_failed work.writer)
+    → OnOk result (streams.reading.at_end work.reader')
+    → MatchResult result (λ _. streams.reading.failed work.reader' ≡ streams.reading.failed work.reader) (λ fault. is_read_fault fault ≡ false → streams.reading.failed work.reader' ≡ streams.reading.failed work.reader)
+    → OnOk result (streams.writing.failed work.writer' ≡ streams.writing.failed work.writer)
+    → IfErr result (λ fault. is_write_fault fault ≡ true → streams.writing.failed work.writer' ≡ true)
+    → IfErr result (λ fault. is_write_fault fault ≡ false → streams.writing.failed work.writer' ≡ streams.writing.failed work.writer)
     → WorkerRan streams config work.pass (work.reader, work.writer) work.pass' (end_of result)
 worker_ran start now name pass streams config work result before after few gave took told end reader unfailed failed kept =
     let stayed = stays _ _ _ (Stays name pass) (shows name pass config) result work.calls work.bytes _ _ start now work.written told (refl, refl) in

@@ -5,7 +5,7 @@ use Rattle.ocpi_types.specs.declared.refusal.Refusal.{Refusal}
 use Rattle.cdr_checks.specs.declared.request.Command.{Command}
 use Rattle.plain_house.specs.Replies.{is_no_memory}
 use Rattle.request_lines.specs.Script.{command_in}
-use Rattle.shared_house.specs.declared.made.Made.{Made}
+use Rattle.shared_house.specs.declared.call.Call.{Call}
 use Rattle.shared_house.specs.PassView.{PassView}
 use Rattle.platform_workers.specs.Platforms.{LinesAnswered}
 
@@ -20,15 +20,15 @@ commands_in config [] = []
 commands_in config (line ∷ lines) = command_before (command_in config line) (commands_in config lines)
 
 -- the call's reply is not want of memory
-abbrev pub FoundMemory : Made → Type 0
-FoundMemory made = is_no_memory made.reply ≡ false
+abbrev pub FoundMemory : Call → Type 0
+FoundMemory call = is_no_memory call.reply ≡ false
 
 -- the pass has its earlier calls, and then these, one for each command; each found memory
 pub record HasCalled (commands : List Command) (before after : PassView) : Type 0 where
-  pub made : List Made
-  pub calls_are : after.calls ≡ before.calls ++ made
-  pub one_each : map (λ call. call.command) made ≡ commands
-  pub found_memory : All FoundMemory made
+  pub calls : List Call
+  pub calls_are : after.calls ≡ before.calls ++ calls
+  pub one_each : map (λ call. call.command) calls ≡ commands
+  pub found_memory : All FoundMemory calls
   pub number_kept : after.number ≡ before.number
 
 -- a pass that answered lines called the commands of those that are admitted

@@ -2,7 +2,7 @@
 
 ghost use Rattle.std.specs.Prelude.{◌≡◌, ℕ, ◌<◌, IfErr, IfOk, slice_index_or, vec_len};
 ghost use Rattle.platform_workers.specs.Inner.Jobs.{JobRan};
-ghost use Rattle.platform_workers.specs.Workers.{EachRan, Streams, WorkerRan, end_of};
+ghost use Rattle.platform_workers.specs.Workers.{EachRan, WorkerRan, end_of, streams_of};
 
 use super::jobs::{Job, NotBegun, WorkerEnd, ended, jobs_of, to_take};
 use super::platform::Platform;
@@ -24,13 +24,7 @@ fn run_platform<N: Names, I: Source, O: Sink, R: Wait, G: Gate>(
     reader: &mut I,
     writer: &mut O,
 ) -> Result<Count, ScriptFault>
-    ensures { let streams : Streams I O = record {
-      gives = I.gives;
-      at_end = I.at_end;
-      reader_failed = I.failed;
-      takes = O.takes;
-      writer_failed = O.failed;
-    } in WorkerRan streams N.BookEntries.config pass.old (reader.old, writer.old) pass.new (end_of result) }
+    ensures { WorkerRan (streams_of I.reading O.writing) N.BookEntries.config pass.old (reader.old, writer.old) pass.new (end_of result) }
 {
     let mut room = Room::new(alloc);
     let mut platform = Platform {
@@ -52,13 +46,7 @@ fn work<N: Names, I: Source + Drop, O: Sink + Drop, R: Wait, G: Gate>(
     gate: &G,
     job: &mut Job<N, Option<(I, O)>>,
 )
-    ensures { let streams : Streams I O = record {
-      gives = I.gives;
-      at_end = I.at_end;
-      reader_failed = I.failed;
-      takes = O.takes;
-      writer_failed = O.failed;
-    } in JobRan streams N.BookEntries.config job.old.pass job.old.given job.new.pass job.new.given job.new.end }
+    ensures { JobRan (streams_of I.reading O.writing) N.BookEntries.config job.old.pass job.old.given job.new.pass job.new.given job.new.end }
 {
     let Some((mut reader, mut writer)) = job.given.take() else {
         return;
@@ -86,14 +74,8 @@ where
     N::AccountAmounts: Send + Sync,
     N::Events: Send + Sync,
     ensures len { vec_len jobs.new ≡ vec_len jobs.old }
-    ensures each { let streams : Streams I O = record {
-      gives = I.gives;
-      at_end = I.at_end;
-      reader_failed = I.failed;
-      takes = O.takes;
-      writer_failed = O.failed;
-    } in (place : ℕ) (job : _) → place < vec_len jobs.old →
-        JobRan streams N.BookEntries.config (slice_index_or jobs.old.items place job).pass (slice_index_or jobs.old.items place job).given
+    ensures each { (place : ℕ) (job : _) → place < vec_len jobs.old →
+        JobRan (streams_of I.reading O.writing) N.BookEntries.config (slice_index_or jobs.old.items place job).pass (slice_index_or jobs.old.items place job).given
         (slice_index_or jobs.new.items place job).pass (slice_index_or jobs.new.items place job).given (slice_index_or jobs.new.items place job).end }
 {
     let threads = jobs.len();
@@ -135,13 +117,7 @@ where
     N::AccountAmounts: Send + Sync,
     N::Events: Send + Sync,
     requires len { vec_len passes ≡ vec_len pairs }
-    ensures each { let streams : Streams I O = record {
-      gives = I.gives;
-      at_end = I.at_end;
-      reader_failed = I.failed;
-      takes = O.takes;
-      writer_failed = O.failed;
-    } in IfOk result (λ ended. EachRan streams N.BookEntries.config passes.items pairs.items ended.items) }
+    ensures each { IfOk result (λ ended. EachRan (streams_of I.reading O.writing) N.BookEntries.config passes.items pairs.items ended.items) }
     ensures len { IfOk result (λ ended. vec_len ended ≡ vec_len passes) }
     ensures passes_kept { IfErr result (λ unchanged. unchanged.passes.items ≡ passes.items) }
     ensures pairs_kept { IfErr result (λ unchanged. unchanged.pairs.items ≡ pairs.items) }

@@ -17,9 +17,9 @@ use Rattle.plain_house.specs.declared.scope.Scope.{Scope}
 use Rattle.plain_house.specs.Exposure.{ends_hold, holds_of, holds_within, open_holds, released_hold, total_held}
 use Rattle.plain_house.specs.House.{is_hold_of, reference_text}
 use Rattle.provider_account.specs.declared.holds.Holds.{Holds}
-use Rattle.provider_account.specs.Inner.Held.{held_at}
+use Rattle.provider_account.specs.Inner.HoldSums.{hold_sum_at}
 use Rattle.provider_account.specs.Inner.Holds.{AreNumbered, IsNumbered, KnowsHolds, key_of_hold, key_of_release, open_under, same_hold}
-use Rattle.provider_account.proofs.HeldCells.{same_party_laws}
+use Rattle.provider_account.proofs.HoldSumCells.{same_party_laws}
 use Rattle.provider_account.proofs.OnlyOne.{count-none}
 use Rattle.provider_account.proofs.OpenHolds.{both, ended_by_key, open_holds-push, same_hold_laws}
 use Rattle.provider_account.proofs.References.{folded_reference, folded_same, same_folded_party, same_from_folded, same_number, spelled}
@@ -141,18 +141,18 @@ module _ (entries : List AccountEntry) (hold : Hold) (numbered : AreNumbered ent
   held_after scope false e n known =
       omega (arith, total_held-append (holds_within scope) (open_holds entries) (hold ∷ []), ap (λ b. total_held (cond b (hold ∷ []) [])) e, known)
 
-  pub begun_known : (old new : Holds) → ((release : Release) → open_under old release ≡ released_hold entries release) → ((scope : Scope) → held_at old.held scope ≡ holds_of scope entries)
+  pub begun_known : (old new : Holds) → ((release : Release) → open_under old release ≡ released_hold entries release) → ((scope : Scope) → hold_sum_at old.sums scope ≡ holds_of scope entries)
       → ((release : Release) → open_under new release ≡ cond (same_hold (key_of_hold hold) (key_of_release release)) (Some hold) (open_under old release))
-      → ((scope : Scope) → held_at new.held scope ≡ cond {A = ℕ} (holds_within scope hold) (held_at old.held scope + hold.amount) (held_at old.held scope))
+      → ((scope : Scope) → hold_sum_at new.sums scope ≡ cond {A = ℕ} (holds_within scope hold) (hold_sum_at old.sums scope + hold.amount) (hold_sum_at old.sums scope))
       → KnowsHolds new (entries ++ account.Hold hold ∷ [])
-  begun_known old new knows_found knows_held opened held = record {
+  begun_known old new knows_found knows_held opened sums = record {
     found = λ release.
         opened release
         ∙ ap₂ (λ (b : Bool) (o : Option Hold). cond b (Some hold) o) (same_hold_laws.symm (key_of_hold hold) (key_of_release release)) (knows_found release)
         ∙ found_after release (same_hold (key_of_release release) (key_of_hold hold)) refl
         ∙ sym (released_after release);
-    held = λ scope.
-        held scope ∙ held_after scope (holds_within scope hold) refl (held_at old.held scope) (knows_held scope)
+    sums = λ scope.
+        sums scope ∙ held_after scope (holds_within scope hold) refl (hold_sum_at old.sums scope) (knows_held scope)
         ∙ ap (λ l. total_held (filter (holds_within scope) l)) (sym with_hold);
     numbered = numbered_after;
   }

@@ -17,9 +17,9 @@ use Rattle.plain_house.specs.declared.event.Hold.{Hold}
 use Rattle.plain_house.specs.declared.scope.Scope.{Scope}
 use Rattle.plain_house.specs.Exposure.{ends_hold, names, holds_of, holds_within, open_hold, open_holds, released_hold, total_held}
 use Rattle.plain_house.specs.House.{is_hold_of}
-use Rattle.provider_account.specs.declared.held.HeldKey.{HeldKey}
+use Rattle.provider_account.specs.declared.hold_sums.HoldSumKey.{HoldSumKey}
 use Rattle.provider_account.specs.declared.holds.Holds.{Holds}
-use Rattle.provider_account.specs.Inner.Held.{held_at, key_of_scope, same_held}
+use Rattle.provider_account.specs.Inner.HoldSums.{hold_sum_at, key_of_scope, same_hold_sum_key}
 use Rattle.provider_account.specs.Inner.Sums.{sum_at}
 use Rattle.provider_account.specs.Inner.Holds.{AreCovered, AreNumbered, IsCovered, KnowsHolds, ended_hold, in_currency, key_of_hold, key_of_release, open_ended, open_under, open_used, same_hold, used_under, without}
 use Rattle.provider_account.proofs.OnlyOne.{count-filter, count-none, fewer, filter-none, find-apart, find-narrow, find-none, found_in_sum, found_passes, none_left, sum_without}
@@ -32,12 +32,12 @@ by x hold = ends_hold hold x
 abbrev freed : Release → Hold → Bool
 freed release hold = ends_hold hold (account.Release release)
 
--- what is open is part of what is held
+-- what is open is part of what is sums
 pub covered : (known : Holds) (entries : List AccountEntry) → KnowsHolds known entries → AreCovered known
 covered known entries knows release hold found scope within =
     let there : released_hold entries release ≡ Some hold = sym (knows.found release) ∙ found in
     let part = found_in_sum (freed release) (λ (h : Hold). h.amount) (holds_within scope) (open_holds entries) hold there within in
-    subst (λ (n : ℕ). hold.amount ≤ n) (sym (knows.held scope)) part
+    subst (λ (n : ℕ). hold.amount ≤ n) (sym (knows.sums scope)) part
 
 -- ---- an entry that is no hold
 
@@ -66,7 +66,7 @@ module _ (entries : List AccountEntry) (x : AccountEntry) (none : open_hold x []
       let same : open_holds (entries ++ x ∷ []) ≡ open_holds entries = left_open ∙ filter-none (by x) (open_holds entries) ends_none in
       record {
         found = λ release. knows.found release ∙ ap (find (freed release)) (sym same);
-        held = λ scope. knows.held scope ∙ ap (λ l. total_held (filter (holds_within scope) l)) (sym same);
+        sums = λ scope. knows.sums scope ∙ ap (λ l. total_held (filter (holds_within scope) l)) (sym same);
         numbered = still_numbered knows.numbered;
       }
 
@@ -104,26 +104,26 @@ module _ (entries : List AccountEntry) (x : AccountEntry) (none : open_hold x []
     only_one = omega (arith, fewer (freed own) (by x) (narrow own (same_hold_laws.refl (key_of_hold hold))) (open_holds entries), knows.numbered.one_each own)
 
     held_after : (scope : Scope) (b : Bool) → holds_within scope hold ≡ b
-        → cond {A = ℕ} b (held_at old.held scope - hold.amount) (held_at old.held scope) ≡ total_held (filter (holds_within scope) left)
+        → cond {A = ℕ} b (hold_sum_at old.sums scope - hold.amount) (hold_sum_at old.sums scope) ≡ total_held (filter (holds_within scope) left)
     held_after scope b e =
         let without = sum_without (by x) (λ (h : Hold). h.amount) (holds_within scope) (open_holds entries) hold only_one ended in
         pick b e without
       where
         pick : (b : Bool) → holds_within scope hold ≡ b → total_held (filter (holds_within scope) (open_holds entries)) ≡ total_held (filter (holds_within scope) left) + cond {A = ℕ} (holds_within scope hold) hold.amount 0
-            → cond {A = ℕ} b (held_at old.held scope - hold.amount) (held_at old.held scope) ≡ total_held (filter (holds_within scope) left)
-        pick true e w = omega (arith, w, knows.held scope, ap (λ b. cond {A = ℕ} b hold.amount 0) e)
-        pick false e w = omega (arith, w, knows.held scope, ap (λ b. cond {A = ℕ} b hold.amount 0) e)
+            → cond {A = ℕ} b (hold_sum_at old.sums scope - hold.amount) (hold_sum_at old.sums scope) ≡ total_held (filter (holds_within scope) left)
+        pick true e w = omega (arith, w, knows.sums scope, ap (λ b. cond {A = ℕ} b hold.amount 0) e)
+        pick false e w = omega (arith, w, knows.sums scope, ap (λ b. cond {A = ℕ} b hold.amount 0) e)
 
-    pub held_without : (scope : Scope) → without scope (Some hold) (held_at old.held scope) ≡ holds_of scope (entries ++ x ∷ [])
+    pub held_without : (scope : Scope) → without scope (Some hold) (hold_sum_at old.sums scope) ≡ holds_of scope (entries ++ x ∷ [])
     held_without scope = held_after scope (holds_within scope hold) refl ∙ ap (λ l. total_held (filter (holds_within scope) l)) (sym left_open)
 
     pub ended_known : (new : Holds)
         → ((release : Release) → open_under new release ≡ cond (same_hold (key_of_hold hold) (key_of_release release)) None (open_under old release))
-        → ((scope : Scope) → held_at new.held scope ≡ without scope (Some hold) (held_at old.held scope))
+        → ((scope : Scope) → hold_sum_at new.sums scope ≡ without scope (Some hold) (hold_sum_at old.sums scope))
         → KnowsHolds new (entries ++ x ∷ [])
-    ended_known new opened held = record {
+    ended_known new opened sums = record {
       found = λ release. opened release ∙ ap (cond (same_hold (key_of_hold hold) (key_of_release release)) None) (knows.found release) ∙ found_after release (same_hold (key_of_hold hold) (key_of_release release)) refl ∙ ap (find (freed release)) (sym left_open);
-      held = λ scope. held scope ∙ held_without scope;
+      sums = λ scope. sums scope ∙ held_without scope;
       numbered = still_numbered knows.numbered;
     }
 
@@ -222,31 +222,31 @@ pub covered_hold : (known : Holds) (found : Option Hold) (hold : Hold) → IfSom
 covered_hold known found hold h e = subst (λ (o : Option Hold). IfSome o (IsCovered known)) e h
 
 -- a charge added, for a sum
-pub held_with_known : (known : Holds) (entries : List AccountEntry) → KnowsHolds known entries → (scope : Scope) (charge : Charge)
-    → without scope (open_used known charge) (held_at known.held scope) ≡ holds_of scope (entries ++ account.Charge charge ∷ [])
-held_with_known known entries knows scope charge = pick (open_used known charge) refl
+pub total_with_known : (known : Holds) (entries : List AccountEntry) → KnowsHolds known entries → (scope : Scope) (charge : Charge)
+    → without scope (open_used known charge) (hold_sum_at known.sums scope) ≡ holds_of scope (entries ++ account.Charge charge ∷ [])
+total_with_known known entries knows scope charge = pick (open_used known charge) refl
   where
-    pick : (found : Option Hold) → open_used known charge ≡ found → without scope (open_used known charge) (held_at known.held scope) ≡ holds_of scope (entries ++ account.Charge charge ∷ [])
+    pick : (found : Option Hold) → open_used known charge ≡ found → without scope (open_used known charge) (hold_sum_at known.sums scope) ≡ holds_of scope (entries ++ account.Charge charge ∷ [])
     pick None e =
-        ap (λ (found : Option Hold). without scope found (held_at known.held scope)) e
-        ∙ (unended_known entries (account.Charge charge) refl known knows (sym (used_known known entries knows charge) ∙ e)).held scope
+        ap (λ (found : Option Hold). without scope found (hold_sum_at known.sums scope)) e
+        ∙ (unended_known entries (account.Charge charge) refl known knows (sym (used_known known entries knows charge) ∙ e)).sums scope
     pick (Some hold) e =
-        ap (λ (found : Option Hold). without scope found (held_at known.held scope)) e
+        ap (λ (found : Option Hold). without scope found (hold_sum_at known.sums scope)) e
         ∙ held_without entries (account.Charge charge) refl known knows hold (sym (used_known known entries knows charge) ∙ e) scope
 
 -- ---- nothing, and the same
 
-pub nothing_known : (known : Holds) → known.open.entries ≡ [] → ((key : HeldKey) → sum_at same_held known.held key ≡ 0) → KnowsHolds known []
+pub nothing_known : (known : Holds) → known.open.entries ≡ [] → ((key : HoldSumKey) → sum_at same_hold_sum_key known.sums key ≡ 0) → KnowsHolds known []
 nothing_known known none zero = record {
   found = λ release. ap (lookup (same_hold (key_of_release release))) none;
-  held = λ scope. zero (key_of_scope scope);
+  sums = λ scope. zero (key_of_scope scope);
   numbered = record { one_each = λ release. omega arith; to_come = λ release number more small named. refl };
 }
 
-pub same_known : (old new : Holds) (entries : List AccountEntry) → new.open.entries ≡ old.open.entries → ((key : HeldKey) → sum_at same_held new.held key ≡ sum_at same_held old.held key)
+pub same_known : (old new : Holds) (entries : List AccountEntry) → new.open.entries ≡ old.open.entries → ((key : HoldSumKey) → sum_at same_hold_sum_key new.sums key ≡ sum_at same_hold_sum_key old.sums key)
     → KnowsHolds old entries → KnowsHolds new entries
 same_known old new entries kept sums knows = record {
   found = λ release. ap (lookup (same_hold (key_of_release release))) kept ∙ knows.found release;
-  held = λ scope. sums (key_of_scope scope) ∙ knows.held scope;
+  sums = λ scope. sums (key_of_scope scope) ∙ knows.sums scope;
   numbered = knows.numbered;
 }

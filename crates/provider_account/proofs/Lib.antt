@@ -1,6 +1,6 @@
 pub mod ChargedLemmas
 pub mod DebtsLemmas
-pub mod HeldCells
+pub mod HoldSumCells
 pub mod HoldBegun
 pub mod HoldsKnown
 pub mod OnlyOne

@@ -14,9 +14,9 @@ use Rattle.plain_house.specs.declared.event.Hold.{Hold}
 use Rattle.plain_house.specs.declared.scope.Scope.{Scope}
 use Rattle.plain_house.specs.Exposure.{EntriesAddAtMost, ExposuresInAnySpelling, charges, charges_within, ends_debt, exposure_of, holds_within, is_by, is_owed, of_provider, open_holds, total_charged, total_held}
 use Rattle.plain_house.specs.Settlements.{settled_debt}
-use Rattle.provider_account.proofs.HeldCells.{same_party_laws}
+use Rattle.provider_account.proofs.HoldSumCells.{same_party_laws}
 use Rattle.provider_account.proofs.OpenHolds.{both}
-use Rattle.provider_account.specs.Inner.Parts.{AreLimited}
+use Rattle.provider_account.specs.Inner.AccountIndex.{AreLimited}
 
 -- ---- what passes a test is part of what passes a wider one
 

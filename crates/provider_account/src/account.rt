@@ -8,12 +8,12 @@ ghost use Rattle.plain_house.specs.Settlements.{is_settled};
 ghost use Rattle.plain_house.specs.Tokens.{validity};
 ghost use Rattle.plain_house.specs.declared.entry.AccountEntry.TheVariants as account;
 ghost use Rattle.provider_account.specs.Inner.Holds.{IsNext};
-ghost use Rattle.provider_account.specs.Inner.Parts.{AreLimited};
+ghost use Rattle.provider_account.specs.Inner.AccountIndex.{AreLimited};
 
 mod limits;
 mod next_hold;
 
-use super::parts::Parts;
+use super::account_index::AccountIndex;
 use cdr_checks::{Release, Settlement};
 use ocpi_json::ci_text::CiText;
 use ocpi_types::{Party, Token, TokenKind};
@@ -26,7 +26,7 @@ use std::marker::Model;
 /// Entries in the order in which they were put, found and summed by keys that have the provider in them.
 pub struct Account {
     entries: Vec<AccountEntry>,
-    parts: Parts,
+    index: AccountIndex,
     has_room: bool,
 }
 
@@ -35,7 +35,7 @@ impl Drop for Account {
     fn drop(self) {
         let Account {
             entries: _,
-            parts: _,
+            index: _,
             has_room: _,
         } = self;
     }
@@ -44,14 +44,14 @@ impl Drop for Account {
 impl Model for Account {
     ghost use Rattle.std.specs.Prelude.{◌≡◌, ◌<◌, true, vec_capacity, vec_len};
     ghost use Rattle.provider_account.specs.State.{PlainAccount};
-    ghost use Rattle.provider_account.specs.Inner.Parts.{AreLimited, HasRoom, Knows};
+    ghost use Rattle.provider_account.specs.Inner.AccountIndex.{AreLimited, HasRoom, Knows};
 
     ghost Value = { PlainAccount };
 
     ghost view = { λ account. record { entries = account.entries.items; has_room = account.has_room } };
 
-    ghost invariant = { λ account. Knows account.parts account.entries.items × AreLimited account.entries.items
-        × (account.has_room ≡ true → HasRoom account.parts × (vec_len account.entries < vec_capacity account.entries)) };
+    ghost invariant = { λ account. Knows account.index account.entries.items × AreLimited account.entries.items
+        × (account.has_room ≡ true → HasRoom account.index × (vec_len account.entries < vec_capacity account.entries)) };
 }
 
 impl Account {
@@ -60,7 +60,7 @@ impl Account {
     {
         Account {
             entries: Vec::new(alloc),
-            parts: Parts::new(alloc),
+            index: AccountIndex::new(alloc),
             has_room: false,
         }
     }
@@ -76,21 +76,21 @@ impl Account {
     pub fn validity(&self, provider: &Party, uid: &CiText<36>, kind: TokenKind) -> Option<bool>
         ensures { result ≡ validity provider.now uid.now kind self.now.entries }
     {
-        self.parts.tokens.validity(provider, uid, kind)
+        self.index.tokens.validity(provider, uid, kind)
     }
 
     /// The open hold that the release ends.
     pub fn released_hold(&self, release: &Release) -> Option<Hold>
         ensures { result ≡ released_hold self.now.entries release.now }
     {
-        self.parts.holds.released(release)
+        self.index.holds.released(release)
     }
 
     /// The provider's period is settled in that currency.
     pub fn is_settled(&self, settlement: &Settlement) -> bool
         ensures { result ≡ is_settled settlement.now self.now.entries }
     {
-        self.parts
+        self.index
             .debts
             .is_settled(self.entries.as_slice(), settlement)
     }
@@ -104,7 +104,7 @@ impl Account {
     pub fn make_room(&mut self, entries: usize) -> Result<(), AllocError>
         ensures { self.new ≡ self.old }
     {
-        self.parts.make_room(entries)?;
+        self.index.make_room(entries)?;
         self.entries.reserve(entries)
     }
 
@@ -117,7 +117,7 @@ impl Account {
         ensures ok { OnOk result (self.new ≡ record { entries = self.old.entries; has_room = true }) }
         ensures err { OnErr result (self.new ≡ self.old) }
     {
-        self.parts.reserve()?;
+        self.index.reserve()?;
         self.entries.reserve(1)?;
         self.has_room = true;
         Ok(())
@@ -130,7 +130,7 @@ impl Account {
         requires limited { AreLimited self.old.entries → AreLimited (self.old.entries ++ entry ∷ []) }
         ensures { self.new ≡ record { entries = self.old.entries ++ entry ∷ []; has_room = false } }
     {
-        self.parts.put(self.entries.as_slice(), &entry);
+        self.index.put(self.entries.as_slice(), &entry);
         self.entries.push(entry).unwrap();
         self.has_room = false;
     }

@@ -7,10 +7,10 @@ ghost use Rattle.plain_house.specs.Exposure.{holds_within, open_hold};
 ghost use Rattle.plain_house.specs.declared.entry.AccountEntry.{AccountEntry};
 ghost use Rattle.plain_house.specs.declared.entry.AccountEntry.TheVariants as account;
 ghost use Rattle.plain_house.specs.declared.scope.Scope.{Scope};
-ghost use Rattle.provider_account.specs.Inner.Held.{held_at};
+ghost use Rattle.provider_account.specs.Inner.HoldSums.{hold_sum_at};
 ghost use Rattle.provider_account.specs.Inner.Holds.{AreCovered, HasRoomForHolds, IsCovered, IsNext, IsNumbered, KnowsHolds, key_of_hold, key_of_release, open_ended, open_under, open_used, same_hold, without};
 
-use super::held::{HeldKey, add, held_within, take_off};
+use super::hold_sums::{HoldSumKey, add, sum_within, take_off};
 use super::sums::SumsByKey;
 use cdr_checks::Release;
 use indexmap::IndexMap;
@@ -31,7 +31,7 @@ pub(crate) struct HoldKey {
 #[derive(Drop)]
 pub(crate) struct Holds {
     pub open: IndexMap<HoldKey, Hold>,
-    pub held: SumsByKey<HeldKey>,
+    pub sums: SumsByKey<HoldSumKey>,
 }
 
 fn key_of(hold: &Hold) -> HoldKey
@@ -50,7 +50,7 @@ impl Holds {
     {
         Holds {
             open: IndexMap::new(alloc),
-            held: SumsByKey::new(alloc),
+            sums: SumsByKey::new(alloc),
         }
     }
 
@@ -97,46 +97,46 @@ impl Holds {
         }
     }
 
-    /// What is held within the scope, in ten-thousandths.
-    pub(crate) fn held(&self, scope: &Scope) -> u64
-        ensures { result ≡ held_at self.now.held scope.now }
+    /// The sum of the open holds within the scope, in ten-thousandths.
+    pub(crate) fn total(&self, scope: &Scope) -> u64
+        ensures { result ≡ hold_sum_at self.now.sums scope.now }
     {
-        held_within(&self.held, scope)
+        sum_within(&self.sums, scope)
     }
 
     /// The same, with the charge added.
-    pub(crate) fn held_with(&self, scope: &Scope, charge: &Charge) -> u64
+    pub(crate) fn total_with(&self, scope: &Scope, charge: &Charge) -> u64
         requires { AreCovered self.now }
-        ensures { result ≡ without scope.now (open_used self.now charge.now) (held_at self.now.held scope.now) }
+        ensures { result ≡ without scope.now (open_used self.now charge.now) (hold_sum_at self.now.sums scope.now) }
     {
-        let held = self.held(scope);
+        let total = self.total(scope);
         let Some(hold) = self.used(charge) else {
-            return held;
+            return total;
         };
         if scope.covers(&hold.operator, &hold.provider, &hold.currency) {
-            held - hold.amount.get()
+            total - hold.amount.get()
         } else {
-            held
+            total
         }
     }
 
     fn end(&mut self, hold: &Hold)
         requires { IsCovered self.old hold.now }
         ensures opened { (release : Release) → open_under self.new release ≡ (if same_hold (key_of_hold hold.now) (key_of_release release) then None else open_under self.old release) }
-        ensures held { (scope : Scope) → held_at self.new.held scope ≡ without scope (Some hold.now) (held_at self.old.held scope) }
+        ensures sums { (scope : Scope) → hold_sum_at self.new.sums scope ≡ without scope (Some hold.now) (hold_sum_at self.old.sums scope) }
     {
         self.open.swap_remove(&key_of(hold));
-        take_off(&mut self.held, hold);
+        take_off(&mut self.sums, hold);
     }
 
     fn begin(&mut self, hold: &Hold)
         requires room { HasRoomForHolds self.old }
-        requires fits { (scope : Scope) → held_at self.old.held scope + hold.now.amount < 2 ^ 64 }
+        requires fits { (scope : Scope) → hold_sum_at self.old.sums scope + hold.now.amount < 2 ^ 64 }
         ensures opened { (release : Release) → open_under self.new release ≡ (if same_hold (key_of_hold hold.now) (key_of_release release) then Some hold.now else open_under self.old release) }
-        ensures held { (scope : Scope) → held_at self.new.held scope ≡ (if holds_within scope hold.now then held_at self.old.held scope + hold.now.amount else held_at self.old.held scope) }
+        ensures sums { (scope : Scope) → hold_sum_at self.new.sums scope ≡ (if holds_within scope hold.now then hold_sum_at self.old.sums scope + hold.now.amount else hold_sum_at self.old.sums scope) }
     {
         self.open.insert(key_of(hold), *hold).unwrap();
-        add(&mut self.held, hold);
+        add(&mut self.sums, hold);
     }
 
     /// Room for one more hold.
@@ -146,12 +146,12 @@ impl Holds {
         ensures kept { (entries : List AccountEntry) → KnowsHolds self.old entries → KnowsHolds self.new entries }
     {
         self.open.reserve(1)?;
-        self.held.reserve(2)
+        self.sums.reserve(2)
     }
 
     fn put_hold(&mut self, hold: &Hold)
         requires room { HasRoomForHolds self.old }
-        requires fits { (scope : Scope) → held_at self.old.held scope + hold.now.amount < 2 ^ 64 }
+        requires fits { (scope : Scope) → hold_sum_at self.old.sums scope + hold.now.amount < 2 ^ 64 }
         ensures { (entries : List AccountEntry) → KnowsHolds self.old entries → length entries < 2 ^ 64 - 1 → IsNumbered entries hold.now
             → KnowsHolds self.new (entries ++ account.Hold hold.now ∷ []) }
     {
@@ -172,7 +172,7 @@ impl Holds {
     pub(crate) fn put(&mut self, entry: &AccountEntry)
         requires room { HasRoomForHolds self.old }
         requires covered { AreCovered self.old }
-        requires fits { (scope : Scope) → held_at self.old.held scope ≤ 10 ^ 15 }
+        requires fits { (scope : Scope) → hold_sum_at self.old.sums scope ≤ 10 ^ 15 }
         ensures { (entries : List AccountEntry) → KnowsHolds self.old entries → length entries < 2 ^ 64 - 1 → IsNext entries entry.now
             → KnowsHolds self.new (entries ++ entry.now ∷ []) }
     {

@@ -2,15 +2,15 @@
 #![tactic(auto)]
 
 mod account;
+mod account_index;
 mod charged;
 mod counts;
 mod debt_keys;
 mod debts;
 mod ended;
-mod held;
+mod hold_sums;
 mod holds;
 mod owed;
-mod parts;
 mod sums;
 mod tokens;
 

@@ -1,4 +1,4 @@
-//! CDRs that were booked are rated again, over all processors, and held against what was booked.
+//! CDRs that were booked are rated again, over all processors, and compared with what was booked.
 #![tactic(auto)]
 
 mod rating;

@@ -1,9 +1,10 @@
 -- How a run over lines ends.
-use Rattle.std.specs.Prelude.{◌≡◌, ℕ, ◌+◌, ◌^◌, ◌<◌, ◌⊎◌, Bool, true, false, List, [], ◌∷◌, ◌++◌, length, take, All}
+use Rattle.std.specs.Prelude.{◌≡◌, ℕ, ◌+◌, ◌^◌, ◌<◌, ◌≤◌, ◌⊎◌, Bool, true, false, List, [], ◌∷◌, ◌++◌, length, take, All, Result, MatchResult}
 use Rattle.request_lines.specs.declared.faults.ScriptFault.{ScriptFault}
 use Rattle.request_lines.specs.declared.faults.ScriptFault.TheVariants.{Read, Write, NoMemory, LineTooLong}
 use Rattle.request_lines.specs.declared.faults.Count.{Count}
 use Rattle.request_lines.specs.Lines.{lines_of, whole_lines, IsShort}
+use Rattle.request_lines.specs.Streams.{Reading, Writing}
 
 -- The rule by which lines are answered. `answers start lines text now`: these lines got this text on the way from
 -- `start` to `now`. `gives_up start line now`: memory ran out at this line.
@@ -101,6 +102,17 @@ IsFault rule input run Read = StopsAtRead rule input run
 IsFault rule input run (Write count) = (count ≡ length run.written) × StopsAtWrite rule (lines_read input) run
 IsFault rule input run NoMemory = StopsForMemory rule (lines_read input) run
 IsFault rule input run (LineTooLong number) = StopsAtLongLine rule (lines_of input.bytes) number run
+
+-- `bytes` came from `calls` reads, and `written` answers all their lines, or those before the error
+abbrev pub HasRun : {A R W : Type 0} → Rule A → Reading R → Writing W → A → A → R → R → W → W → Result Count ScriptFault → Type 0
+HasRun rule reading writing start now reader reader' writer writer' result =
+    (calls : ℕ) × (bytes : List ℕ) × (written : List ℕ) × (calls ≤ 2 ^ 40)
+    × reading.gives reader calls bytes reader' × writing.takes writer written writer'
+    × MatchResult result
+    (λ count. AreAllAnswered rule bytes (record { start = start; written = written; now = now }) count)
+    (λ fault. IsFault rule
+    (record { calls = calls; bytes = bytes; has_failed = reading.failed reader'; at_end = reading.at_end reader' })
+    (record { start = start; written = written; now = now }) fault)
 
 abbrev pub is_read_fault : ScriptFault → Bool
 is_read_fault Read = true

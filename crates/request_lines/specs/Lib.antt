@@ -7,4 +7,5 @@ pub mod Lines
 pub mod Members
 pub mod RequestText
 pub mod Script
+pub mod Streams
 pub mod TableText

@@ -1,6 +1,6 @@
 ghost use Rattle.std.specs.Prelude.{◌≡◌, ℕ, ◌+◌, ◌^◌, ◌<◌, ◌≤◌, List, [], ◌∷◌, ◌++◌, length, take, true, false, IfOk, OnOk, OnErr, IfErr, MatchResult, All};
 ghost use Rattle.request_lines.specs.Lines.{IsShort, HasNoNewline, last_line, with_newline};
-ghost use Rattle.request_lines.specs.Answering.{Rule, AreAllAnswered, IsFault, is_read_fault, is_write_fault};
+ghost use Rattle.request_lines.specs.Answering.{Rule, HasRun, is_read_fault, is_write_fault};
 ghost use Rattle.request_lines.specs.Inner.Progress.{HasAnswered, HasStopped, CannotKeep, state, read_line, read_last, read_from, whole_from, rest_from};
 
 use super::faults::{Count, Failed, ScriptFault};
@@ -37,10 +37,10 @@ fn finish_line<W: Sink, A: Answerer>(
 ) -> Result<(), ScriptFault>
     requires few { progress.old.lines < 2 ^ 61 }
     requires short { IsShort line.now }
-    ensures ok { OnOk result (HasAnswered A.rule W.takes W.failed (line.now ∷ [])
+    ensures ok { OnOk result (HasAnswered A.rule W.writing (line.now ∷ [])
         (state answerer.old writer.old progress.old) (state answerer.new writer.new progress.new)) }
     ensures err { IfErr result (λ fault. (others : List (List ℕ)) →
-        HasStopped A.rule W.takes W.failed (read_line line.now others)
+        HasStopped A.rule W.writing (read_line line.now others)
         (state answerer.old writer.old progress.old) (state answerer.new writer.new progress.new) fault) }
 {
     let text = match answerer.answer(alloc, line) {
@@ -69,9 +69,9 @@ fn finish_last<W: Sink, A: Answerer>(
 ) -> Result<(), ScriptFault>
     requires few { progress.old.lines < 2 ^ 61 }
     requires short { IsShort part.now }
-    ensures ok { OnOk result (HasAnswered A.rule W.takes W.failed (last_line part.now)
+    ensures ok { OnOk result (HasAnswered A.rule W.writing (last_line part.now)
         (state answerer.old writer.old progress.old) (state answerer.new writer.new progress.new)) }
-    ensures err { IfErr result (λ fault. HasStopped A.rule W.takes W.failed (read_last part.now)
+    ensures err { IfErr result (λ fault. HasStopped A.rule W.writing (read_last part.now)
         (state answerer.old writer.old progress.old) (state answerer.new writer.new progress.new) fault) }
 {
     if part.is_empty() {
@@ -112,12 +112,12 @@ fn end_line<W: Sink, A: Answerer>(
     requires short { IsShort part.old.items }
     requires end_short { IsShort end.now }
     requires end { HasNoNewline end.now }
-    ensures ok { OnOk result (HasAnswered A.rule W.takes W.failed ((part.old.items ++ end.now) ∷ [])
+    ensures ok { OnOk result (HasAnswered A.rule W.writing ((part.old.items ++ end.now) ∷ [])
         (state answerer.old writer.old progress.old) (state answerer.new writer.new progress.new)) }
     ensures part { OnOk result (part.new.items ≡ []) }
     ensures line_short { OnOk result (IsShort (part.old.items ++ end.now)) }
     ensures err { IfErr result (λ fault. (others : List ℕ) →
-        HasStopped A.rule W.takes W.failed (read_from part.old.items (with_newline end.now ++ others))
+        HasStopped A.rule W.writing (read_from part.old.items (with_newline end.now ++ others))
         (state answerer.old writer.old progress.old) (state answerer.new writer.new progress.new) fault) }
 {
     if part.is_empty() {
@@ -141,13 +141,13 @@ fn feed<W: Sink, A: Answerer>(
     requires few { progress.old.lines + length bytes.now < 2 ^ 61 }
     requires block { length bytes.now ≤ 65536 }
     requires short { IsShort part.old.items }
-    ensures ok { OnOk result (HasAnswered A.rule W.takes W.failed (whole_from part.old.items bytes.now)
+    ensures ok { OnOk result (HasAnswered A.rule W.writing (whole_from part.old.items bytes.now)
         (state answerer.old writer.old progress.old) (state answerer.new writer.new progress.new)) }
     ensures part { OnOk result (part.new.items ≡ rest_from part.old.items bytes.now) }
     ensures short { OnOk result (IsShort part.new.items) }
     ensures each_short { OnOk result (All IsShort (whole_from part.old.items bytes.now)) }
     ensures few { OnOk result (progress.new.lines ≤ progress.old.lines + length bytes.now) }
-    ensures err { IfErr result (λ fault. HasStopped A.rule W.takes W.failed (read_from part.old.items bytes.now)
+    ensures err { IfErr result (λ fault. HasStopped A.rule W.writing (read_from part.old.items bytes.now)
         (state answerer.old writer.old progress.old) (state answerer.new writer.new progress.new) fault) }
 {
     let mut rest = bytes;
@@ -169,11 +169,11 @@ fn read_into<R: Source>(reader: &mut R, buffer: &mut Vec<u8>) -> Result<usize, F
     requires { length buffer.old.items ≡ 65536 }
     ensures same { length buffer.new.items ≡ 65536 }
     ensures bound { IfOk result (λ n. n ≤ 65536) }
-    ensures gives { IfOk result (λ n. R.gives reader.old 1 (take n buffer.new.items) reader.new) }
-    ensures end { IfOk result (λ n. n ≡ 0 → R.at_end reader.new) }
-    ensures ok { OnOk result (R.failed reader.new ≡ R.failed reader.old) }
-    ensures err { OnErr result (R.failed reader.new ≡ true) }
-    ensures err_gives { OnErr result (R.gives reader.old 1 [] reader.new) }
+    ensures gives { IfOk result (λ n. R.reading.gives reader.old 1 (take n buffer.new.items) reader.new) }
+    ensures end { IfOk result (λ n. n ≡ 0 → R.reading.at_end reader.new) }
+    ensures ok { OnOk result (R.reading.failed reader.new ≡ R.reading.failed reader.old) }
+    ensures err { OnErr result (R.reading.failed reader.new ≡ true) }
+    ensures err_gives { OnErr result (R.reading.gives reader.old 1 [] reader.new) }
 {
     reader.read(buffer.as_mut_slice())
 }
@@ -195,19 +195,13 @@ fn run_by_parts<R: Source, W: Sink, A: Answerer>(
     buffer: &mut Vec<u8>,
 ) -> Result<Count, ScriptFault>
     requires { length buffer.old.items ≡ 65536 }
-    ensures told { (calls : ℕ) × (bytes : List ℕ) × (written : List ℕ) × (calls ≤ 2 ^ 40)
-        × R.gives reader.old calls bytes reader.new × W.takes writer.old written writer.new
-        × MatchResult result
-        (λ count. AreAllAnswered A.rule bytes (record { start = answerer.old; written = written; now = answerer.new }) count)
-        (λ fault. IsFault A.rule
-        (record { calls = calls; bytes = bytes; has_failed = R.failed reader.new; at_end = R.at_end reader.new })
-        (record { start = answerer.old; written = written; now = answerer.new }) fault) }
-    ensures end { OnOk result (R.at_end reader.new) }
-    ensures reader { MatchResult result (λ _. R.failed reader.new ≡ R.failed reader.old)
-        (λ fault. is_read_fault fault ≡ false → R.failed reader.new ≡ R.failed reader.old) }
-    ensures unfailed { OnOk result (W.failed writer.new ≡ W.failed writer.old) }
-    ensures failed { IfErr result (λ fault. is_write_fault fault ≡ true → W.failed writer.new ≡ true) }
-    ensures kept { IfErr result (λ fault. is_write_fault fault ≡ false → W.failed writer.new ≡ W.failed writer.old) }
+    ensures told { HasRun A.rule R.reading W.writing answerer.old answerer.new reader.old reader.new writer.old writer.new result }
+    ensures end { OnOk result (R.reading.at_end reader.new) }
+    ensures reader { MatchResult result (λ _. R.reading.failed reader.new ≡ R.reading.failed reader.old)
+        (λ fault. is_read_fault fault ≡ false → R.reading.failed reader.new ≡ R.reading.failed reader.old) }
+    ensures unfailed { OnOk result (W.writing.failed writer.new ≡ W.writing.failed writer.old) }
+    ensures failed { IfErr result (λ fault. is_write_fault fault ≡ true → W.writing.failed writer.new ≡ true) }
+    ensures kept { IfErr result (λ fault. is_write_fault fault ≡ false → W.writing.failed writer.new ≡ W.writing.failed writer.old) }
 {
     let mut part = Vec::new(alloc);
     let mut progress = Progress {
@@ -241,22 +235,16 @@ pub fn run_lines<R: Source, W: Sink, A: Answerer>(
     writer: &mut W,
     answerer: &mut A,
 ) -> Result<Count, ScriptFault>
-    // So many calls gave these bytes, and what was written answers all their lines, or those that the fault says.
-    ensures told { (calls : ℕ) × (bytes : List ℕ) × (written : List ℕ) × (calls ≤ 2 ^ 40)
-        × R.gives reader.old calls bytes reader.new × W.takes writer.old written writer.new
-        × MatchResult result
-        (λ count. AreAllAnswered A.rule bytes (record { start = answerer.old; written = written; now = answerer.new }) count)
-        (λ fault. IsFault A.rule
-        (record { calls = calls; bytes = bytes; has_failed = R.failed reader.new; at_end = R.at_end reader.new })
-        (record { start = answerer.old; written = written; now = answerer.new }) fault) }
-    ensures end { OnOk result (R.at_end reader.new) }
+    // The writer took the answers to all lines that the reader returned, or to those before the error.
+    ensures told { HasRun A.rule R.reading W.writing answerer.old answerer.new reader.old reader.new writer.old writer.new result }
+    ensures end { OnOk result (R.reading.at_end reader.new) }
 
     // The reader fails only at a read fault, and the writer just at a write fault.
-    ensures reader { MatchResult result (λ _. R.failed reader.new ≡ R.failed reader.old)
-        (λ fault. is_read_fault fault ≡ false → R.failed reader.new ≡ R.failed reader.old) }
-    ensures unfailed { OnOk result (W.failed writer.new ≡ W.failed writer.old) }
-    ensures failed { IfErr result (λ fault. is_write_fault fault ≡ true → W.failed writer.new ≡ true) }
-    ensures kept { IfErr result (λ fault. is_write_fault fault ≡ false → W.failed writer.new ≡ W.failed writer.old) }
+    ensures reader { MatchResult result (λ _. R.reading.failed reader.new ≡ R.reading.failed reader.old)
+        (λ fault. is_read_fault fault ≡ false → R.reading.failed reader.new ≡ R.reading.failed reader.old) }
+    ensures unfailed { OnOk result (W.writing.failed writer.new ≡ W.writing.failed writer.old) }
+    ensures failed { IfErr result (λ fault. is_write_fault fault ≡ true → W.writing.failed writer.new ≡ true) }
+    ensures kept { IfErr result (λ fault. is_write_fault fault ≡ false → W.writing.failed writer.new ≡ W.writing.failed writer.old) }
 {
     match zeros(alloc, MOST_READ_BYTES) {
         Ok(mut buffer) => run_by_parts(alloc, reader, writer, answerer, &mut buffer),

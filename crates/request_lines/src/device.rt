@@ -44,11 +44,11 @@ impl<T> Device<T> {
 }
 
 impl<T: Read> Source for Device<T> {
-    ghost gives = { λ a calls bytes b. (a.reads + calls < 2 ^ 64 → b.reads ≡ a.reads + calls) × Consumes (T.remaining a.inner) (T.remaining b.inner) bytes };
-
-    ghost at_end = { λ a. IsAtEnd (T.remaining a.inner) };
-
-    ghost failed = { λ a. a.has_failed };
+    ghost reading = { record {
+      gives = λ a calls bytes b. (a.reads + calls < 2 ^ 64 → b.reads ≡ a.reads + calls) × Consumes (T.remaining a.inner) (T.remaining b.inner) bytes;
+      at_end = λ a. IsAtEnd (T.remaining a.inner);
+      failed = λ a. a.has_failed;
+    } };
 
     ghost gives_none = { λ a. gives_none (T.remaining a.inner) a.reads };
 
@@ -67,9 +67,10 @@ impl<T: Read> Source for Device<T> {
 }
 
 impl<T: Write> Sink for Device<T> {
-    ghost takes = { λ a bytes b. Appends (T.contents a.inner) (T.contents b.inner) bytes };
-
-    ghost failed = { λ a. a.has_failed };
+    ghost writing = { record {
+      takes = λ a bytes b. Appends (T.contents a.inner) (T.contents b.inner) bytes;
+      failed = λ a. a.has_failed;
+    } };
 
     ghost takes_none = { λ a. appends_none (T.contents a.inner) };
 

@@ -10,7 +10,7 @@ pub const NEWLINE: u8 = b'\n';
 pub const MOST_LINE_BYTES: usize = 1_048_576;
 
 /// The first line that a newline ends, without it, and what stands behind.
-pub(crate) fn split_line(bytes: &[u8]) -> Option<(&[u8], &[u8])>
+pub fn split_line(bytes: &[u8]) -> Option<(&[u8], &[u8])>
     ensures { MatchOption result (HasNoNewline bytes.now) (λ split. (bytes.now ≡ with_newline split.0.now ++ split.1.now)
         × HasNoNewline split.0.now) }
 {

@@ -1,28 +1,17 @@
 //! One line, from its bytes to its answer.
 
-ghost use Rattle.std.specs.Prelude.{◌≡◌, ◌⊎◌, IfOk, IfErr, MatchResult, OnOk, OnErr, Ok, Err, true, false};
-ghost use Rattle.cdr_checks.specs.Admission.{IsAdmitted, admission};
+ghost use Rattle.std.specs.Prelude.{◌≡◌, ◌⊎◌, IfOk, IfErr, OnOk, OnErr, Ok, Err, true, false};
+ghost use Rattle.cdr_checks.specs.Admission.{IsAdmitted};
 ghost use Rattle.plain_house.specs.Replies.{is_no_memory, is_refusal_no_memory};
 ghost use Rattle.request_lines.specs.Script.{command_in, reply_in, answer_of, after};
 
 use super::answers::answer_line;
 use super::requests::request_of;
-use cdr_checks::{Command, Request, admit};
+use cdr_checks::{Command, admit};
 use ocpi_json::Room;
 use ocpi_types::{Config, Refusal};
 use plain_house::{Refused, Replied, Sequential, is_out_of_memory};
 use std::alloc::{AllocError, Global};
-
-fn admitted(config: &Config, request: Request) -> Result<Command, Refusal>
-    ensures command { MatchResult result (λ command. admission config.now request ≡ Ok command)
-        (λ refusal. admission config.now request ≡ Err refusal) }
-    ensures admitted { IfOk result (λ command. IsAdmitted config.now command) }
-{
-    match admit(config, request) {
-        Ok(command) => Ok(command),
-        Err((_request, refusal)) => Err(refusal),
-    }
-}
 
 /// The command of a line, or why it is refused before a house is asked. The refusal is `NoMemory` where a growth was refused.
 #[tactic(auto, unfolding(crate::specs::Script::command_in))]
@@ -36,7 +25,7 @@ pub fn command_of(
     ensures admitted { IfOk result (λ command. IsAdmitted config.now command) }
     ensures refusal { IfErr result (λ refusal. is_refusal_no_memory refusal ≡ false → command_in config.now line.now ≡ Err refusal) }
 {
-    admitted(config, request_of(alloc, room, line)?)
+    admit(config, request_of(alloc, room, line)?)
 }
 
 /// The reply to one line: of the house to its command, or why it has none.

@@ -1,5 +1,5 @@
-ghost use Rattle.std.specs.Prelude.{◌≡◌, ◌≤◌, ◌^◌, ℕ, List, true, false, OnOk, IfErr, MatchResult};
-ghost use Rattle.request_lines.specs.Answering.{AreAllAnswered, IsFault, is_read_fault, is_write_fault};
+ghost use Rattle.std.specs.Prelude.{◌≡◌, true, false, OnOk, IfErr, MatchResult};
+ghost use Rattle.request_lines.specs.Answering.{HasRun, is_read_fault, is_write_fault};
 ghost use Rattle.request_lines.specs.Script.{script_rule};
 
 use super::answering::{Answerer, run_lines};
@@ -13,11 +13,11 @@ use std::alloc::{AllocError, Global};
 
 /// A house that answers lines, the way in which it does, and the room in which each is read.
 #[derive(Drop)]
-struct Scripted<'c, 'h, 'r, 'w, S: Sequential, A: Respond> {
-    config: &'c Config,
-    house: &'h mut S,
-    room: &'r mut Room,
-    way: &'w A,
+pub struct Scripted<'c, 'h, 'r, 'w, S: Sequential, A: Respond> {
+    pub config: &'c Config,
+    pub house: &'h mut S,
+    pub room: &'r mut Room,
+    pub way: &'w A,
     ghost same: { S.config house.now ≡ config.now },
 }
 
@@ -55,21 +55,14 @@ pub fn run_script_by<R: Source, W: Sink, S: Sequential, A: Respond>(
 ) -> Result<Count, ScriptFault>
     requires { S.config house.old ≡ config.now }
     ensures config { S.config house.new ≡ S.config house.old }
-    // So many calls gave these bytes, and what was written answers all their lines, or those that the fault says.
-    ensures told { (calls : ℕ) × (bytes : List ℕ) × (written : List ℕ) × (calls ≤ 2 ^ 40)
-        × R.gives reader.old calls bytes reader.new × W.takes writer.old written writer.new
-        × MatchResult result
-        (λ count. AreAllAnswered (script_rule config.now) bytes
-        (record { start = S.events house.old; written = written; now = S.events house.new }) count)
-        (λ fault. IsFault (script_rule config.now)
-        (record { calls = calls; bytes = bytes; has_failed = R.failed reader.new; at_end = R.at_end reader.new })
-        (record { start = S.events house.old; written = written; now = S.events house.new }) fault) }
-    ensures end { OnOk result (R.at_end reader.new) }
-    ensures reader { MatchResult result (λ _. R.failed reader.new ≡ R.failed reader.old)
-        (λ fault. is_read_fault fault ≡ false → R.failed reader.new ≡ R.failed reader.old) }
-    ensures unfailed { OnOk result (W.failed writer.new ≡ W.failed writer.old) }
-    ensures failed { IfErr result (λ fault. is_write_fault fault ≡ true → W.failed writer.new ≡ true) }
-    ensures kept { IfErr result (λ fault. is_write_fault fault ≡ false → W.failed writer.new ≡ W.failed writer.old) }
+    // The writer took the answers to all lines that the reader returned, or to those before the error.
+    ensures told { HasRun (script_rule config.now) R.reading W.writing (S.events house.old) (S.events house.new) reader.old reader.new writer.old writer.new result }
+    ensures end { OnOk result (R.reading.at_end reader.new) }
+    ensures reader { MatchResult result (λ _. R.reading.failed reader.new ≡ R.reading.failed reader.old)
+        (λ fault. is_read_fault fault ≡ false → R.reading.failed reader.new ≡ R.reading.failed reader.old) }
+    ensures unfailed { OnOk result (W.writing.failed writer.new ≡ W.writing.failed writer.old) }
+    ensures failed { IfErr result (λ fault. is_write_fault fault ≡ true → W.writing.failed writer.new ≡ true) }
+    ensures kept { IfErr result (λ fault. is_write_fault fault ≡ false → W.writing.failed writer.new ≡ W.writing.failed writer.old) }
 {
     let mut room = Room::new(alloc);
     let mut scripted = Scripted {
@@ -91,21 +84,14 @@ pub fn run_script<R: Source, W: Sink, S: Sequential>(
 ) -> Result<Count, ScriptFault>
     requires { S.config house.old ≡ config.now }
     ensures config { S.config house.new ≡ S.config house.old }
-    // So many calls gave these bytes, and what was written answers all their lines, or those that the fault says.
-    ensures told { (calls : ℕ) × (bytes : List ℕ) × (written : List ℕ) × (calls ≤ 2 ^ 40)
-        × R.gives reader.old calls bytes reader.new × W.takes writer.old written writer.new
-        × MatchResult result
-        (λ count. AreAllAnswered (script_rule config.now) bytes
-        (record { start = S.events house.old; written = written; now = S.events house.new }) count)
-        (λ fault. IsFault (script_rule config.now)
-        (record { calls = calls; bytes = bytes; has_failed = R.failed reader.new; at_end = R.at_end reader.new })
-        (record { start = S.events house.old; written = written; now = S.events house.new }) fault) }
-    ensures end { OnOk result (R.at_end reader.new) }
-    ensures reader { MatchResult result (λ _. R.failed reader.new ≡ R.failed reader.old)
-        (λ fault. is_read_fault fault ≡ false → R.failed reader.new ≡ R.failed reader.old) }
-    ensures unfailed { OnOk result (W.failed writer.new ≡ W.failed writer.old) }
-    ensures failed { IfErr result (λ fault. is_write_fault fault ≡ true → W.failed writer.new ≡ true) }
-    ensures kept { IfErr result (λ fault. is_write_fault fault ≡ false → W.failed writer.new ≡ W.failed writer.old) }
+    // The writer took the answers to all lines that the reader returned, or to those before the error.
+    ensures told { HasRun (script_rule config.now) R.reading W.writing (S.events house.old) (S.events house.new) reader.old reader.new writer.old writer.new result }
+    ensures end { OnOk result (R.reading.at_end reader.new) }
+    ensures reader { MatchResult result (λ _. R.reading.failed reader.new ≡ R.reading.failed reader.old)
+        (λ fault. is_read_fault fault ≡ false → R.reading.failed reader.new ≡ R.reading.failed reader.old) }
+    ensures unfailed { OnOk result (W.writing.failed writer.new ≡ W.writing.failed writer.old) }
+    ensures failed { IfErr result (λ fault. is_write_fault fault ≡ true → W.writing.failed writer.new ≡ true) }
+    ensures kept { IfErr result (λ fault. is_write_fault fault ≡ false → W.writing.failed writer.new ≡ W.writing.failed writer.old) }
 {
     run_script_by(alloc, reader, writer, config, house, &Once)
 }

@@ -14,9 +14,9 @@ use Rattle.plain_house.specs.LegalEntries.{LegalBooksCanBeNetted}
 use Rattle.plain_house.specs.LegalLists.{CanBeNetted}
 use Rattle.plain_house.specs.Replies.{Reply, stamped}
 use Rattle.period_order.specs.Kept.{IsConfiguration}
-use Rattle.shared_house.specs.Calls.{IsTold, event_count, is_collecting, made_event}
+use Rattle.shared_house.specs.Calls.{IsTold, call_adds_event, event_count, is_collecting}
 use Rattle.shared_house.specs.Points.{AreAdmitted}
-use Rattle.shared_house.specs.declared.made.Made.{Made}
+use Rattle.shared_house.specs.declared.call.Call.{Call}
 use Rattle.shared_house.specs.Inner.PassKeeps.{PassKeeps}
 use Rattle.shared_house.specs.Laws.{RepliesOfCallsFit}
 
@@ -43,15 +43,15 @@ calls_fit netted short config command least (Ok replied) most is_config room ret
 
 -- ---- a pass
 
-pub pass_kept : (config : Config) (old mid new : List Made) (made : Made) (reply : Reply) (parts parts' share share' : ℕ) → PassKeeps config old parts share → IsAdmitted config made.command
-    → made.reply ≡ reply → parts' ≡ 1 → share' ≡ share + event_count reply → mid ≡ old → new ≡ mid ++ made ∷ [] → PassKeeps config new parts' share'
-pass_kept config old mid new made reply parts parts' share share' is admitted same one more m n =
-    let grown : new ≡ old ++ made ∷ [] = n ∙ ap (λ l. l ++ made ∷ []) m in
-    let counted = picked (adds_event made.reply) ∙ ap event_count same in
+pub pass_kept : (config : Config) (old mid new : List Call) (call : Call) (reply : Reply) (parts parts' share share' : ℕ) → PassKeeps config old parts share → IsAdmitted config call.command
+    → call.reply ≡ reply → parts' ≡ 1 → share' ≡ share + event_count reply → mid ≡ old → new ≡ mid ++ call ∷ [] → PassKeeps config new parts' share'
+pass_kept config old mid new call reply parts parts' share share' is admitted same one more m n =
+    let grown : new ≡ old ++ call ∷ [] = n ∙ ap (λ l. l ++ call ∷ []) m in
+    let counted = picked (adds_event call.reply) ∙ ap event_count same in
     record {
       part = one;
-      counted = omega (arith, is.counted, more, counted, ap (count_by made_event) grown ∙ sum_by_push (λ (x : Made). cond {A = ℕ} (made_event x) 1 0) old made);
-      admitted = subst (AreAdmitted config) (sym grown) (All-push (λ (x : Made). IsAdmitted config x.command) old made is.admitted admitted);
+      counted = omega (arith, is.counted, more, counted, ap (count_by call_adds_event) grown ∙ sum_by_push (λ (x : Call). cond {A = ℕ} (call_adds_event x) 1 0) old call);
+      admitted = subst (AreAdmitted config) (sym grown) (All-push (λ (x : Call). IsAdmitted config x.command) old call is.admitted admitted);
     }
   where
     picked : (b : Bool) → cond {A = ℕ} b 1 0 ≡ (if b then 1 else 0)

@@ -12,7 +12,7 @@ use Rattle.plain_house.specs.Known.{known}
 use Rattle.plain_house.specs.Replies.{is_no_memory}
 use Rattle.period_order.specs.declared.order_entry.OrderEntry.{OrderEntry}
 use Rattle.period_order.specs.Resolves.{FailsAt, Resolves, ResolvingIsUnique, ResolvingIsWhole}
-use Rattle.shared_house.specs.declared.made.Made.{Made}
+use Rattle.shared_house.specs.declared.call.Call.{Call}
 use Rattle.shared_house.specs.Points.{front_behind, point_of_reply, seen_behind}
 use Rattle.shared_house.specs.Certified.{CertifiedIsUnique, CertifiedIsWhole, IsTorn, IsTornFirst}
 use Rattle.shared_house.specs.History.{Breaks, BreaksFirst, IsOneHistory, PassesSeeTheirEvents, Stands}
@@ -30,52 +30,52 @@ slice_get_take : {X : Type 0} (n : ℕ) (xs : List X) → slice_get (take (n + 1
 slice_get_take n xs = let e : n + 1 ≡ suc n = omega arith in rw e (at_end n xs)
 
 -- what stands by the events up to its own stands by all, and the other way round
-module _ (config : Config) (events : List Event) (made : Made) (number : ℕ) (at : point_of_reply made.reply ≡ number) where
+module _ (config : Config) (events : List Event) (call : Call) (number : ℕ) (at : point_of_reply call.reply ≡ number) where
   abbrev StandsBy : List Event → Option Event → Type 0
   StandsBy before next =
-      (made.reply ≡ reply_of config before made.command)
-      × IfSome (verdict config (known before) made.command).event (λ added. next ≡ Some added)
+      (call.reply ≡ reply_of config before call.command)
+      × IfSome (verdict config (known before) call.command).event (λ added. next ≡ Some added)
 
-  same_before : take (point_of_reply made.reply) (take (number + 1) events) ≡ take (point_of_reply made.reply) events
-  same_before = take-take (point_of_reply made.reply) (number + 1) events (omega (arith, at))
+  same_before : take (point_of_reply call.reply) (take (number + 1) events) ≡ take (point_of_reply call.reply) events
+  same_before = take-take (point_of_reply call.reply) (number + 1) events (omega (arith, at))
 
-  same_next : slice_get (take (number + 1) events) (point_of_reply made.reply) ≡ slice_get events (point_of_reply made.reply)
+  same_next : slice_get (take (number + 1) events) (point_of_reply call.reply) ≡ slice_get events (point_of_reply call.reply)
   same_next =
       ap (slice_get (take (number + 1) events)) at ∙ slice_get_take number events ∙ ap (slice_get events) (sym at)
 
-  stands_in_all : Stands config (take (number + 1) events) made → Stands config events made
+  stands_in_all : Stands config (take (number + 1) events) call → Stands config events call
   stands_in_all stands =
-      let both = subst (λ (l : List Event). StandsBy l (slice_get events (point_of_reply made.reply))) same_before
-      (subst (λ (next : Option Event). StandsBy (take (point_of_reply made.reply) (take (number + 1) events)) next) same_next (stands.reply_is, stands.event_is)) in
+      let both = subst (λ (l : List Event). StandsBy l (slice_get events (point_of_reply call.reply))) same_before
+      (subst (λ (next : Option Event). StandsBy (take (point_of_reply call.reply) (take (number + 1) events)) next) same_next (stands.reply_is, stands.event_is)) in
       record {
         within = omega (arith, stands.within, length-take (number + 1) events);
         reply_is = both.0;
         event_is = both.1;
       }
 
-  stands_in_first : Stands config events made → Stands config (take (number + 1) events) made
+  stands_in_first : Stands config events call → Stands config (take (number + 1) events) call
   stands_in_first stands =
-      let both = subst (λ (l : List Event). StandsBy l (slice_get (take (number + 1) events) (point_of_reply made.reply))) (sym same_before)
-      (subst (λ (next : Option Event). StandsBy (take (point_of_reply made.reply) events) next) (sym same_next) (stands.reply_is, stands.event_is)) in
+      let both = subst (λ (l : List Event). StandsBy l (slice_get (take (number + 1) events) (point_of_reply call.reply))) (sym same_before)
+      (subst (λ (next : Option Event). StandsBy (take (point_of_reply call.reply) events) next) (sym same_next) (stands.reply_is, stands.event_is)) in
       record {
         within = omega (arith, at, stands.within, length-take (number + 1) events);
         reply_is = both.0;
         event_is = both.1;
       }
 
-module _ (config : Config) (events : List Event) (passes : List (List Made)) (number : ℕ) where
+module _ (config : Config) (events : List Event) (passes : List (List Call)) (number : ℕ) where
   breaks_in_all : Breaks config (take (number + 1) events) passes number → Breaks config events passes number
-  breaks_in_all (inl call) = inl (record {
-    earlier = call.earlier;
-    made = call.made;
-    is_call = call.is_call;
-    point_is = call.point_is;
-    breaks = by call.breaks;
+  breaks_in_all (inl broken) = inl (record {
+    earlier = broken.earlier;
+    call = broken.call;
+    is_call = broken.is_call;
+    point_is = broken.point_is;
+    breaks = by broken.breaks;
   })
     where
-      by : (Stands config (take (number + 1) events) call.made → ⊥) ⊎ (point_of_reply call.made.reply < front_behind call.earlier)
-          → (Stands config events call.made → ⊥) ⊎ (point_of_reply call.made.reply < front_behind call.earlier)
-      by (inl not) = inl (λ stands. not (stands_in_first config events call.made number call.point_is stands))
+      by : (Stands config (take (number + 1) events) broken.call → ⊥) ⊎ (point_of_reply broken.call.reply < front_behind broken.earlier)
+          → (Stands config events broken.call → ⊥) ⊎ (point_of_reply broken.call.reply < front_behind broken.earlier)
+      by (inl not) = inl (λ stands. not (stands_in_first config events broken.call number broken.point_is stands))
       by (inr early) = inr early
   breaks_in_all (inr event) = inr (record {
     is_there = omega (arith, event.is_there, length-take (number + 1) events);
@@ -83,17 +83,17 @@ module _ (config : Config) (events : List Event) (passes : List (List Made)) (nu
   })
 
   breaks_in_first : Breaks config events passes number → Breaks config (take (number + 1) events) passes number
-  breaks_in_first (inl call) = inl (record {
-    earlier = call.earlier;
-    made = call.made;
-    is_call = call.is_call;
-    point_is = call.point_is;
-    breaks = by call.breaks;
+  breaks_in_first (inl broken) = inl (record {
+    earlier = broken.earlier;
+    call = broken.call;
+    is_call = broken.is_call;
+    point_is = broken.point_is;
+    breaks = by broken.breaks;
   })
     where
-      by : (Stands config events call.made → ⊥) ⊎ (point_of_reply call.made.reply < front_behind call.earlier)
-          → (Stands config (take (number + 1) events) call.made → ⊥) ⊎ (point_of_reply call.made.reply < front_behind call.earlier)
-      by (inl not) = inl (λ stands. not (stands_in_all config events call.made number call.point_is stands))
+      by : (Stands config events broken.call → ⊥) ⊎ (point_of_reply broken.call.reply < front_behind broken.earlier)
+          → (Stands config (take (number + 1) events) broken.call → ⊥) ⊎ (point_of_reply broken.call.reply < front_behind broken.earlier)
+      by (inl not) = inl (λ stands. not (stands_in_all config events broken.call number broken.point_is stands))
       by (inr early) = inr early
   breaks_in_first (inr event) = inr (record {
     is_there = omega (arith, event.is_there, length-take (number + 1) events);
@@ -125,7 +125,7 @@ module _ (books : List (List BookEntry)) (accounts : List (List AccountEntry)) w
         (length-append fails.before (fails.failing ∷ []) ∙ ap (λ n. n + 1) (sym fails.number_is)) in
         fails.fails (take (number + 1) events) (subst (λ (l : List OrderEntry). Resolves books accounts l (take (number + 1) events)) split named_first)
 
-    module _ (config : Config) (passes : List (List Made)) where
+    module _ (config : Config) (passes : List (List Call)) where
       -- where the history breaks the order is torn
       torn_where : Breaks config events passes number → IsTorn config books accounts order passes number
       torn_where breaks = inr (record {
@@ -143,7 +143,7 @@ module _ (books : List (List BookEntry)) (accounts : List (List AccountEntry)) w
           ∙ unique books accounts (take (number + 1) order) (take (number + 1) events) named_first in
           breaks_in_all config events passes number (subst (λ (l : List Event). Breaks config l passes number) are history.breaks)
 
-module _ (unique : ResolvingIsUnique) (config : Config) (books : List (List BookEntry)) (accounts : List (List AccountEntry)) (order : List OrderEntry) (passes : List (List Made)) (events : List Event) where
+module _ (unique : ResolvingIsUnique) (config : Config) (books : List (List BookEntry)) (accounts : List (List AccountEntry)) (order : List OrderEntry) (passes : List (List Call)) (events : List Event) where
   -- where the whole order resolves
   pub torn_in_all : Resolves books accounts order events → (number : ℕ) → BreaksFirst config events passes number → IsTornFirst config books accounts order passes number
   torn_in_all resolves number first = record {
@@ -173,12 +173,12 @@ module _ (unique : ResolvingIsUnique) (config : Config) (books : List (List Book
 
 -- ---- certified and torn
 
-history_is_whole : (config : Config) (events : List Event) (passes : List (List Made)) (number : ℕ) → IsOneHistory config events passes → Breaks config events passes number → ⊥
-history_is_whole config events passes number history (inl call) = by call.breaks
+history_is_whole : (config : Config) (events : List Event) (passes : List (List Call)) (number : ℕ) → IsOneHistory config events passes → Breaks config events passes number → ⊥
+history_is_whole config events passes number history (inl broken) = by broken.breaks
   where
-    by : (Stands config events call.made → ⊥) ⊎ (point_of_reply call.made.reply < front_behind call.earlier) → ⊥
-    by (inl not) = not (history.stands call.earlier call.made call.is_call)
-    by (inr early) = absurd (omega (arith, early, history.in_turn call.earlier call.made call.is_call))
+    by : (Stands config events broken.call → ⊥) ⊎ (point_of_reply broken.call.reply < front_behind broken.earlier) → ⊥
+    by (inl not) = not (history.stands broken.earlier broken.call broken.is_call)
+    by (inr early) = absurd (omega (arith, early, history.in_turn broken.earlier broken.call broken.is_call))
 history_is_whole config events passes number history (inr event) = event.breaks (history.owned number event.is_there)
 
 pub certified_is_whole : ResolvingIsUnique → CertifiedIsWhole
@@ -192,16 +192,16 @@ certified_is_unique unique config books accounts order passes events others cert
 
 -- ---- what a pass sees
 
-seen_most : (front count : ℕ) (calls : List Made) → count ≤ front
-    → ((earlier : List Made) (made : Made) (later : List Made) → calls ≡ earlier ++ made ∷ later → is_no_memory made.reply ≡ false → fold seen_behind front earlier ≤ point_of_reply made.reply)
+seen_most : (front count : ℕ) (calls : List Call) → count ≤ front
+    → ((earlier : List Call) (call : Call) (later : List Call) → calls ≡ earlier ++ call ∷ later → is_no_memory call.reply ≡ false → fold seen_behind front earlier ≤ point_of_reply call.reply)
     → count + count_by (λ call. adds_event call.reply) calls ≤ fold seen_behind front calls
 seen_most front count [] most in_turn = omega (arith, most)
 seen_most front count (first ∷ calls) most in_turn =
     let next : count + cond {A = ℕ} (adds_event first.reply) 1 0 ≤ seen_behind front first =
     by (is_no_memory first.reply) refl (adds_event first.reply) refl in
     let rest = seen_most (seen_behind front first) (count + cond {A = ℕ} (adds_event first.reply) 1 0) calls next
-    (λ earlier made later same found. in_turn (first ∷ earlier) made later (ap (λ (l : List Made). first ∷ l) same) found) in
-    omega (arith, rest, sum_by-cons (λ (call : Made). cond {A = ℕ} (adds_event call.reply) 1 0) first calls)
+    (λ earlier call later same found. in_turn (first ∷ earlier) call later (ap (λ (l : List Call). first ∷ l) same) found) in
+    omega (arith, rest, sum_by-cons (λ (call : Call). cond {A = ℕ} (adds_event call.reply) 1 0) first calls)
   where
     by : (a : Bool) → is_no_memory first.reply ≡ a → (b : Bool) → adds_event first.reply ≡ b
         → count + cond {A = ℕ} b 1 0 ≤ cond a front (cond b (point_of_reply first.reply + 1) (point_of_reply first.reply))
@@ -211,14 +211,14 @@ seen_most front count (first ∷ calls) most in_turn =
     by false e false f = omega (arith, most, in_turn [] first calls refl e)
 
 pub passes_see_their_events : PassesSeeTheirEvents
-passes_see_their_events config events passes earlier made history is =
+passes_see_their_events config events passes earlier call history is =
     let most = seen_most 0 0 earlier (omega arith)
     (λ before first behind same found. history.in_turn before first (record {
-      later = behind ++ made ∷ is.later;
-      in_pass = subst (Contains passes) (ap (λ (l : List Made). l ++ made ∷ is.later) same ∙ append_assoc before (first ∷ behind) (made ∷ is.later)) is.in_pass;
+      later = behind ++ call ∷ is.later;
+      in_pass = subst (Contains passes) (ap (λ (l : List Call). l ++ call ∷ is.later) same ∙ append_assoc before (first ∷ behind) (call ∷ is.later)) is.in_pass;
       found_memory = found;
     })) in
-    omega (arith, most, history.in_turn earlier made is)
+    omega (arith, most, history.in_turn earlier call is)
 
 -- ---- an order that fails
 
@@ -232,7 +232,7 @@ part_is_whole whole books accounts order entry fails number other =
     (subst (λ (l : List OrderEntry). Resolves books accounts l fails.events) (sym begins) fails.resolves) other
 
 -- it is torn there first, where the history breaks at no smaller number
-pub torn_at_entry : ResolvingIsUnique → (config : Config) (books : List (List BookEntry)) (accounts : List (List AccountEntry)) (order : List OrderEntry) (passes : List (List Made)) (events : List Event) (entry : ℕ) (found : Option ℕ)
+pub torn_at_entry : ResolvingIsUnique → (config : Config) (books : List (List BookEntry)) (accounts : List (List AccountEntry)) (order : List OrderEntry) (passes : List (List Call)) (events : List Event) (entry : ℕ) (found : Option ℕ)
     → Resolves books accounts (take entry order) events → FailsAt books accounts order entry
     → IfNone found (IsOneHistory config events passes) → IfSome found (BreaksFirst config events passes) → ((number : ℕ) → found ≡ Some number → entry ≤ number)
     → IsTornFirst config books accounts order passes entry

@@ -9,7 +9,7 @@ use Rattle.ocpi_types.specs.declared.config.Config.{Config}
 use Rattle.plain_house.specs.Laws.{adds_event}
 use Rattle.plain_house.specs.declared.event.Event.{Event}
 use Rattle.plain_house.specs.Legal.{IsLegal}
-use Rattle.shared_house.specs.declared.made.Made.{Made}
+use Rattle.shared_house.specs.declared.call.Call.{Call}
 use Rattle.shared_house.specs.Points.{HaveMade, front_behind, owners, point_of_reply}
 use Rattle.shared_house.specs.History.{Breaks, BreaksFirst, CallBreaks, EventBreaks, IsOneHistory, Stands}
 use Rattle.shared_house.specs.Inner.Turns.{AreFit, IsFit, Tears, PlainTurn, added_at, owns_at, point_at, rank, turns_of}
@@ -44,7 +44,7 @@ module _ (turns before : List PlainTurn) (turn : PlainTurn) (rest : List PlainTu
       subst (λ (x : PlainTurn). rank x ≤ rank other) first (subst (λ (x : PlainTurn). rank (get_or (before ++ turn ∷ rest) (length before) other) ≤ rank x) second h)
 
 added_most : (turn : PlainTurn) → added_at turn ≤ 1
-added_most turn = by (adds_event turn.made.reply)
+added_most turn = by (adds_event turn.call.reply)
   where
     by : (b : Bool) → cond {A = ℕ} b 1 0 ≤ 1
     by true = omega arith
@@ -78,7 +78,7 @@ below_no number count l = by (ltb number count) refl
 
 -- a turn owns an event only at its point, where it adds one
 own_here : (number : ℕ) (turn : PlainTurn) → point_at turn ≡ number → cond {A = ℕ} (owns_at number turn) 1 0 ≡ added_at turn
-own_here number turn h = by (adds_event turn.made.reply) (point_at turn == number) refl
+own_here number turn h = by (adds_event turn.call.reply) (point_at turn == number) refl
   where
     by : (a b : Bool) → (point_at turn == number) ≡ b → cond {A = ℕ} (a && b) 1 0 ≡ cond a 1 0
     by true true e = refl
@@ -86,7 +86,7 @@ own_here number turn h = by (adds_event turn.made.reply) (point_at turn == numbe
     by false b e = refl
 
 own_not : (number : ℕ) (turn : PlainTurn) → point_at turn ≢ number → cond {A = ℕ} (owns_at number turn) 1 0 ≡ 0
-own_not number turn h = by (adds_event turn.made.reply) (point_at turn == number) refl
+own_not number turn h = by (adds_event turn.call.reply) (point_at turn == number) refl
   where
     by : (a b : Bool) → (point_at turn == number) ≡ b → cond {A = ℕ} (a && b) 1 0 ≡ 0
     by true true e = absurd (h (eqb-true (point_at turn) number e))
@@ -131,7 +131,7 @@ owned_more number count turn at = by (ltb number count) refl (ltb count number) 
     by false e false f =
         let same : count ≡ number = omega (arith, ltb-false number count e, ltb-false count number f) in
         ap₂ (λ m n. m + n) (below_no number count (omega (arith, same))) (own_here number turn (at ∙ same))
-        ∙ here (adds_event turn.made.reply) same
+        ∙ here (adds_event turn.call.reply) same
 
 module _ (config : Config) (events : List Event) where
   pub none_fit : IsLegal config (take 0 events) → AreFit config events [] 0
@@ -161,7 +161,7 @@ module _ (config : Config) (events : List Event) where
 
 -- ---- where the history breaks
 
-module _ (config : Config) (events : List Event) (passes : List (List Made)) (before rest turns : List PlainTurn) (count : ℕ) where
+module _ (config : Config) (events : List Event) (passes : List (List Call)) (before rest turns : List PlainTurn) (count : ℕ) where
   -- the turns are those of the passes, and those before the rest are fit
   pub record AreSoFar : Type 0 where
     pub fit : AreFit config events before count
@@ -178,13 +178,13 @@ module _ (config : Config) (events : List Event) (passes : List (List Made)) (be
         ∙ ap₂ (λ m n. m + n) (so_far.fit.owned number) (none_owned number rest far) ∙ omega arith
 
     -- a call whose turn is among those is fit
-    call_fits : (number : ℕ) → ((turn : PlainTurn) → Contains rest turn → number < point_at turn) → (earlier : List Made) (made : Made) → HaveMade passes earlier made
-        → point_of_reply made.reply ≡ number → IsFit config events (turn_behind 0 earlier made)
-    call_fits number far earlier made is at =
-        by (Contains-append_cases before rest turn (subst (λ (l : List PlainTurn). Contains l turn) so_far.turns_are (so_far.each turn (turn_found passes earlier made is))))
+    call_fits : (number : ℕ) → ((turn : PlainTurn) → Contains rest turn → number < point_at turn) → (earlier : List Call) (call : Call) → HaveMade passes earlier call
+        → point_of_reply call.reply ≡ number → IsFit config events (turn_behind 0 earlier call)
+    call_fits number far earlier call is at =
+        by (Contains-append_cases before rest turn (subst (λ (l : List PlainTurn). Contains l turn) so_far.turns_are (so_far.each turn (turn_found passes earlier call is))))
       where
         turn : PlainTurn
-        turn = turn_behind 0 earlier made
+        turn = turn_behind 0 earlier call
 
         by : Contains before turn ⊎ Contains rest turn → IsFit config events turn
         by (inl c) = (so_far.fit.each turn c).0
@@ -193,12 +193,12 @@ module _ (config : Config) (events : List Event) (passes : List (List Made)) (be
     -- nothing breaks before the points of the rest, as far as the events so far go
     pub none_breaks : (number : ℕ) → ((turn : PlainTurn) → Contains rest turn → number < point_at turn) → (number < length events → number < count)
         → Breaks config events passes number → ⊥
-    none_breaks number far less (inl call) = by call.breaks
+    none_breaks number far less (inl broken) = by broken.breaks
       where
-        fit : IsFit config events (turn_behind 0 call.earlier call.made)
-        fit = call_fits number far call.earlier call.made call.is_call call.point_is
+        fit : IsFit config events (turn_behind 0 broken.earlier broken.call)
+        fit = call_fits number far broken.earlier broken.call broken.is_call broken.point_is
 
-        by : (Stands config events call.made → ⊥) ⊎ (point_of_reply call.made.reply < front_behind call.earlier) → ⊥
+        by : (Stands config events broken.call → ⊥) ⊎ (point_of_reply broken.call.reply < front_behind broken.earlier) → ⊥
         by (inl not) = not fit.stands
         by (inr early) = absurd (omega (arith, early, fit.in_turn))
     none_breaks number far less (inr event) =
@@ -221,7 +221,7 @@ pub record HasOwner (number : ℕ) (turns : List PlainTurn) : Type 0 where
 
 owner_of : (number : ℕ) (turns : List PlainTurn) → count_by (owns_at number) turns ≡ 1 → HasOwner number turns
 owner_of number [] h = absurd (omega (arith, h))
-owner_of number (turn ∷ turns) h = by (λ r. owner_of number turns r) (adds_event turn.made.reply) refl (point_at turn == number) refl
+owner_of number (turn ∷ turns) h = by (λ r. owner_of number turns r) (adds_event turn.call.reply) refl (point_at turn == number) refl
   where
     later : HasOwner number turns → HasOwner number (turn ∷ turns)
     later has = record {
@@ -236,7 +236,7 @@ owner_of number (turn ∷ turns) h = by (λ r. owner_of number turns r) (adds_ev
         ap (λ (b : Bool). cond {A = ℕ} b 1 0 + count_by (owns_at number) turns) (sym e)
         ∙ sym (sum_by-cons (λ x. cond (owns_at number x) 1 0) turn turns) ∙ h
 
-    by : (count_by (owns_at number) turns ≡ 1 → HasOwner number turns) → (a : Bool) → adds_event turn.made.reply ≡ a → (b : Bool) → (point_at turn == number) ≡ b → HasOwner number (turn ∷ turns)
+    by : (count_by (owns_at number) turns ≡ 1 → HasOwner number turns) → (a : Bool) → adds_event turn.call.reply ≡ a → (b : Bool) → (point_at turn == number) ≡ b → HasOwner number (turn ∷ turns)
     by more true e true f = record {
       owner = turn;
       contained = contains_first turn turns;
@@ -248,7 +248,7 @@ owner_of number (turn ∷ turns) h = by (λ r. owner_of number turns r) (adds_ev
 
 -- ---- where the next turn breaks it
 
-module _ (config : Config) (events : List Event) (passes : List (List Made)) (before rest turns : List PlainTurn) (turn : PlainTurn) (count : ℕ) (so_far : AreSoFar config events passes before (turn ∷ rest) turns count) (in_order : IsNonDecreasingBy rank turns) where
+module _ (config : Config) (events : List Event) (passes : List (List Call)) (before rest turns : List PlainTurn) (turn : PlainTurn) (count : ℕ) (so_far : AreSoFar config events passes before (turn ∷ rest) turns count) (in_order : IsNonDecreasingBy rank turns) where
   cut : IsCut turns before turn rest
   cut = record { in_order = in_order; turns_are = so_far.turns_are }
 
@@ -294,7 +294,7 @@ module _ (config : Config) (events : List Event) (passes : List (List Made)) (be
   call_breaks : (IsFit config events turn → ⊥) → CallBreaks config events passes (point_at turn)
   call_breaks unfit = record {
     earlier = from.earlier;
-    made = turn.made;
+    call = turn.call;
     is_call = from.is_call;
     point_is = refl;
     breaks = by (ltb (point_at turn) turn.front) refl;
@@ -305,7 +305,7 @@ module _ (config : Config) (events : List Event) (passes : List (List Made)) (be
           turn_came passes turn (so_far.came turn
           (subst (λ (l : List PlainTurn). Contains l turn) (sym so_far.turns_are) (Contains-append_right before (turn ∷ rest) turn (contains_first turn rest))))
 
-      by : (b : Bool) → ltb (point_at turn) turn.front ≡ b → (Stands config events turn.made → ⊥) ⊎ (point_at turn < front_behind from.earlier)
+      by : (b : Bool) → ltb (point_at turn) turn.front ≡ b → (Stands config events turn.call → ⊥) ⊎ (point_at turn < front_behind from.earlier)
       by true e = inr (omega (arith, ltb-true (point_at turn) turn.front e, from.front_is))
       by false e = inl (λ stands. unfit (record { stands = stands; in_turn = ltb-false (point_at turn) turn.front e }))
 
@@ -338,7 +338,7 @@ module _ (config : Config) (events : List Event) (passes : List (List Made)) (be
 
 -- ---- where no turn is left
 
-module _ (config : Config) (events : List Event) (passes : List (List Made)) (turns : List PlainTurn) (count : ℕ) (so_far : AreSoFar config events passes turns [] turns count) where
+module _ (config : Config) (events : List Event) (passes : List (List Call)) (turns : List PlainTurn) (count : ℕ) (so_far : AreSoFar config events passes turns [] turns count) where
   away : (number : ℕ) (turn : PlainTurn) → Contains {X = PlainTurn} [] turn → number < point_at turn
   away number turn c = absurd (contains_none turn c)
 
@@ -352,13 +352,13 @@ module _ (config : Config) (events : List Event) (passes : List (List Made)) (tu
   pub one_history : length events ≤ count → IsOneHistory config events passes
   one_history all = record {
     legal = subst (IsLegal config) (take_all count events all) so_far.fit.legal;
-    stands = λ earlier made is. (fits earlier made is).stands;
+    stands = λ earlier call is. (fits earlier call is).stands;
     owned = λ number there.
         owners_so_far config events passes turns [] turns count so_far number (away number)
         ∙ below_yes number count (omega (arith, there, all));
-    in_turn = λ earlier made is. (fits earlier made is).in_turn;
+    in_turn = λ earlier call is. (fits earlier call is).in_turn;
   }
     where
-      fits : (earlier : List Made) (made : Made) → HaveMade passes earlier made → IsFit config events (turn_behind 0 earlier made)
-      fits earlier made is =
-          call_fits config events passes turns [] turns count so_far (point_of_reply made.reply) (away (point_of_reply made.reply)) earlier made is refl
+      fits : (earlier : List Call) (call : Call) → HaveMade passes earlier call → IsFit config events (turn_behind 0 earlier call)
+      fits earlier call is =
+          call_fits config events passes turns [] turns count so_far (point_of_reply call.reply) (away (point_of_reply call.reply)) earlier call is refl

@@ -7,8 +7,8 @@ use Rattle.plain_house.specs.declared.event.Event.{Event}
 use Rattle.plain_house.specs.Laws.{RepliesTellEvents, adds_event}
 use Rattle.plain_house.specs.Replies.{Reply, is_no_memory}
 use Rattle.period_order.specs.Resolves.{FailsAt}
-use Rattle.shared_house.specs.declared.made.Made.{Made}
-use Rattle.shared_house.specs.Calls.{made_event}
+use Rattle.shared_house.specs.declared.call.Call.{Call}
+use Rattle.shared_house.specs.Calls.{call_adds_event}
 use Rattle.shared_house.specs.Certified.{HistoryBreaks}
 use Rattle.shared_house.specs.Finished.{IsTornInEnd, NothingIsTornWithoutEvents}
 use Rattle.shared_house.specs.History.{Breaks, CallBreaks, IsOneHistory, Stands}
@@ -24,30 +24,30 @@ nothing : {X : Type 0} (xs : List X) → length xs ≡ 0 → xs ≡ []
 nothing [] none = refl
 nothing (x ∷ xs) none = absurd (omega (arith, none))
 
-module _ (tells : RepliesTellEvents) (config : Config) (passes : List (List Made)) (history : IsOneHistory config [] passes) where
-  silent : (earlier : List Made) (made : Made) (later : List Made) → Contains passes (earlier ++ made ∷ later) → made_event made ≡ false
-  silent earlier made later in_pass = by (adds_event made.reply) refl
+module _ (tells : RepliesTellEvents) (config : Config) (passes : List (List Call)) (history : IsOneHistory config [] passes) where
+  silent : (earlier : List Call) (call : Call) (later : List Call) → Contains passes (earlier ++ call ∷ later) → call_adds_event call ≡ false
+  silent earlier call later in_pass = by (adds_event call.reply) refl
     where
-      by : (b : Bool) → adds_event made.reply ≡ b → adds_event made.reply ≡ false
+      by : (b : Bool) → adds_event call.reply ≡ b → adds_event call.reply ≡ false
       by false adds = adds
       by true adds =
-          let stands : Stands config [] made = history.stands earlier made (record { later = later; in_pass = in_pass; found_memory = found_memory made.reply adds }) in
+          let stands : Stands config [] call = history.stands earlier call (record { later = later; in_pass = in_pass; found_memory = found_memory call.reply adds }) in
           let one = ap (λ (b : Bool). cond {A = ℕ} b 1 0) adds in
-          absurd (omega (arith, (follows tells config [] made stands).within, one))
+          absurd (omega (arith, (follows tells config [] call stands).within, one))
 
-  none_added : (calls earlier : List Made) → Contains passes (earlier ++ calls) → count_by made_event calls ≡ 0
+  none_added : (calls earlier : List Call) → Contains passes (earlier ++ calls) → count_by call_adds_event calls ≡ 0
   none_added [] earlier in_pass = refl
-  none_added (made ∷ later) earlier in_pass =
-      let zero = ap (λ (b : Bool). cond {A = ℕ} b 1 0) (silent earlier made later in_pass) in
-      let rest = none_added later (earlier ++ made ∷ []) (subst (Contains passes) (sym (append_assoc earlier (made ∷ []) later)) in_pass) in
-      omega (arith, sum_by-cons (λ (x : Made). cond {A = ℕ} (made_event x) 1 0) made later, zero, rest)
+  none_added (call ∷ later) earlier in_pass =
+      let zero = ap (λ (b : Bool). cond {A = ℕ} b 1 0) (silent earlier call later in_pass) in
+      let rest = none_added later (earlier ++ call ∷ []) (subst (Contains passes) (sym (append_assoc earlier (call ∷ []) later)) in_pass) in
+      omega (arith, sum_by-cons (λ (x : Call). cond {A = ℕ} (call_adds_event x) 1 0) call later, zero, rest)
 
-  none_in_all : (some : List (List Made)) → ((pass : List Made) → Contains some pass → Contains passes pass) → sum_by (λ calls. count_by made_event calls) some ≡ 0
+  none_in_all : (some : List (List Call)) → ((pass : List Call) → Contains some pass → Contains passes pass) → sum_by (λ calls. count_by call_adds_event calls) some ≡ 0
   none_in_all [] inside = refl
   none_in_all (pass ∷ rest) inside =
       let first = none_added pass [] (inside pass (contains_first pass rest)) in
       let others = none_in_all rest (λ other c. inside other (contains_later pass rest other c)) in
-      omega (arith, sum_by-cons (λ (calls : List Made). count_by made_event calls) pass rest, first, others)
+      omega (arith, sum_by-cons (λ (calls : List Call). count_by call_adds_event calls) pass rest, first, others)
 
   module _ (number : ℕ) (torn : IsTornInEnd config passes number) where
     empty : length torn.order ≡ 0
@@ -57,14 +57,14 @@ module _ (tells : RepliesTellEvents) (config : Config) (passes : List (List Made
     fails_nowhere fails = omega (arith, ap length fails.order_is, length-append fails.before (fails.failing ∷ fails.later), empty)
 
     call_stands : CallBreaks config [] passes number → ⊥
-    call_stands call = by call.breaks
+    call_stands broken = by broken.breaks
       where
-        by : ((Stands config [] call.made → ⊥) ⊎ (point_of_reply call.made.reply < front_behind call.earlier)) → ⊥
-        by (inl breaks) = breaks (history.stands call.earlier call.made call.is_call)
-        by (inr before) = omega (arith, before, history.in_turn call.earlier call.made call.is_call)
+        by : ((Stands config [] broken.call → ⊥) ⊎ (point_of_reply broken.call.reply < front_behind broken.earlier)) → ⊥
+        by (inl breaks) = breaks (history.stands broken.earlier broken.call broken.is_call)
+        by (inr before) = omega (arith, before, history.in_turn broken.earlier broken.call broken.is_call)
 
     breaks_nowhere : Breaks config [] passes number → ⊥
-    breaks_nowhere (inl call) = call_stands call
+    breaks_nowhere (inl broken) = call_stands broken
     breaks_nowhere (inr event) = omega (arith, event.is_there)
 
     whole : HistoryBreaks config torn.books torn.accounts torn.order passes number → ⊥

@@ -11,7 +11,7 @@ use Rattle.plain_house.specs.House.{events_after}
 use Rattle.plain_house.specs.Laws.{RepliesTellEvents, adds_event}
 use Rattle.plain_house.specs.Legal.{CommandsKeepListsLegal, IsLegal}
 use Rattle.shared_house.specs.declared.certifying.turn.Turn.{Turn}
-use Rattle.shared_house.specs.declared.made.Made.{Made}
+use Rattle.shared_house.specs.declared.call.Call.{Call}
 use Rattle.shared_house.specs.Points.{AreAdmitted, AreAllAdmitted}
 use Rattle.shared_house.specs.History.{BreaksFirst, IsOneHistory}
 use Rattle.shared_house.specs.Inner.Turns.{AreFit, AreTurns, IsNext, PlainTurn, Tears, added_at, owns_at, plain_turn, turns_of}
@@ -39,17 +39,17 @@ module _ (config : Config) (events : List Event) (turns : List PlainTurn) (i : �
     pub fit : AreFit config events (take (i + 1) turns) (count + added_at turn)
     pub now_is : now ≡ take (count + added_at turn) events
 
-  pub turn_fit : RepliesTellEvents → CommandsKeepListsLegal → IsAdmitted config turn.made.command → (count : ℕ) (now : List Event) → AreFit config events (take i turns) count
+  pub turn_fit : RepliesTellEvents → CommandsKeepListsLegal → IsAdmitted config turn.call.command → (count : ℕ) (now : List Event) → AreFit config events (take i turns) count
       → IsNext config events count turn now → Done count now
   turn_fit tells keep admitted count now fit next = record {
     fit = subst (λ (l : List PlainTurn). AreFit config events l (count + added_at turn)) (sym one_more)
         (fit_more config events (take i turns) count (count + added_at turn) turn fit next.fit next.point_is refl within_events
-        (subst (IsLegal config) after (keep config (take count events) turn.made.command fit.legal admitted)));
+        (subst (IsLegal config) after (keep config (take count events) turn.call.command fit.legal admitted)));
     now_is = next.now_is ∙ after;
   }
     where
-      behind : Follows tells config events turn.made
-      behind = follows tells config events turn.made next.fit.stands
+      behind : Follows tells config events turn.call
+      behind = follows tells config events turn.call next.fit.stands
 
       one_more : take (i + 1) turns ≡ take i turns ++ turn ∷ []
       one_more = take_more turns i turn within ∙ ap (λ (t : PlainTurn). take i turns ++ t ∷ []) (sym is)
@@ -57,9 +57,9 @@ module _ (config : Config) (events : List Event) (turns : List PlainTurn) (i : �
       within_events : count + added_at turn ≤ length events
       within_events = omega (arith, next.point_is, behind.within)
 
-      after : events_after config (take count events) turn.made.command ≡ take (count + added_at turn) events
+      after : events_after config (take count events) turn.call.command ≡ take (count + added_at turn) events
       after =
-          ap (λ n. events_after config (take n events) turn.made.command) (sym next.point_is) ∙ behind.after_is
+          ap (λ n. events_after config (take n events) turn.call.command) (sym next.point_is) ∙ behind.after_is
           ∙ ap (λ n. take (n + added_at turn) events) next.point_is
 
 -- ---- the turns of all passes, of which so many are done
@@ -71,7 +71,7 @@ split_at turns i turn within is =
     ∙ append_assoc (take i turns) (get_or turns i turn ∷ []) (drop (i + 1) turns)
     ∙ ap (λ (t : PlainTurn). take i turns ++ t ∷ drop (i + 1) turns) (sym is)
 
-module _ (config : Config) (events : List Event) (passes : List (List Made)) (turns : List PlainTurn) (are : AreTurns passes turns) where
+module _ (config : Config) (events : List Event) (passes : List (List Call)) (turns : List PlainTurn) (are : AreTurns passes turns) where
   so_far : (before rest : List PlainTurn) (count : ℕ) → AreFit config events before count → turns ≡ before ++ rest → AreSoFar config events passes before rest turns count
   so_far before rest count fit same = record {
     fit = fit;
@@ -90,16 +90,16 @@ module _ (config : Config) (events : List Event) (passes : List (List Made)) (tu
 
   module _ (i : ℕ) (turn : PlainTurn) (within : i < length turns) (is : turn ≡ get_or turns i turn) where
     -- its command is admitted
-    pub turn_admitted : AreAllAdmitted config passes → IsAdmitted config turn.made.command
+    pub turn_admitted : AreAllAdmitted config passes → IsAdmitted config turn.call.command
     turn_admitted admitted =
         let here : Contains turns turn =
         subst (λ (l : List PlainTurn). Contains l turn) (sym (split_at turns i turn within is))
         (Contains-append_right (take i turns) (turn ∷ drop (i + 1) turns) turn (contains_first turn (drop (i + 1) turns))) in
         let from = turn_came passes turn (Contains-permutation turns (turns_of passes) turn (IsPermutation-sym (turns_of passes) turns are.same) here) in
-        let calls : List Made = from.earlier ++ turn.made ∷ from.is_call.later in
-        All-contains (λ (made : Made). IsAdmitted config made.command) calls turn.made
+        let calls : List Call = from.earlier ++ turn.call ∷ from.is_call.later in
+        All-contains (λ (call : Call). IsAdmitted config call.command) calls turn.call
         (All-contains (AreAdmitted config) passes calls admitted from.is_call.in_pass)
-        (Contains-append_right from.earlier (turn.made ∷ from.is_call.later) turn.made (contains_first turn.made from.is_call.later))
+        (Contains-append_right from.earlier (turn.call ∷ from.is_call.later) turn.call (contains_first turn.call from.is_call.later))
 
     -- where it breaks is the first break
     pub turn_breaks : (count number : ℕ) → AreFit config events (take i turns) count → Tears config events count turn number → BreaksFirst config events passes number
@@ -116,5 +116,5 @@ pub all_plain : (xs : List Turn) (i : ℕ) → length xs ≤ i → take i (map p
 all_plain xs i all = take_all i (map plain_turn xs) (omega (arith, all, length-map xs plain_turn))
 
 -- one more where an event is added
-pub counted : (count next : ℕ) (turn : PlainTurn) (adds : Bool) → adds ≡ adds_event turn.made.reply → next ≡ count + cond {A = ℕ} adds 1 0 → next ≡ count + added_at turn
+pub counted : (count next : ℕ) (turn : PlainTurn) (adds : Bool) → adds ≡ adds_event turn.call.reply → next ≡ count + cond {A = ℕ} adds 1 0 → next ≡ count + added_at turn
 counted count next turn adds is next_is = next_is ∙ ap (λ (b : Bool). count + cond {A = ℕ} b 1 0) is

@@ -1,4 +1,4 @@
--- A call that ledgers find to stand.
+-- A call that entry books find to stand.
 use Rattle.std.proofs.Common.{All, ◌≡◌, ℕ, zero, suc, map, ◌+◌, ◌-◌, ◌<◌, ◌≤◌, List, [], ◌∷◌, ◌++◌, true, false, refl, sym, ap, ap₂, ◌∙◌, subst, arith, append_assoc, get_or, length, take, drop, slice_get, Option, Some, None, IfSome, Result, Ok, IfOk, is_some}
 use Rattle.std.proofs.lemmas.List.{take-append-drop, take_more}
 use Rattle.ocpi_types.specs.declared.config.Config.{Config}
@@ -28,9 +28,9 @@ use Rattle.period_order.specs.declared.decided.Decided.{Decided}
 use Rattle.period_order.specs.declared.decided.Outcome.{Outcome}
 use Rattle.period_order.specs.declared.decided.Outcome.TheVariants as outcome
 use Rattle.period_order.specs.Decided.{verdict_with}
-use Rattle.period_order.specs.Ledgers.{IsDecided}
+use Rattle.period_order.specs.EntryBooks.{IsDecided}
 use Rattle.shared_house.specs.declared.certifying.turn.Turn.{Turn}
-use Rattle.shared_house.specs.declared.made.Made.{Made}
+use Rattle.shared_house.specs.declared.call.Call.{Call}
 use Rattle.shared_house.specs.Points.{AreAllAdmitted, point_of_reply}
 use Rattle.shared_house.specs.History.{Stands, events_before}
 use Rattle.shared_house.specs.Inner.Stretches.{Agrees, AgreesAt}
@@ -69,28 +69,28 @@ still_legal begin config before events i e within is legal =
 
 -- ---- one call
 
-module _ (tells : RepliesTellEvents) (stay : ClosedPeriodsStay) (configured : EventsAreOfConfigured) (config : Config) (events : List Event) (made : Made) (decided : Decided)
-    (admitted : IsAdmitted config made.command) (within : point_of_reply made.reply ≤ length events)
-    (is : IsDecided config (events_before events made) made.command decided) (agrees : Agrees decided made.reply) (right : HasRightTable config events made) where
+module _ (tells : RepliesTellEvents) (stay : ClosedPeriodsStay) (configured : EventsAreOfConfigured) (config : Config) (events : List Event) (call : Call) (decided : Decided)
+    (admitted : IsAdmitted config call.command) (within : point_of_reply call.reply ≤ length events)
+    (is : IsDecided config (events_before events call) call.command decided) (agrees : Agrees decided call.reply) (right : HasRightTable config events call) where
   abbrev point : ℕ
-  point = point_of_reply made.reply
+  point = point_of_reply call.reply
 
   abbrev before : List Event
-  before = events_before events made
+  before = events_before events call
 
   abbrev spoken : Verdict
-  spoken = verdict config (known before) made.command
+  spoken = verdict config (known before) call.command
 
   abbrev after : List Event
-  after = events_after config before made.command
+  after = events_after config before call.command
 
   abbrev IsAnswered : Type 0
-  IsAnswered = made.reply ≡ reply_of config before made.command
+  IsAnswered = call.reply ≡ reply_of config before call.command
 
-  replied : (told : Result Answer Refusal) → made.reply ≡ stamped decided.point told → spoken.reply ≡ told → IsAnswered
+  replied : (told : Result Answer Refusal) → call.reply ≡ stamped decided.point told → spoken.reply ≡ told → IsAnswered
   replied told reply same = reply ∙ ap₂ stamped is.point_is (sym same)
 
-  netted : (period : ℕ) (told : List NetPosition) → made.reply ≡ Ok (record { at = decided.point; answer = answer.Closed period told })
+  netted : (period : ℕ) (told : List NetPosition) → call.reply ≡ Ok (record { at = decided.point; answer = answer.Closed period told })
       → spoken.reply ≡ Ok (answer.Closed period (positions_in config (book_entries after) period))
       → (later : List Event) → events ≡ after ++ later → period < period_of after → IsAnswered
   netted period told reply same later split closed =
@@ -99,7 +99,7 @@ module _ (tells : RepliesTellEvents) (stay : ClosedPeriodsStay) (configured : Ev
       ∙ ap (λ (l : List Obligation). net_positions (parties config) config.currencies l) (owed_stays stay events after later period split closed) in
       replied (Ok (answer.Closed period told)) reply (same ∙ ap (λ (l : List NetPosition). Ok (answer.Closed period l)) (sym now))
 
-  stated : (ask : StatementOf) (told : List StatementRow) → made.command ≡ command.Statement ask → made.reply ≡ Ok (record { at = decided.point; answer = answer.Statement told })
+  stated : (ask : StatementOf) (told : List StatementRow) → call.command ≡ command.Statement ask → call.reply ≡ Ok (record { at = decided.point; answer = answer.Statement told })
       → spoken.reply ≡ Ok (answer.Statement (statement_rows ask.party (obligations ask.period (book_entries after))))
       → (later : List Event) → events ≡ after ++ later → ask.period < period_of after → IsAnswered
   stated ask told asked reply same later split closed =
@@ -110,26 +110,26 @@ module _ (tells : RepliesTellEvents) (stay : ClosedPeriodsStay) (configured : Ev
 
   -- ---- a call that adds no event
 
-  module _ (none : adds_event made.reply ≡ false) where
+  module _ (none : adds_event call.reply ≡ false) where
     answered_silent : IsAnswered
     answered_silent = by decided.outcome refl agrees is.reply_is
       where
-        by : (o : Outcome) → decided.outcome ≡ o → AgreesAt decided.point o made.reply → spoken.reply ≡ (verdict_with config (book_entries after) o).reply → IsAnswered
+        by : (o : Outcome) → decided.outcome ≡ o → AgreesAt decided.point o call.reply → spoken.reply ≡ (verdict_with config (book_entries after) o).reply → IsAnswered
         by (outcome.Replied told event) e agreed same = replied told agreed same
         by (outcome.Closed period) e agreed same = let wrong : false ≡ true = sym none ∙ ap adds_event agreed.1 in absurd (cc)
         by (outcome.Stated ask) e agreed same =
             let own = is.states ask e in
-            let still : after ≡ before = none_added before spoken.event (tells config (known before) made.command ∙ ap tells_event same) in
+            let still : after ≡ before = none_added before spoken.event (tells config (known before) call.command ∙ ap tells_event same) in
             stated ask agreed.0 own.0 agreed.1 same (drop point events)
             (sym (take-append-drop point events) ∙ ap (λ (l : List Event). l ++ drop point events) (sym still))
             (subst (λ (l : List Event). ask.period < period_of l) (sym still) own.1)
 
-    pub stands_without : Stands config events made
-    stands_without = stands_silent tells config events made within answered_silent (ap adds_event (sym answered_silent) ∙ none)
+    pub stands_without : Stands config events call
+    stands_without = stands_silent tells config events call within answered_silent (ap adds_event (sym answered_silent) ∙ none)
 
   -- ---- a call that adds the next event
 
-  module _ (some : adds_event made.reply ≡ true) (next : Event) (is_next : slice_get events point ≡ Some next) (is_last : slice_get after (length after - 1) ≡ Some next) where
+  module _ (some : adds_event call.reply ≡ true) (next : Event) (is_next : slice_get events point ≡ Some next) (is_last : slice_get after (length after - 1) ≡ Some next) where
     -- the event that is added is the next
     added_is : (added : Event) → spoken.event ≡ Some added → added ≡ next
     added_is added own =
@@ -139,19 +139,19 @@ module _ (tells : RepliesTellEvents) (stay : ClosedPeriodsStay) (configured : Ev
     answered_adding : IsAnswered
     answered_adding = by decided.outcome refl agrees is.reply_is
       where
-        by : (o : Outcome) → decided.outcome ≡ o → AgreesAt decided.point o made.reply → spoken.reply ≡ (verdict_with config (book_entries after) o).reply → IsAnswered
+        by : (o : Outcome) → decided.outcome ≡ o → AgreesAt decided.point o call.reply → spoken.reply ≡ (verdict_with config (book_entries after) o).reply → IsAnswered
         by (outcome.Replied told event) e agreed same = replied told agreed same
         by (outcome.Closed period) e agreed same =
             let own : spoken.event ≡ Some (event.Closed period) = is.closes period e in
             let pushed : after ≡ before ++ event.Closed period ∷ [] = ap (with_event before) own in
             let here : slice_get events point ≡ Some (event.Closed period) = is_next ∙ ap Some (sym (added_is (event.Closed period) own)) in
-            let current : period ≡ period_of before = configured config (known before) (event.Closed period) (made.command, admitted, own) in
+            let current : period ≡ period_of before = configured config (known before) (event.Closed period) (call.command, admitted, own) in
             netted period agreed.0 agreed.1 same (drop (point + 1) events)
             (sym (take-append-drop (point + 1) events) ∙ ap (λ (l : List Event). l ++ drop (point + 1) events) (sym (pushed ∙ take_next point events (event.Closed period) here)))
             (subst (λ (l : List Event). period < period_of l) (sym pushed) (closed_behind before period current))
         by (outcome.Stated ask) e agreed same = let wrong : true ≡ false = sym some ∙ ap adds_event agreed.1 in absurd (cc)
 
-    pub stands_with_next : Stands config events made
+    pub stands_with_next : Stands config events call
     stands_with_next = record {
       within = within;
       reply_is = answered_adding;
@@ -169,8 +169,8 @@ same_at [] k d e within = absurd (omega (arith, within))
 same_at (x ∷ xs) zero d e within = refl
 same_at (x ∷ xs) (suc k) d e within = same_at xs k d e (omega (arith, within))
 
-pub all_admitted : (config : Config) (events : List Event) (passes : List (List Made)) (xs : List Turn) → AreTurns passes (map plain_turn xs) → AreAllAdmitted config passes
-    → All (λ turn. IsAdmitted config turn.made.now.command) xs
+pub all_admitted : (config : Config) (events : List Event) (passes : List (List Call)) (xs : List Turn) → AreTurns passes (map plain_turn xs) → AreAllAdmitted config passes
+    → All (λ turn. IsAdmitted config turn.call.now.command) xs
 all_admitted config events passes xs are admitted = λ k d within.
     let turn : Turn = get_or xs k d in
     turn_admitted config events passes (map plain_turn xs) are k (plain_turn turn) (within_plain xs k within) (plain_at xs k turn within (same_at xs k d turn within)) admitted

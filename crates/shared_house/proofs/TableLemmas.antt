@@ -17,7 +17,7 @@ use Rattle.plain_house.specs.Entries.{book_entries}
 use Rattle.plain_house.specs.House.{positions_in}
 use Rattle.plain_house.specs.Obligations.{GoesOnFrom, obligations}
 use Rattle.plain_house.specs.Replies.{Reply}
-use Rattle.shared_house.specs.declared.made.Made.{Made}
+use Rattle.shared_house.specs.declared.call.Call.{Call}
 use Rattle.shared_house.specs.Inner.Tables.{AreOwed, HasRightTable}
 
 -- ---- periods
@@ -70,9 +70,9 @@ abbrev answer_in : Reply → Answer
 answer_in (Ok replied) = replied.answer
 answer_in (Err refused) = answer.Stored
 
-pub right_positions : (config : Config) (events : List Event) (made : Made) (at period : ℕ) (told : List NetPosition)
-    → made.reply ≡ Ok (record { at = at; answer = answer.Closed period told }) → told ≡ positions_in config (book_entries events) period → HasRightTable config events made
-right_positions config events made at period told reply is = record {
+pub right_positions : (config : Config) (events : List Event) (call : Call) (at period : ℕ) (told : List NetPosition)
+    → call.reply ≡ Ok (record { at = at; answer = answer.Closed period told }) → told ≡ positions_in config (book_entries events) period → HasRightTable config events call
+right_positions config events call at period told reply is = record {
   positions = λ at' period' told' reply'.
       let answers : answer.Closed period told ≡ answer.Closed period' told' = ap answer_in (sym reply ∙ reply') in
       let same : told ≡ told' = cc in
@@ -82,10 +82,10 @@ right_positions config events made at period told reply is = record {
       let answers : answer.Closed period told ≡ answer.Statement told' = ap answer_in (sym reply ∙ reply') in absurd (cc);
 }
 
-pub right_rows : (config : Config) (events : List Event) (made : Made) (at : ℕ) (ask : StatementOf) (told : List StatementRow)
-    → made.command ≡ command.Statement ask → made.reply ≡ Ok (record { at = at; answer = answer.Statement told })
-    → told ≡ statement_rows ask.party (obligations ask.period (book_entries events)) → HasRightTable config events made
-right_rows config events made at ask told asked reply is = record {
+pub right_rows : (config : Config) (events : List Event) (call : Call) (at : ℕ) (ask : StatementOf) (told : List StatementRow)
+    → call.command ≡ command.Statement ask → call.reply ≡ Ok (record { at = at; answer = answer.Statement told })
+    → told ≡ statement_rows ask.party (obligations ask.period (book_entries events)) → HasRightTable config events call
+right_rows config events call at ask told asked reply is = record {
   positions = λ at' period' told' reply'.
       let answers : answer.Statement told ≡ answer.Closed period' told' = ap answer_in (sym reply ∙ reply') in absurd (cc);
   rows = λ at' ask' told' asked' reply'.

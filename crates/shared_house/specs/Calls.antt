@@ -12,7 +12,7 @@ use Rattle.plain_house.specs.LegalEntries.{IsLegalAccount, IsLegalBook}
 use Rattle.plain_house.specs.LegalLists.{CanBeNetted}
 use Rattle.plain_house.specs.Own.{own_book}
 use Rattle.plain_house.specs.Replies.{Reply, is_no_memory, no_memory, stamped}
-use Rattle.shared_house.specs.declared.made.Made.{Made}
+use Rattle.shared_house.specs.declared.call.Call.{Call}
 use Rattle.shared_house.specs.PassView.{PassView}
 use Rattle.shared_house.specs.Points.{told_point}
 
@@ -22,8 +22,8 @@ use Rattle.shared_house.specs.Points.{told_point}
 abbrev pub event_count : Reply → ℕ
 event_count reply = if adds_event reply then 1 else 0
 
-abbrev pub made_event : Made → Bool
-made_event made = adds_event made.reply
+abbrev pub call_adds_event : Call → Bool
+call_adds_event call = adds_event call.reply
 
 -- the number of events before the call is no less than this, where the reply has it
 abbrev pub IsAtLeast : ℕ → Reply → Type 0

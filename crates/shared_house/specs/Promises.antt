@@ -10,7 +10,7 @@ use Rattle.plain_house.specs.declared.event.Event.TheVariants as event
 use Rattle.plain_house.specs.Entries.{account_entries, book_entries, period_of}
 use Rattle.plain_house.specs.LegalLists.{IsCharged, IsTakenBack, KeepsLimits}
 use Rattle.plain_house.specs.Obligations.{obligations}
-use Rattle.shared_house.specs.declared.made.Made.{Made}
+use Rattle.shared_house.specs.declared.call.Call.{Call}
 use Rattle.shared_house.specs.History.{IsOneHistory}
 
 -- the events keep what is promised of a house
@@ -27,4 +27,4 @@ pub record KeepsPromises (config : Config) (events : List Event) : Type 0 where
       total (map (λ party. net_position party currency (obligations period (book_entries events))) (parties config)) ≡ pos 0
 
 abbrev pub HistoriesKeepPromises : Type 0
-HistoriesKeepPromises = (config : Config) (events : List Event) (passes : List (List Made)) → IsOneHistory config events passes → KeepsPromises config events
+HistoriesKeepPromises = (config : Config) (events : List Event) (passes : List (List Call)) → IsOneHistory config events passes → KeepsPromises config events

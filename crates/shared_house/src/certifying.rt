@@ -7,11 +7,11 @@ ghost use Rattle.period_order.specs.Resolves.{FailsAt, Resolves};
 ghost use Rattle.period_order.specs.declared.resolved.ResolveFault.TheVariants as unresolved;
 ghost use Rattle.shared_house.specs.Points.{AreAllAdmitted};
 ghost use Rattle.shared_house.specs.Certified.{IsCertified, IsTornFirst};
-ghost use Rattle.shared_house.specs.declared.made.Made.{Made};
+ghost use Rattle.shared_house.specs.declared.call.Call.{Call};
 ghost use Rattle.shared_house.specs.Inner.Turns.{AreTurns, plain_turn};
 ghost use Rattle.shared_house.specs.declared.certifying.CertifyFault.TheVariants as fault;
 
-use crate::made::Made;
+use crate::call::Call;
 use ocpi_types::Config;
 use operator_book::Book;
 use period_order::{OrderEntry, ResolveFault, resolve, resolving_is_unique, resolving_is_whole};
@@ -68,9 +68,9 @@ fn first_torn<R: Threads + Sync>(
     turns: &[Turn],
     entry: usize,
 ) -> Result<u64, AllocError>
-    requires admitted { All (λ turn. IsAdmitted config.now turn.made.now.command) turns.now }
+    requires admitted { All (λ turn. IsAdmitted config.now turn.call.now.command) turns.now }
     requires fails { FailsAt (entries_of_books books.now) (entries_of_accounts accounts.now) order.now entry }
-    ensures { IfOk result (λ number. (passes : List (List Made)) → AreTurns passes (map plain_turn turns.now) →
+    ensures { IfOk result (λ number. (passes : List (List Call)) → AreTurns passes (map plain_turn turns.now) →
         IsTornFirst config.now (entries_of_books books.now) (entries_of_accounts accounts.now) order.now passes number) }
 {
     resolving_is_unique();
@@ -93,7 +93,7 @@ fn events_and_turns<'a, R: Threads>(
     order: &[OrderEntry],
     books: &[Book],
     accounts: &[Account],
-    passes: &'a [Vec<Made>],
+    passes: &'a [Vec<Call>],
 ) -> (
     Result<Vec<Event>, ResolveFault>,
     Result<Vec<Turn<'a>>, AllocError>,
@@ -117,7 +117,7 @@ fn events_and_turns<'a, R: Threads>(
 /// The events that the order names in books and accounts, where they and the calls of all passes are one history.
 ///
 /// `Torn` with the least number at which an entry of the order names no event, or a call or an event of that number breaks the
-/// history. The calls are done once more on ledgers of their own, in the order of their points: stretches of them at once, each in
+/// history. The calls are done once more on entry books of their own, in the order of their points: stretches of them at once, each in
 /// a thread of its own where one can be made, and all in turn where that finds no history.
 pub fn certify<R: Threads + Sync>(
     rt: &R,
@@ -126,7 +126,7 @@ pub fn certify<R: Threads + Sync>(
     order: &[OrderEntry],
     books: &[Book],
     accounts: &[Account],
-    passes: &[Vec<Made>],
+    passes: &[Vec<Call>],
 ) -> Result<Vec<Event>, CertifyFault>
     requires { AreAllAdmitted config.now (map (λ calls. calls.items) passes.now) }
     ensures ok { IfOk result (λ events. IsCertified config.now (entries_of_books books.now) (entries_of_accounts accounts.now) order.now

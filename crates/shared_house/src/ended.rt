@@ -6,9 +6,9 @@ ghost use Rattle.shared_house.specs.Certified.{IsCertified, IsTornFirst};
 ghost use Rattle.shared_house.specs.Points.{AreAllAdmitted};
 ghost use Rattle.shared_house.specs.declared.certifying.CertifyFault.TheVariants as fault;
 
+use crate::call::Call;
 use crate::certifying::{CertifyFault, certify};
 use crate::gathered::Gathered;
-use crate::made::Made;
 use ocpi_types::Config;
 use plain_house::Event;
 use std::alloc::Global;
@@ -18,7 +18,7 @@ use std::thread::Threads;
 #[derive(Drop)]
 pub struct Ended {
     pub events: Vec<Event>,
-    pub calls: Vec<Vec<Made>>,
+    pub calls: Vec<Vec<Call>>,
 }
 
 impl Ended {

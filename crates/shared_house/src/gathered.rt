@@ -3,14 +3,14 @@
 ghost use Rattle.std.specs.Prelude.{All, ◌≡◌, ◌+◌, ◌*◌, ◌^◌, ◌≤◌, [], map, length, sum_by, count_by, vec_len, IfOk, OnOk};
 ghost use Rattle.plain_house.specs.LegalEntries.{IsLegalAccount, IsLegalBook};
 ghost use Rattle.period_order.specs.Order.{names_account, names_book};
-ghost use Rattle.shared_house.specs.Calls.{made_event};
+ghost use Rattle.shared_house.specs.Calls.{call_adds_event};
 ghost use Rattle.shared_house.specs.Points.{AreAdmitted};
 ghost use Rattle.shared_house.specs.Counts.{total_of_account, total_of_book};
 
+use crate::call::Call;
 use crate::house::{House, Locks};
 use crate::ledgers::{AccountShares, BookShares, Configured, Names, Part, Rest};
 use crate::locked::{LockedAccount, LockedBook, LockedOrder};
-use crate::made::Made;
 use crate::pass::Pass;
 use operator_book::Book;
 use period_order::OrderEntry;
@@ -29,7 +29,7 @@ pub struct Gathered {
     /// One for each provider, in the order of the configuration.
     pub accounts: Vec<Account>,
     /// One list for each pass that was given, in the order given.
-    pub calls: Vec<Vec<Made>>,
+    pub calls: Vec<Vec<Call>>,
 }
 
 // The books, with their shares merged.
@@ -95,11 +95,11 @@ fn end_passes<N: Names>(
     alloc: Global,
     passes: Vec<Pass<N>>,
     events: &mut Share<N::Events>,
-) -> Result<Vec<Vec<Made>>, AllocError>
+) -> Result<Vec<Vec<Call>>, AllocError>
     requires none { (events.old.parts ≡ 0) × (events.old.amount ≡ 0) }
     ensures parts { OnOk result (events.new.parts ≡ vec_len passes) }
     ensures apart { OnOk result (events.new.parts ≤ N.Events.parts) }
-    ensures events { IfOk result (λ all. events.new.amount ≡ sum_by (λ calls. count_by made_event calls.items) all.items) }
+    ensures events { IfOk result (λ all. events.new.amount ≡ sum_by (λ calls. count_by call_adds_event calls.items) all.items) }
     ensures calls { IfOk result (λ all. map (λ calls. calls.items) all.items ≡ map (λ pass. pass.calls) passes.items) }
     ensures admitted { IfOk result (λ all. All (λ calls. AreAdmitted N.BookEntries.config calls.items) all.items) }
 {
@@ -169,13 +169,13 @@ fn gather_passes<N: Names>(
     passes: Vec<Pass<N>>,
     mut all: ledger::Book<N::Events>,
     mut events: Share<N::Events>,
-) -> Result<Vec<Vec<Made>>, AllocError>
+) -> Result<Vec<Vec<Call>>, AllocError>
     requires none { (events.parts ≡ 0) × (events.amount ≡ 0) }
     ensures no_others { OnOk result (vec_len passes ≤ N.Events.parts) }
-    ensures at_most { IfOk result (λ calls. sum_by (λ made. count_by made_event made.items) calls.items ≤ all.total) }
-    ensures events { vec_len passes ≡ N.Events.parts → IfOk result (λ calls. all.total ≡ sum_by (λ made. count_by made_event made.items) calls.items) }
-    ensures calls { IfOk result (λ calls. map (λ made. made.items) calls.items ≡ map (λ pass. pass.calls) passes.items) }
-    ensures admitted { IfOk result (λ calls. All (λ made. AreAdmitted N.BookEntries.config made.items) calls.items) }
+    ensures at_most { IfOk result (λ calls. sum_by (λ list. count_by call_adds_event list.items) calls.items ≤ all.total) }
+    ensures events { vec_len passes ≡ N.Events.parts → IfOk result (λ calls. all.total ≡ sum_by (λ list. count_by call_adds_event list.items) calls.items) }
+    ensures calls { IfOk result (λ calls. map (λ list. list.items) calls.items ≡ map (λ pass. pass.calls) passes.items) }
+    ensures admitted { IfOk result (λ calls. All (λ list. AreAdmitted N.BookEntries.config list.items) calls.items) }
 {
     let calls = end_passes(alloc, passes, &mut events)?;
     all.audit(&mut events);
@@ -199,8 +199,8 @@ fn gather_open<N: Names>(
     ensures amounts { IfOk result (λ all. sum_by (λ book. total_of_book book.entries) all.books.items ≡ sum_by (λ account. total_of_account account.entries) all.accounts.items) }
     ensures bounded { IfOk result (λ all. sum_by (λ book. total_of_book book.entries) all.books.items ≤ 10 ^ 12 * vec_len all.entries) }
     ensures no_others { OnOk result (vec_len passes ≤ N.Events.parts) }
-    ensures at_most { IfOk result (λ all. sum_by (λ calls. count_by made_event calls.items) all.calls.items ≤ vec_len all.entries) }
-    ensures events { vec_len passes ≡ N.Events.parts → IfOk result (λ all. vec_len all.entries ≡ sum_by (λ calls. count_by made_event calls.items) all.calls.items) }
+    ensures at_most { IfOk result (λ all. sum_by (λ calls. count_by call_adds_event calls.items) all.calls.items ≤ vec_len all.entries) }
+    ensures events { vec_len passes ≡ N.Events.parts → IfOk result (λ all. vec_len all.entries ≡ sum_by (λ calls. count_by call_adds_event calls.items) all.calls.items) }
     ensures calls { IfOk result (λ all. map (λ calls. calls.items) all.calls.items ≡ map (λ pass. pass.calls) passes.items) }
     ensures admitted { IfOk result (λ all. All (λ calls. AreAdmitted N.BookEntries.config calls.items) all.calls.items) }
     ensures each { IfOk result (λ all. (vec_len all.books ≡ vec_len books) × (vec_len all.accounts ≡ vec_len accounts)) }
@@ -262,8 +262,8 @@ pub(crate) fn gather_locks<N: Names>(
     ensures amounts { IfOk result (λ all. sum_by (λ book. total_of_book book.entries) all.books.items ≡ sum_by (λ account. total_of_account account.entries) all.accounts.items) }
     ensures bounded { IfOk result (λ all. sum_by (λ book. total_of_book book.entries) all.books.items ≤ 10 ^ 12 * vec_len all.entries) }
     ensures no_others { OnOk result (vec_len passes ≤ N.Events.all) }
-    ensures at_most { IfOk result (λ all. sum_by (λ calls. count_by made_event calls.items) all.calls.items ≤ vec_len all.entries) }
-    ensures events { vec_len passes ≡ N.Events.all → IfOk result (λ all. vec_len all.entries ≡ sum_by (λ calls. count_by made_event calls.items) all.calls.items) }
+    ensures at_most { IfOk result (λ all. sum_by (λ calls. count_by call_adds_event calls.items) all.calls.items ≤ vec_len all.entries) }
+    ensures events { vec_len passes ≡ N.Events.all → IfOk result (λ all. vec_len all.entries ≡ sum_by (λ calls. count_by call_adds_event calls.items) all.calls.items) }
     ensures calls { IfOk result (λ all. map (λ calls. calls.items) all.calls.items ≡ map (λ pass. pass.calls) passes.items) }
     ensures admitted { IfOk result (λ all. All (λ calls. AreAdmitted N.BookEntries.config calls.items) all.calls.items) }
     ensures each { IfOk result (λ all. (vec_len all.books ≡ length N.BookEntries.config.operators) × (vec_len all.accounts ≡ length N.BookEntries.config.providers)) }
@@ -309,8 +309,8 @@ pub fn gather<N: Names>(
     ensures amounts { IfOk result (λ all. sum_by (λ book. total_of_book book.entries) all.books.items ≡ sum_by (λ account. total_of_account account.entries) all.accounts.items) }
     ensures bounded { IfOk result (λ all. sum_by (λ book. total_of_book book.entries) all.books.items ≤ 10 ^ 12 * vec_len all.entries) }
     ensures no_others { OnOk result (vec_len passes ≤ N.Events.all) }
-    ensures at_most { IfOk result (λ all. sum_by (λ calls. count_by made_event calls.items) all.calls.items ≤ vec_len all.entries) }
-    ensures events { vec_len passes ≡ N.Events.all → IfOk result (λ all. vec_len all.entries ≡ sum_by (λ calls. count_by made_event calls.items) all.calls.items) }
+    ensures at_most { IfOk result (λ all. sum_by (λ calls. count_by call_adds_event calls.items) all.calls.items ≤ vec_len all.entries) }
+    ensures events { vec_len passes ≡ N.Events.all → IfOk result (λ all. vec_len all.entries ≡ sum_by (λ calls. count_by call_adds_event calls.items) all.calls.items) }
     ensures calls { IfOk result (λ all. map (λ calls. calls.items) all.calls.items ≡ map (λ pass. pass.calls) passes.items) }
     ensures admitted { IfOk result (λ all. All (λ calls. AreAdmitted N.BookEntries.config calls.items) all.calls.items) }
     ensures each { IfOk result (λ all. (vec_len all.books ≡ length N.BookEntries.config.operators) × (vec_len all.accounts ≡ length N.BookEntries.config.providers)) }

@@ -2,6 +2,7 @@
 //! count what stands under the locks; and the check that what its calls returned is one history.
 #![tactic(auto)]
 
+mod call;
 mod certifying;
 mod ended;
 mod finishing;
@@ -12,17 +13,17 @@ mod house;
 mod laws;
 mod ledgers;
 mod locked;
-mod made;
 mod pass;
 mod waiting;
 
+pub use call::Call;
 pub use certifying::{
     CertifyFault, certified_is_unique, certified_is_whole, certify, histories_keep_promises,
     passes_see_their_events,
 };
 pub use ended::Ended;
 pub use finishing::FinishFault;
-pub use gate::{Gate, NoGate, Place};
+pub use gate::{Gate, NoGate, Waypoint};
 pub use gathered::{Gathered, gather};
 pub use house::{Blanks, House};
 pub use laws::{
@@ -33,5 +34,4 @@ pub use laws::{
 };
 pub use ledgers::{Configured, Names, Part};
 pub use locked::{LockedAccount, LockedBook, LockedOrder};
-pub use made::Made;
 pub use pass::Pass;

@@ -1,5 +1,5 @@
+use crate::call::Call;
 use crate::ledgers::Names;
-use crate::made::Made;
 use std::marker::Model;
 use std::sync::ledger::Share;
 
@@ -7,7 +7,7 @@ use std::sync::ledger::Share;
 #[derive(Drop)]
 pub struct Pass<N: Names> {
     pub(crate) number: usize,
-    pub(crate) calls: Vec<Made>,
+    pub(crate) calls: Vec<Call>,
     pub(crate) events: Share<N::Events>,
 }
 
@@ -25,7 +25,7 @@ impl<N: Names> Model for Pass<N> {
 
 impl<N: Names> Pass<N> {
     ghost use Rattle.std.specs.Prelude.{◌≡◌, ◌<◌, ◌↔◌, count_by, IsTrue};
-    ghost use Rattle.shared_house.specs.Calls.{made_event};
+    ghost use Rattle.shared_house.specs.Calls.{call_adds_event};
     ghost use Rattle.shared_house.specs.Points.{AreAdmitted};
 
     /// The number of the pass among those of its house, from 0.
@@ -36,9 +36,9 @@ impl<N: Names> Pass<N> {
     }
 
     /// The calls that were made with the pass, the first one first, but those for which it had no place and got none.
-    pub fn calls(&self) -> &[Made]
+    pub fn calls(&self) -> &[Call]
         ensures calls { result.now ≡ self.now.calls }
-        ensures share { self.now.share ≡ count_by made_event self.now.calls }
+        ensures share { self.now.share ≡ count_by call_adds_event self.now.calls }
         ensures admitted { AreAdmitted N.BookEntries.config self.now.calls }
     {
         self.calls.as_slice()

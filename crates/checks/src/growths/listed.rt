@@ -5,7 +5,7 @@ ghost use Rattle.std.specs.Prelude.{◌≡◌};
 use super::doing::{Doing, announced_reply, do_lines, is_done_again};
 use super::telling::tell;
 use super::trial::{Outcome, Trial};
-use crate::fault::Fault;
+use crate::check_fault::CheckFault;
 use ocpi_json::Room;
 use ocpi_json::same::are_same;
 use ocpi_types::{Config, TryCopy};
@@ -125,7 +125,7 @@ pub fn try_listed<D: Doing + Listed>(
     house: &mut D,
     kind: &str,
     trial: &Trial<'_>,
-) -> Result<(), Fault<'static>>
+) -> Result<(), CheckFault<'static>>
     requires { D.config house.old ≡ config.now }
 {
     do_lines(rt.alloc(), config, house, trial.before);

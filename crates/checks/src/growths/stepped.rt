@@ -6,8 +6,9 @@ ghost use Rattle.cdr_checks.specs.Admission.{IsAdmitted};
 
 use super::telling::{announce, tell_memory};
 use super::trial::Trial;
-use crate::fault::Fault;
+use crate::check_fault::CheckFault;
 use cdr_checks::Command;
+use command_line::Fault;
 use house_core::{Action, Step, World};
 use ocpi_json::Room;
 use ocpi_types::Config;
@@ -143,10 +144,10 @@ pub fn try_steps(
     rt: &HostRuntime,
     config: &Config,
     trial: &Trial<'_>,
-) -> Result<(), Fault<'static>> {
+) -> Result<(), CheckFault<'static>> {
     let mut world = world_of(rt.alloc(), config, trial)?;
     match try_last(rt, &mut world, config.operators.as_slice().len(), trial) {
         Ok(()) => Ok(()),
-        Err(_) => Err(Fault::CannotWrite),
+        Err(_) => Err(CheckFault::from(Fault::CannotWrite)),
     }
 }

@@ -1,7 +1,8 @@
 //! The lines that are told of growths.
 
 use super::trial::{Outcome, Trial};
-use crate::fault::Fault;
+use crate::check_fault::CheckFault;
+use command_line::Fault;
 use plain_house::{Refused, Replied, is_out_of_memory};
 use std::io;
 use std::io::Write;
@@ -27,7 +28,7 @@ pub fn told(rt: &HostRuntime, reply: Result<Replied, Refused>) -> Option<Result<
 }
 
 /// Ends the line.
-pub fn tell(rt: &HostRuntime, outcome: Outcome) -> Result<(), Fault<'static>> {
+pub fn tell(rt: &HostRuntime, outcome: Outcome) -> Result<(), CheckFault<'static>> {
     let text = match outcome {
         Outcome::Done => " as expected",
         Outcome::Unchanged => ", nothing changed",
@@ -37,6 +38,6 @@ pub fn tell(rt: &HostRuntime, outcome: Outcome) -> Result<(), Fault<'static>> {
     };
     match println!(rt; "{text}") {
         Ok(()) => Ok(()),
-        Err(_) => Err(Fault::CannotWrite),
+        Err(_) => Err(CheckFault::from(Fault::CannotWrite)),
     }
 }

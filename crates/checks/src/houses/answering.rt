@@ -1,12 +1,12 @@
 //! The lines of a reader, answered by a house of the kind that is asked for.
 
-ghost use Rattle.std.specs.Prelude.{◌≡◌, ◌≤◌, ◌^◌, ℕ, List, MatchResult};
-ghost use Rattle.request_lines.specs.Answering.{AreAllAnswered, IsFault};
+ghost use Rattle.std.specs.Prelude.{◌≡◌};
+ghost use Rattle.request_lines.specs.Answering.{HasRun};
 ghost use Rattle.request_lines.specs.Script.{script_rule};
 
 use super::again::Again;
 use super::choice::{Choice, Kind};
-use crate::fault::Fault;
+use crate::check_fault::CheckFault;
 use crate::shared;
 use ocpi_types::{Config, TryCopy};
 use period_order::BookHouse;
@@ -26,15 +26,8 @@ fn run<R: Source, W: Sink, S: Sequential>(
     is_again: bool,
 ) -> Result<Count, ScriptFault>
     requires { S.config house.old ≡ config.now }
-    // So many calls gave these bytes, and what was written answers all their lines, or those that the fault says.
-    ensures told { (calls : ℕ) × (bytes : List ℕ) × (written : List ℕ) × (calls ≤ 2 ^ 40)
-        × R.gives reader.old calls bytes reader.new × W.takes writer.old written writer.new
-        × MatchResult result
-        (λ count. AreAllAnswered (script_rule config.now) bytes
-        (record { start = S.events house.old; written = written; now = S.events house.new }) count)
-        (λ fault. IsFault (script_rule config.now)
-        (record { calls = calls; bytes = bytes; has_failed = R.failed reader.new; at_end = R.at_end reader.new })
-        (record { start = S.events house.old; written = written; now = S.events house.new }) fault) }
+    // The writer took the answers to all lines that the reader returned, or to those before the error.
+    ensures told { HasRun (script_rule config.now) R.reading W.writing (S.events house.old) (S.events house.new) reader.old reader.new writer.old writer.new result }
 {
     if is_again {
         return run_script_by(alloc, reader, writer, config, house, &Again);
@@ -48,7 +41,7 @@ fn answer_by_list<R: Source, W: Sink>(
     is_again: bool,
     reader: &mut R,
     writer: &mut W,
-) -> Result<(), Fault<'static>> {
+) -> Result<(), CheckFault<'static>> {
     let mut house = PlainHouse::new(alloc, config.copy(alloc)?);
     run(alloc, reader, writer, config, &mut house, is_again)?;
     Ok(())
@@ -60,7 +53,7 @@ fn answer_by_books<R: Source, W: Sink>(
     is_again: bool,
     reader: &mut R,
     writer: &mut W,
-) -> Result<(), Fault<'static>> {
+) -> Result<(), CheckFault<'static>> {
     let mut house = BookHouse::new(alloc, config.copy(alloc)?)?;
     run(alloc, reader, writer, config, &mut house, is_again)?;
     Ok(())
@@ -74,7 +67,7 @@ pub fn answer<T: Threads + Wait + Sync, R: Source, W: Sink>(
     file: &[u8],
     reader: &mut R,
     writer: &mut W,
-) -> Result<(), Fault<'static>> {
+) -> Result<(), CheckFault<'static>> {
     let alloc = rt.alloc();
     let config = Config::read(alloc, file)?;
     match choice.kind {

@@ -4,20 +4,21 @@
 ghost use Rattle.std.specs.Prelude.{All, ◌≡◌, IfOk, map};
 ghost use Rattle.shared_house.specs.Points.{AreAdmitted};
 
-use crate::fault::Fault;
+use crate::check_fault::CheckFault;
+use command_line::Fault;
 use exact_money::Amount;
 use ocpi_types::Config;
 use period_order::OrderEntry;
 use plain_house::Answer;
-use shared_house::{CertifyFault, Gathered, Made, certify};
+use shared_house::{Call, CertifyFault, Gathered, certify};
 use std::alloc::{AllocError, Global};
 use std::io;
 use std::thread::Threads;
 
-fn told(written: io::Result<()>) -> Result<(), Fault<'static>> {
+fn told(written: io::Result<()>) -> Result<(), CheckFault<'static>> {
     match written {
         Ok(()) => Ok(()),
-        Err(_) => Err(Fault::CannotWrite),
+        Err(_) => Err(CheckFault::from(Fault::CannotWrite)),
     }
 }
 
@@ -30,7 +31,7 @@ fn tell_with_order<R: Threads + Sync>(
     order: &[OrderEntry],
     change: &str,
     number: usize,
-) -> Result<(), Fault<'static>>
+) -> Result<(), CheckFault<'static>>
     requires { All (λ calls. AreAdmitted config.now calls.items) gathered.now.calls.items }
 {
     let certified = certify(
@@ -47,7 +48,7 @@ fn tell_with_order<R: Threads + Sync>(
         Err(CertifyFault::Torn { entry }) => told(println!(rt;
             "{change} {number}: torn at {entry}"
         )),
-        Err(CertifyFault::NoMemory) => Err(Fault::NoMemory),
+        Err(CertifyFault::NoMemory) => Err(CheckFault::from(Fault::NoMemory)),
     }
 }
 
@@ -84,7 +85,7 @@ fn tell_without<R: Threads + Sync>(
     threads: &R,
     config: &Config,
     gathered: &Gathered,
-) -> Result<(), Fault<'static>>
+) -> Result<(), CheckFault<'static>>
     requires { All (λ calls. AreAdmitted config.now calls.items) gathered.now.calls.items }
 {
     let order = gathered.entries.as_slice();
@@ -101,7 +102,7 @@ fn tell_exchanged<R: Threads + Sync>(
     threads: &R,
     config: &Config,
     gathered: &Gathered,
-) -> Result<(), Fault<'static>>
+) -> Result<(), CheckFault<'static>>
     requires { All (λ calls. AreAdmitted config.now calls.items) gathered.now.calls.items }
 {
     let order = gathered.entries.as_slice();
@@ -124,24 +125,24 @@ fn raise(answer: &mut Answer) {
 }
 
 // The call, with an amount of one ten-thousandth more where it was accepted.
-fn with_more(made: Made) -> Made
-    ensures { result.command ≡ made.command }
+fn with_more(call: Call) -> Call
+    ensures { result.command ≡ call.command }
 {
-    let Made { command, mut reply } = made;
+    let Call { command, mut reply } = call;
     if let Ok(replied) = &mut reply {
         raise(&mut replied.answer);
     }
-    Made { command, reply }
+    Call { command, reply }
 }
 
-fn all_with_more(alloc: Global, config: &Config, calls: Vec<Made>) -> Result<Vec<Made>, AllocError>
+fn all_with_more(alloc: Global, config: &Config, calls: Vec<Call>) -> Result<Vec<Call>, AllocError>
     requires { AreAdmitted config.now calls.items }
     ensures { IfOk result (λ changed. AreAdmitted config.now changed.items) }
 {
     let _ = config;
     let mut changed = Vec::new(alloc);
-    for made in calls {
-        changed.push(with_more(made))?;
+    for call in calls {
+        changed.push(with_more(call))?;
     }
     Ok(changed)
 }
@@ -152,7 +153,7 @@ fn tell_amounts<R: Threads + Sync>(
     threads: &R,
     config: &Config,
     gathered: Gathered,
-) -> Result<(), Fault<'static>>
+) -> Result<(), CheckFault<'static>>
     requires { All (λ calls. AreAdmitted config.now calls.items) gathered.calls.items }
 {
     let Gathered {
@@ -181,7 +182,7 @@ fn tell_all<R: Threads + Sync>(
     threads: &R,
     config: &Config,
     gathered: Gathered,
-) -> Result<(), Fault<'static>>
+) -> Result<(), CheckFault<'static>>
     requires { All (λ calls. AreAdmitted config.now calls.items) gathered.calls.items }
 {
     let order = gathered.entries.as_slice();
@@ -197,11 +198,11 @@ pub fn tell<R: Threads + Sync>(
     threads: &R,
     config: &Config,
     gathered: Result<Gathered, AllocError>,
-) -> Result<(), Fault<'static>>
+) -> Result<(), CheckFault<'static>>
     requires { IfOk gathered (λ gathered. All (λ calls. AreAdmitted config.now calls.items) gathered.calls.items) }
 {
     match gathered {
         Ok(gathered) => tell_all(rt, threads, config, gathered),
-        Err(AllocError) => Err(Fault::NoMemory),
+        Err(AllocError) => Err(CheckFault::from(Fault::NoMemory)),
     }
 }

@@ -1,7 +1,7 @@
 //! The end of a house that has done its work.
 
 use super::{growths, missing_pass};
-use crate::fault::Fault;
+use crate::check_fault::CheckFault;
 use crate::growths::{Outcome, Trial};
 use shared_house::{Ended, FinishFault};
 
@@ -16,9 +16,9 @@ pub enum Ending<'a> {
     /// It is told how the house ends.
     MissingPass,
 
-    /// The call is to have been held up.
-    Held {
-        was_held: bool,
+    /// The call is to have been paused.
+    Paused {
+        was_paused: bool,
     },
 
     /// It is told how the last line was done. The events are to be those that are expected then.
@@ -33,27 +33,33 @@ pub enum Ending<'a> {
     },
 }
 
-fn end_lines(ended: &Result<Ended, FinishFault>, is_again: bool) -> Result<(), Fault<'static>> {
+fn end_lines(
+    ended: &Result<Ended, FinishFault>,
+    is_again: bool,
+) -> Result<(), CheckFault<'static>> {
     match ended {
         Ok(_) => Ok(()),
         Err(FinishFault::NoMemory) if is_again => Ok(()),
-        Err(fault) => Err(Fault::from(*fault)),
+        Err(fault) => Err(CheckFault::from(*fault)),
     }
 }
 
-fn end_held(ended: &Result<Ended, FinishFault>, was_held: bool) -> Result<(), Fault<'static>> {
+fn end_paused(
+    ended: &Result<Ended, FinishFault>,
+    was_paused: bool,
+) -> Result<(), CheckFault<'static>> {
     match ended {
-        Ok(_) if was_held => Ok(()),
-        Ok(_) => Err(Fault::NotHeld),
-        Err(fault) => Err(Fault::from(*fault)),
+        Ok(_) if was_paused => Ok(()),
+        Ok(_) => Err(CheckFault::NotPaused),
+        Err(fault) => Err(CheckFault::from(*fault)),
     }
 }
 
-fn end_texts(ended: &Result<Ended, FinishFault>, events: usize) -> Result<(), Fault<'static>> {
+fn end_texts(ended: &Result<Ended, FinishFault>, events: usize) -> Result<(), CheckFault<'static>> {
     match ended {
         Ok(ended) if ended.events.len() == events => Ok(()),
-        Ok(_) => Err(Fault::NotAsExpected),
-        Err(fault) => Err(Fault::from(*fault)),
+        Ok(_) => Err(CheckFault::NotAsExpected),
+        Err(fault) => Err(CheckFault::from(*fault)),
     }
 }
 
@@ -63,11 +69,11 @@ impl Ending<'_> {
         self,
         rt: &HostRuntime,
         ended: &Result<Ended, FinishFault>,
-    ) -> Result<(), Fault<'static>> {
+    ) -> Result<(), CheckFault<'static>> {
         match self {
             Ending::Lines { is_again } => end_lines(ended, is_again),
             Ending::MissingPass => missing_pass::tell(rt, ended),
-            Ending::Held { was_held } => end_held(ended, was_held),
+            Ending::Paused { was_paused } => end_paused(ended, was_paused),
             Ending::Growths { trial, outcome } => growths::tell_ended(rt, trial, outcome, ended),
             Ending::Texts { events } => end_texts(ended, events),
         }

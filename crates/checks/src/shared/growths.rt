@@ -3,7 +3,7 @@
 ghost use Rattle.std.specs.Prelude.{◌≡◌};
 ghost use Rattle.cdr_checks.specs.Admission.{IsAdmitted};
 
-use crate::fault::Fault;
+use crate::check_fault::CheckFault;
 use crate::growths::{Doing, Outcome, Trial, announced_reply, do_lines, is_done_again, tell};
 use cdr_checks::Command;
 use ocpi_json::same::are_same;
@@ -118,7 +118,7 @@ fn called<N: Names, R: Wait>(
 // Whether the pass keeps the call of this number as one that was refused memory. It need not if it has no place for it.
 fn is_kept<N: Names>(pass: &Pass<N>, number: usize) -> bool {
     match pass.calls().get(number) {
-        Some(made) => is_out_of_memory(&made.reply),
+        Some(call) => is_out_of_memory(&call.reply),
         None => !pass.has_place(),
     }
 }
@@ -151,7 +151,7 @@ pub fn tell_ended(
     trial: &Trial<'_>,
     outcome: Outcome,
     ended: &Result<Ended, FinishFault>,
-) -> Result<(), Fault<'static>> {
+) -> Result<(), CheckFault<'static>> {
     let events = match outcome {
         Outcome::Unchanged => trial.events_before,
         _ => trial.events,

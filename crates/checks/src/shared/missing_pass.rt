@@ -1,6 +1,7 @@
 //! How a house ends without one of its passes.
 
-use crate::fault::Fault;
+use crate::check_fault::CheckFault;
+use command_line::Fault;
 use shared_house::{Ended, FinishFault, Names, Pass};
 
 /// Loses the last of the passes.
@@ -9,15 +10,18 @@ pub fn lose_last<N: Names>(passes: &mut Vec<Pass<N>>) {
 }
 
 /// Tells how the house ended.
-pub fn tell(rt: &HostRuntime, ended: &Result<Ended, FinishFault>) -> Result<(), Fault<'static>> {
+pub fn tell(
+    rt: &HostRuntime,
+    ended: &Result<Ended, FinishFault>,
+) -> Result<(), CheckFault<'static>> {
     let how = match ended {
         Ok(_) => "ended",
         Err(FinishFault::MissingPass) => "a pass is missing",
         Err(FinishFault::Torn { .. }) => "torn",
-        Err(FinishFault::NoMemory) => return Err(Fault::NoMemory),
+        Err(FinishFault::NoMemory) => return Err(CheckFault::from(Fault::NoMemory)),
     };
     match println!(rt; "one of two passes: {how}") {
         Ok(()) => Ok(()),
-        Err(_) => Err(Fault::CannotWrite),
+        Err(_) => Err(CheckFault::from(Fault::CannotWrite)),
     }
 }

@@ -1,7 +1,7 @@
 //! Lines that one pass answers.
 
 use super::caller::Caller;
-use crate::fault::Fault;
+use crate::check_fault::CheckFault;
 use ocpi_json::Room;
 use request_lines::{Sink, Source, run_lines};
 use shared_house::{House, Names, Pass};
@@ -17,7 +17,7 @@ pub fn answer<N: Names, R: Wait, S: Source, W: Sink>(
     is_again: bool,
     reader: &mut S,
     writer: &mut W,
-) -> Result<(), Fault<'static>> {
+) -> Result<(), CheckFault<'static>> {
     let Some(pass) = passes.last_mut() else {
         return Ok(());
     };
@@ -31,6 +31,6 @@ pub fn answer<N: Names, R: Wait, S: Source, W: Sink>(
     };
     match run_lines(alloc, reader, writer, &mut caller) {
         Ok(_) => Ok(()),
-        Err(fault) => Err(Fault::from(fault)),
+        Err(fault) => Err(CheckFault::from(fault)),
     }
 }

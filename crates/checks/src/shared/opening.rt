@@ -6,7 +6,8 @@ ghost use Rattle.shared_house.specs.Names.{IsLedgerOf};
 use super::changes;
 use super::ending::Ending;
 use super::performing::{Next, Work, perform};
-use crate::fault::Fault;
+use crate::check_fault::CheckFault;
+use command_line::Fault;
 use ocpi_types::{Config, TryCopy};
 use request_lines::{Sink, Source};
 use shared_house::{Blanks, Configured, House, Names, Part, Pass, gather};
@@ -22,7 +23,7 @@ fn gather_and_tell<N: Names, R: Threads + Sync>(
     config: &Config,
     house: House<N>,
     passes: Vec<Pass<N>>,
-) -> Result<(), Fault<'static>>
+) -> Result<(), CheckFault<'static>>
     requires config { config.now ≡ N.BookEntries.config }
     requires book_parts { (N.BookEntries.all ≡ N.BookEntries.parts) × (N.BookAmounts.all ≡ N.BookAmounts.parts) }
     requires account_parts { (N.AccountEntries.all ≡ N.AccountEntries.parts) × (N.AccountAmounts.all ≡ N.AccountAmounts.parts) }
@@ -38,7 +39,7 @@ fn finish_and_tell<N: Names, R: Threads + Sync>(
     ending: Ending<'_>,
     house: House<N>,
     passes: Vec<Pass<N>>,
-) -> Result<(), Fault<'static>>
+) -> Result<(), CheckFault<'static>>
     requires book_parts { (N.BookEntries.all ≡ N.BookEntries.parts) × (N.BookAmounts.all ≡ N.BookAmounts.parts) }
     requires account_parts { (N.AccountEntries.all ≡ N.AccountEntries.parts) × (N.AccountAmounts.all ≡ N.AccountAmounts.parts) }
     requires pass_parts { N.Events.all ≡ N.Events.parts }
@@ -56,7 +57,7 @@ fn perform_by<N: Names + Send + Sync, R: Threads + Wait + Sync, S: Source, W: Si
     work: Work<'_>,
     reader: &mut S,
     writer: &mut W,
-) -> Result<(), Fault<'static>>
+) -> Result<(), CheckFault<'static>>
 where
     N::BookEntries: Send + Sync,
     N::BookAmounts: Send + Sync,
@@ -96,7 +97,7 @@ fn perform_under<
     work: Work<'_>,
     reader: &mut S,
     writer: &mut W,
-) -> Result<(), Fault<'static>>
+) -> Result<(), CheckFault<'static>>
     requires config { config ≡ B.config }
     requires copy { copy.now ≡ config }
     requires book_entries { IsLedgerOf blanks.book_entries B.name B.parts B.all (length config.operators) }
@@ -107,7 +108,7 @@ fn perform_under<
 {
     match House::<(B, X, A, Y, E)>::new(rt.alloc(), config, passes, blanks) {
         Ok((house, passes)) => perform_by(rt, threads, copy, house, passes, work, reader, writer),
-        Err(AllocError) => Err(Fault::NoMemory),
+        Err(AllocError) => Err(CheckFault::from(Fault::NoMemory)),
     }
 }
 
@@ -119,7 +120,7 @@ pub fn with_house<R: Threads + Wait + Sync, S: Source, W: Sink>(
     work: Work<'_>,
     reader: &mut S,
     writer: &mut W,
-) -> Result<(), Fault<'static>> {
+) -> Result<(), CheckFault<'static>> {
     let copy = config.copy(rt.alloc())?;
     let passes = work.passes();
     let blanks = Blanks::new(&config, passes);

@@ -1,11 +1,11 @@
 //! What is done by a house and its passes.
 
 use super::ending::Ending;
-use super::{growths, held, missing_pass, one_pass, workers};
-use crate::fault::Fault;
+use super::{growths, missing_pass, one_pass, paused, workers};
+use crate::check_fault::CheckFault;
 use crate::growths::Trial;
 use request_lines::{Sink, Source};
-use shared_house::{House, Names, Pass, Place};
+use shared_house::{House, Names, Pass, Waypoint};
 use std::sync::Wait;
 use std::thread::Threads;
 
@@ -15,7 +15,7 @@ pub enum Next<'a> {
     /// What it leaves behind is gathered, and it is told what is certified of that, as it is and with one change each.
     Gather,
 
-    /// It ends, which is told or held against what is wanted.
+    /// It ends, which is told or compared with what is wanted.
     Finish(Ending<'a>),
 }
 
@@ -31,9 +31,9 @@ pub enum Work<'a> {
     /// The house loses one of two passes.
     MissingPass,
 
-    /// A call is held up at a place while another pass is answered.
-    Held {
-        place: Place,
+    /// A call is paused at a waypoint while another pass is answered.
+    Paused {
+        waypoint: Waypoint,
         files: &'a [String],
     },
 
@@ -56,7 +56,7 @@ impl Work<'_> {
         match self {
             Work::Lines { .. } | Work::Growths { .. } => 1,
             Work::MissingPass => 2,
-            Work::Held { .. } => held::FILES,
+            Work::Paused { .. } => paused::FILES,
             Work::Texts { texts, .. } => texts.len(),
         }
     }
@@ -71,7 +71,7 @@ pub fn perform<'a, N: Names + Send + Sync, R: Threads + Wait + Sync, S: Source, 
     work: Work<'a>,
     reader: &mut S,
     writer: &mut W,
-) -> Result<Next<'a>, Fault<'static>>
+) -> Result<Next<'a>, CheckFault<'static>>
 where
     N::BookEntries: Send + Sync,
     N::BookAmounts: Send + Sync,
@@ -90,7 +90,9 @@ where
             missing_pass::lose_last(passes);
             Ok(Next::Finish(Ending::MissingPass))
         }
-        Work::Held { place, files } => held::answer(rt, threads, house, passes, place, files),
+        Work::Paused { waypoint, files } => paused::answer(
+            rt, threads, house, passes, waypoint, files,
+        ),
         Work::Growths { trial, is_again } => {
             let outcome = growths::outcome(rt, threads, house, passes, trial, is_again);
             Ok(Next::Finish(Ending::Growths { trial, outcome }))

@@ -2,7 +2,8 @@
 
 use super::ending::Ending;
 use super::performing::Next;
-use crate::fault::Fault;
+use crate::check_fault::CheckFault;
+use command_line::Fault;
 use platform_workers::{WorkerEnd, run_platforms};
 use request_lines::{Device, Sink, Source};
 use shared_house::{Gate, House, Names, NoGate, Pass};
@@ -15,11 +16,11 @@ use std::{io, mem};
 fn add_passes<N: Names>(
     workers: Vec<(Pass<N>, WorkerEnd)>,
     passes: &mut Vec<Pass<N>>,
-) -> Result<(), Fault<'static>> {
+) -> Result<(), CheckFault<'static>> {
     for (pass, end) in workers {
         match end {
             WorkerEnd::Done(_) => passes.push(pass)?,
-            WorkerEnd::Failed(fault) => return Err(Fault::from(fault)),
+            WorkerEnd::Failed(fault) => return Err(CheckFault::from(fault)),
         }
     }
     Ok(())
@@ -39,7 +40,7 @@ pub fn answer_pairs<
     passes: &mut Vec<Pass<N>>,
     pairs: Vec<(S, W)>,
     gate: &G,
-) -> Result<(), Fault<'static>>
+) -> Result<(), CheckFault<'static>>
 where
     N::BookEntries: Send + Sync,
     N::BookAmounts: Send + Sync,
@@ -48,12 +49,12 @@ where
     N::Events: Send + Sync,
 {
     if passes.len() != pairs.len() {
-        return Err(Fault::NotAsExpected);
+        return Err(CheckFault::NotAsExpected);
     }
     let given = mem::replace(passes, Vec::new(alloc));
     match run_platforms(threads, alloc, house, given, pairs, gate) {
         Ok(workers) => add_passes(workers, passes),
-        Err(_) => Err(Fault::NoMemory),
+        Err(_) => Err(CheckFault::from(Fault::NoMemory)),
     }
 }
 
@@ -77,7 +78,7 @@ pub fn answer_texts<N: Names + Send + Sync, R: Threads + Wait + Sync>(
     passes: &mut Vec<Pass<N>>,
     texts: &[Vec<u8>],
     events: usize,
-) -> Result<Next<'static>, Fault<'static>>
+) -> Result<Next<'static>, CheckFault<'static>>
 where
     N::BookEntries: Send + Sync,
     N::BookAmounts: Send + Sync,

@@ -2,7 +2,7 @@
 use Rattle.std.specs.Prelude.{◌≡◌, ℕ, Bool, List, true, false, Option, Some, None, is_some, if◌then◌else◌, option_map, option_and_then, slice_get}
 use Rattle.cdr_checks.specs.declared.request.Command.{Command}
 use Rattle.plain_house.specs.declared.event.Event.{Event}
-use Rattle.house_core.specs.declared.call.Call.{Call}
+use Rattle.house_core.specs.declared.running_call.RunningCall.{RunningCall}
 use Rattle.house_core.specs.declared.stage.Netting.{Netting}
 use Rattle.house_core.specs.declared.stage.Stage.{Stage}
 use Rattle.house_core.specs.declared.stage.Stage.TheVariants as stage
@@ -17,14 +17,14 @@ use Rattle.house_core.specs.Locks.{Lock}
 use Rattle.house_core.specs.Steps.{collect_at}
 use Rattle.house_core.specs.World.{PlainWorld}
 
-abbrev pub begun_when : ℕ → Call → Option Command → Call
+abbrev pub begun_when : ℕ → RunningCall → Option Command → RunningCall
 begun_when point call None = call
 begun_when point call (Some command) = record call { begin = point; stage = stage.Begun command }
 
-abbrev pub begun_call : ℕ → Call → Call
+abbrev pub begun_call : ℕ → RunningCall → RunningCall
 begun_call point call = begun_when point call (waiting call.stage)
 
-abbrev pub without_command : Call → Call
+abbrev pub without_command : RunningCall → RunningCall
 without_command call = if is_some (begun call.stage) then record call { stage = stage.Ended } else call
 
 abbrev pub carried_event : Stage → Option (Event × ℕ)
@@ -39,18 +39,18 @@ without_event (stage.Stating stating) = stage.Stating stating
 without_event stage.Ended = stage.Ended
 
 -- the call with what it collects of that operator's book
-abbrev pub collected_call : Config → ℕ → Option Operator → Option (Lock BookEntry) → Call → Call
+abbrev pub collected_call : Config → ℕ → Option Operator → Option (Lock BookEntry) → RunningCall → RunningCall
 collected_call config number operator lock call = option_map_or (λ change. change.call) (collect_at config number call operator lock) call
 
 -- the call puts into its account next, or into its book
-abbrev pub IsPuttingAccount : Call → Type 0
+abbrev pub IsPuttingAccount : RunningCall → Type 0
 IsPuttingAccount call = is_some (for_account call) ≡ true
 
-abbrev pub IsPuttingBook : Call → Type 0
+abbrev pub IsPuttingBook : RunningCall → Type 0
 IsPuttingBook call = is_some (for_book call) ≡ true
 
 -- without its book, and with nothing to put
-abbrev pub put_in_its_book : Call → Call
+abbrev pub put_in_its_book : RunningCall → RunningCall
 put_in_its_book call = record call { has_book = false; stage = without_event call.stage }
 
 -- the command of the call of that number, where it is ready

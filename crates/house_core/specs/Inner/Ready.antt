@@ -11,7 +11,7 @@ use Rattle.operator_book.specs.Due.{due}
 use Rattle.plain_house.specs.declared.entry.BookEntry.{BookEntry}
 use Rattle.plain_house.specs.declared.event.Event.{Event}
 use Rattle.period_order.specs.Decided.{AccountTakes, BookTakes}
-use Rattle.house_core.specs.declared.call.Call.{Call}
+use Rattle.house_core.specs.declared.running_call.RunningCall.{RunningCall}
 use Rattle.house_core.specs.declared.locks.AccountLock.{AccountLock}
 use Rattle.house_core.specs.declared.locks.BookLock.{BookLock}
 use Rattle.house_core.specs.declared.parts.Parts.{Parts}
@@ -27,21 +27,21 @@ use Rattle.house_core.specs.Locks.{Lock}
 use Rattle.house_core.specs.World.{PlainWorld}
 
 -- the book takes the event that the call carries, if it carries one
-abbrev pub BookIsReady : Call → BookLock → Type 0
+abbrev pub BookIsReady : RunningCall → BookLock → Type 0
 BookIsReady call lock =
     (carried : Carried) (event : Event) → ordered call.stage ≡ Some carried → carried.event ≡ Some event →
     (lock.book.has_room ≡ true) × BookTakes lock.book.entries event
 
 -- and the account
-abbrev pub AccountIsReady : Call → AccountLock → Type 0
+abbrev pub AccountIsReady : RunningCall → AccountLock → Type 0
 AccountIsReady call lock =
     (carried : Carried) (event : Event) → ordered call.stage ≡ Some carried → carried.event ≡ Some event →
     (lock.account.has_room ≡ true) × AccountTakes lock.account.entries carried.period event
 
 -- so it is for each call and the lock that it holds
-abbrev pub AreReady : {L : Type 0} → (Call → Option ℕ) → (Call → L → Type 0) → List Call → List L → Type 0
+abbrev pub AreReady : {L : Type 0} → (RunningCall → Option ℕ) → (RunningCall → L → Type 0) → List RunningCall → List L → Type 0
 AreReady {L} held IsReady calls locks =
-    (number at : ℕ) (call : Call) (lock : L) → slice_get calls number ≡ Some call → held call ≡ Some at → slice_get locks at ≡ Some lock →
+    (number at : ℕ) (call : RunningCall) (lock : L) → slice_get calls number ≡ Some call → held call ≡ Some at → slice_get locks at ≡ Some lock →
     IsReady call lock
 
 abbrev pub shown : Parts → PlainWorld
@@ -67,8 +67,8 @@ pub record AreSound (parts : Parts) : Type 0 where
 
 -- the book and the account of that call have room for one more entry, and so has the order
 pub record HaveRoom (parts : Parts) (number : ℕ) : Type 0 where
-  pub book : (call : Call) (at : ℕ) (lock : BookLock) → slice_get parts.calls.items number ≡ Some call → call.book ≡ Some at → slice_get parts.books.items at ≡ Some lock → lock.book.has_room ≡ true
-  pub account : (call : Call) (at : ℕ) (lock : AccountLock) → slice_get parts.calls.items number ≡ Some call → call.account ≡ Some at → slice_get parts.accounts.items at ≡ Some lock → lock.account.has_room ≡ true
+  pub book : (call : RunningCall) (at : ℕ) (lock : BookLock) → slice_get parts.calls.items number ≡ Some call → call.book ≡ Some at → slice_get parts.books.items at ≡ Some lock → lock.book.has_room ≡ true
+  pub account : (call : RunningCall) (at : ℕ) (lock : AccountLock) → slice_get parts.calls.items number ≡ Some call → call.account ≡ Some at → slice_get parts.accounts.items at ≡ Some lock → lock.account.has_room ≡ true
   pub order : parts.order.has_room ≡ true
 
 -- what an operator of that number is owed can be collected from its free book into the table of that stage

@@ -8,7 +8,7 @@ use Rattle.plain_house.specs.declared.event.Event.{Event}
 use Rattle.plain_house.specs.Replies.{stamped}
 use Rattle.period_order.specs.Kept.{Keeps}
 use Rattle.period_order.specs.Places.{operator_number, provider_number}
-use Rattle.house_core.specs.declared.call.Call.{Call}
+use Rattle.house_core.specs.declared.running_call.RunningCall.{RunningCall}
 use Rattle.house_core.specs.declared.stage.Stage.{Stage}
 use Rattle.house_core.specs.declared.stage.Stage.TheVariants as stage
 use Rattle.house_core.specs.Calls.{held_account, held_book}
@@ -31,7 +31,7 @@ IsAt config events command begin (stage.Stating stating) = IsStating config even
 IsAt config events command begin stage.Ended = Unit {0}
 
 -- it is the call of an admitted command, with that command's book and account
-pub record IsCall (config : Config) (events : List Event) (command : Command) (call : Call) : Type 0 where
+pub record IsRunningCall (config : Config) (events : List Event) (command : Command) (call : RunningCall) : Type 0 where
   pub admitted : IsAdmitted config command
   pub book : call.book ≡ option_map (operator_number config) (operator_of_command command)
   pub account : call.account ≡ option_map (provider_number config) (provider_of_command command)
@@ -45,4 +45,4 @@ pub record Holds (config : Config) (commands : List Command) (events : List Even
   pub kept : Keeps config (map (whole_book world.calls) world.books) (map (whole_account world.calls) world.accounts) world.order events
   pub books : Agree held_book world.books world.calls
   pub accounts : Agree held_account world.accounts world.calls
-  pub calls : (number : ℕ) (call : Call) → slice_get world.calls number ≡ Some call → (command : Command) × (slice_get commands number ≡ Some command) × IsCall config events command call
+  pub calls : (number : ℕ) (call : RunningCall) → slice_get world.calls number ≡ Some call → (command : Command) × (slice_get commands number ≡ Some command) × IsRunningCall config events command call

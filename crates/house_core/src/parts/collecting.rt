@@ -9,8 +9,8 @@ ghost use Rattle.house_core.specs.Inner.Shown.{shown_books};
 ghost use Rattle.house_core.specs.Steps.{collected};
 
 use super::Parts;
-use crate::call::Call;
 use crate::locks::BookLock;
+use crate::running_call::RunningCall;
 use crate::stage::{Netting, Stage, Stating};
 use ocpi_types::Config;
 use ocpi_types::config::Operator;
@@ -76,7 +76,7 @@ fn collect_stage(
 }
 
 // Adds to the call's table what the operator of that number is owed, where its book is free and still to be collected.
-fn collect_book(config: &Config, locks: &[BookLock], call: &mut Call, number: usize)
+fn collect_book(config: &Config, locks: &[BookLock], call: &mut RunningCall, number: usize)
     requires fits { CanCollect config.now (shown_books locks.now) number call.old.stage }
     ensures { call.new ≡ collected_call config.now number (slice_get config.now.operators number) (slice_get (shown_books locks.now) number) call.old }
 {

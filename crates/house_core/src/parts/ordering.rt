@@ -5,15 +5,15 @@ ghost use Rattle.house_core.specs.Calls.{ready};
 ghost use Rattle.house_core.specs.Inner.Tables.{table_for};
 
 use super::Parts;
-use crate::call::Call;
 use crate::locks::{account_at, book_at, reserve_account, reserve_book};
+use crate::running_call::RunningCall;
 use crate::table::{Table, stage_with};
 use ocpi_types::Config;
 use period_order::decide;
 use std::alloc::{AllocError, Global};
 
 // The table for the call's command, once the call holds all that it needs.
-fn table_of(alloc: Global, config: &Config, call: &Call) -> Result<Option<Table>, AllocError>
+fn table_of(alloc: Global, config: &Config, call: &RunningCall) -> Result<Option<Table>, AllocError>
     ensures ok { IfOk result (λ table. table ≡ option_map (table_for config.now) (ready call.now)) }
     ensures memory { OnErr result (is_some (ready call.now) ≡ true) }
 {

@@ -6,12 +6,12 @@ ghost use Rattle.house_core.specs.Inner.Moves.{IsPuttingAccount, IsPuttingBook, 
 ghost use Rattle.house_core.specs.Inner.Ready.{AccountIsReady, BookIsReady};
 
 use super::Parts;
-use crate::call::Call;
 use crate::locks::{AccountLock, BookLock};
+use crate::running_call::RunningCall;
 use period_order::{put_in_account, put_in_book};
 
 // Puts what the call carries into its account, and gives the lock back.
-fn put_account(call: &Call, lock: &mut AccountLock)
+fn put_account(call: &RunningCall, lock: &mut AccountLock)
     requires puts { IsPuttingAccount call.now }
     requires ready { AccountIsReady call.now lock.old }
     ensures holder { lock.new.holder ≡ None }
@@ -26,7 +26,7 @@ fn put_account(call: &Call, lock: &mut AccountLock)
 }
 
 // Puts what the call carries into its book, and gives the lock back; nothing is carried then.
-fn put_book(call: &mut Call, lock: &mut BookLock)
+fn put_book(call: &mut RunningCall, lock: &mut BookLock)
     requires puts { IsPuttingBook call.old }
     requires ready { BookIsReady call.old lock.old }
     ensures call { call.new ≡ put_in_its_book call.old }

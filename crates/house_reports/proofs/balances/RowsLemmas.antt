@@ -1,4 +1,4 @@
--- Rows of bookings that are narrowed step by step are the rows of their places.
+-- Rows of bookings that are narrowed step by step are the rows of their keys.
 use Rattle.std.proofs.Common.{◌≡◌, ℕ, suc, ◌+◌, List, ◌++◌, ◌&&◌, ap, ap₂, sym, ◌∙◌, arith, filter, map}
 use Rattle.std.specs.Prelude.{flat_map}
 use Rattle.std.proofs.lemmas.List.Concat.{flat_map-append}
@@ -7,7 +7,7 @@ use Rattle.ocpi_types.specs.Currency.{same_currency}
 use Rattle.ocpi_types.specs.Party.{same_party}
 use Rattle.ocpi_types.specs.declared.config.Config.{Config}
 use Rattle.ocpi_types.specs.declared.party.Party.{Party}
-use Rattle.house_reports.specs.balances.Balances.{is_of, operators, place_of, places, places_in, providers, row_at, row_of}
+use Rattle.house_reports.specs.balances.Balances.{is_of, operators, key_of, row_keys, row_keys_in, providers, row_at, row_of}
 use Rattle.house_reports.specs.balances.Inner.Narrowed.{of_currency, of_operator, of_period, of_provider, rows_of_currency, rows_of_operator, rows_of_period}
 use Rattle.house_reports.specs.balances.Laws.{is_in}
 use Rattle.house_reports.specs.declared.balances.booking.Booking.{Booking}
@@ -16,7 +16,7 @@ use Rattle.house_reports.proofs.balances.ListLemmas.{filter-filter, flat_map-fla
 
 module _ (bookings : List Booking) (period : ℕ) where
   narrowed : (currency : List ℕ) (operator provider : Party)
-      → of_provider provider (of_operator operator (of_currency currency (of_period period bookings))) ≡ filter (is_of (place_of period currency operator provider)) bookings
+      → of_provider provider (of_operator operator (of_currency currency (of_period period bookings))) ≡ filter (is_of (key_of period currency operator provider)) bookings
   narrowed currency operator provider =
       ap (λ found. of_provider provider (of_operator operator found)) (filter-filter (λ b. same_currency b.currency currency) (is_in period) bookings)
       ∙ ap (of_provider provider) (filter-filter (λ b. same_party b.operator operator) (λ b. is_in period b && same_currency b.currency currency) bookings)
@@ -24,35 +24,35 @@ module _ (bookings : List Booking) (period : ℕ) where
 
   module _ (currency : List ℕ) (operator : Party) (providers : List Party) where
     of_operator_rows : rows_of_operator period currency operator providers (of_operator operator (of_currency currency (of_period period bookings)))
-        ≡ flat_map (row_at bookings) (map (place_of period currency operator) providers)
+        ≡ flat_map (row_at bookings) (map (key_of period currency operator) providers)
     of_operator_rows =
-        flat_map_alike (λ provider. row_of (place_of period currency operator provider) (of_provider provider (of_operator operator (of_currency currency (of_period period bookings)))))
-        (λ provider. row_at bookings (place_of period currency operator provider)) (λ provider. ap (row_of (place_of period currency operator provider)) (narrowed currency operator provider)) providers
-        ∙ sym (flat_map-map (row_at bookings) (place_of period currency operator) providers)
+        flat_map_alike (λ provider. row_of (key_of period currency operator provider) (of_provider provider (of_operator operator (of_currency currency (of_period period bookings)))))
+        (λ provider. row_at bookings (key_of period currency operator provider)) (λ provider. ap (row_of (key_of period currency operator provider)) (narrowed currency operator provider)) providers
+        ∙ sym (flat_map-map (row_at bookings) (key_of period currency operator) providers)
 
   module _ (currency : List ℕ) (operators providers : List Party) where
     of_currency_rows : rows_of_currency period currency operators providers (of_currency currency (of_period period bookings))
-        ≡ flat_map (row_at bookings) (flat_map (λ operator. map (place_of period currency operator) providers) operators)
+        ≡ flat_map (row_at bookings) (flat_map (λ operator. map (key_of period currency operator) providers) operators)
     of_currency_rows =
         flat_map_alike (λ operator. rows_of_operator period currency operator providers (of_operator operator (of_currency currency (of_period period bookings))))
-        (λ operator. flat_map (row_at bookings) (map (place_of period currency operator) providers)) (λ operator. of_operator_rows currency operator providers) operators
-        ∙ sym (flat_map-flat_map (row_at bookings) (λ operator. map (place_of period currency operator) providers) operators)
+        (λ operator. flat_map (row_at bookings) (map (key_of period currency operator) providers)) (λ operator. of_operator_rows currency operator providers) operators
+        ∙ sym (flat_map-flat_map (row_at bookings) (λ operator. map (key_of period currency operator) providers) operators)
 
-  rows_in : (config : Config) → rows_of_period period config.currencies (operators config) (providers config) (of_period period bookings) ≡ flat_map (row_at bookings) (places_in config period)
+  rows_in : (config : Config) → rows_of_period period config.currencies (operators config) (providers config) (of_period period bookings) ≡ flat_map (row_at bookings) (row_keys_in config period)
   rows_in config =
       flat_map_alike (λ currency. rows_of_currency period currency (operators config) (providers config) (of_currency currency (of_period period bookings)))
-      (λ currency. flat_map (row_at bookings) (flat_map (λ operator. map (place_of period currency operator) (providers config)) (operators config)))
+      (λ currency. flat_map (row_at bookings) (flat_map (λ operator. map (key_of period currency operator) (providers config)) (operators config)))
       (λ currency. of_currency_rows currency (operators config) (providers config)) config.currencies
-      ∙ sym (flat_map-flat_map (row_at bookings) (λ currency. flat_map (λ operator. map (place_of period currency operator) (providers config)) (operators config)) config.currencies)
+      ∙ sym (flat_map-flat_map (row_at bookings) (λ currency. flat_map (λ operator. map (key_of period currency operator) (providers config)) (operators config)) config.currencies)
 
 -- the rows of one period more
 pub rows_step : (config : Config) (bookings : List Booking) (period next : ℕ) (before after added : List Row) → next ≡ period + 1
     → added ≡ rows_of_period period config.currencies (operators config) (providers config) (of_period period bookings)
-    → after ≡ before ++ added → before ≡ flat_map (row_at bookings) (places config period) → after ≡ flat_map (row_at bookings) (places config next)
+    → after ≡ before ++ added → before ≡ flat_map (row_at bookings) (row_keys config period) → after ≡ flat_map (row_at bookings) (row_keys config next)
 rows_step config bookings period next before after added next_is added_is after_is before_is =
     after_is ∙ ap₂ (λ (l m : List Row). l ++ m) before_is (added_is ∙ rows_in bookings period config)
-    ∙ sym (flat_map-append (row_at bookings) (places config period) (places_in config period))
-    ∙ ap (λ n. flat_map (row_at bookings) (places config n)) (is_next period next next_is)
+    ∙ sym (flat_map-append (row_at bookings) (row_keys config period) (row_keys_in config period))
+    ∙ ap (λ n. flat_map (row_at bookings) (row_keys config n)) (is_next period next next_is)
   where
     is_next : (n m : ℕ) → m ≡ n + 1 → suc n ≡ m
     is_next n m e = omega (arith, e)

@@ -3,7 +3,7 @@ use Rattle.std.specs.Prelude.{ℕ, List, [], ◌∷◌, ◌++◌, codes, decimal
 use Rattle.csv.specs.Writing.{default_writer, row_text}
 use Rattle.exact_money.specs.Amount.{amount_text}
 use Rattle.ocpi_types.specs.Party.{party_text}
-use Rattle.house_reports.specs.declared.balances.row.Place.{Place}
+use Rattle.house_reports.specs.declared.balances.row.RowKey.{RowKey}
 use Rattle.house_reports.specs.declared.balances.row.Row.{Row}
 
 -- the fields with commas between them, quoted where they have to be, and a newline
@@ -12,27 +12,27 @@ record_text fields = row_text default_writer fields
 
 -- ---- the header
 
-abbrev pub place_heads : List (List ℕ)
-place_heads = codes "period" ∷ codes "currency" ∷ codes "operator" ∷ codes "provider" ∷ []
+abbrev pub key_heads : List (List ℕ)
+key_heads = codes "period" ∷ codes "currency" ∷ codes "operator" ∷ codes "provider" ∷ []
 
 abbrev pub amount_heads : List (List ℕ)
 amount_heads = codes "owed" ∷ codes "settled" ∷ codes "open" ∷ []
 
 unfoldable pub header : List (List ℕ)
-header = place_heads ++ amount_heads
+header = key_heads ++ amount_heads
 
 -- ---- a row
 
-abbrev pub place_fields : Place → List (List ℕ)
-place_fields place =
-    decimal place.period ∷ place.currency ∷ party_text place.operator ∷ party_text place.provider ∷ []
+abbrev pub key_fields : RowKey → List (List ℕ)
+key_fields key =
+    decimal key.period ∷ key.currency ∷ party_text key.operator ∷ party_text key.provider ∷ []
 
 -- with four decimals
 abbrev pub amount_fields : Row → List (List ℕ)
 amount_fields row = amount_text row.owed ∷ amount_text row.settled ∷ amount_text row.outstanding ∷ []
 
 unfoldable pub row_fields : Row → List (List ℕ)
-row_fields row = place_fields row.place ++ amount_fields row
+row_fields row = key_fields row.key ++ amount_fields row
 
 -- ---- the text
 

@@ -10,7 +10,7 @@ use Rattle.plain_house.specs.declared.event.Event.{Event}
 use Rattle.plain_house.specs.Entries.{period_of}
 use Rattle.house_reports.specs.balances.Bookings.{bookings}
 use Rattle.house_reports.specs.declared.balances.booking.Booking.{Booking}
-use Rattle.house_reports.specs.declared.balances.row.Place.{Place}
+use Rattle.house_reports.specs.declared.balances.row.RowKey.{RowKey}
 use Rattle.house_reports.specs.declared.balances.row.Row.{Row}
 
 -- ---- sums
@@ -23,9 +23,9 @@ owed bookings = total (map (λ booking. booking.amount) bookings)
 abbrev pub settled : List Booking → ℤ
 settled bookings = owed (filter (λ booking. booking.is_settled) bookings)
 
-abbrev pub sums_of : Place → List Booking → Row
-sums_of place bookings = record {
-  place = place;
+abbrev pub sums_of : RowKey → List Booking → Row
+sums_of key bookings = record {
+  key = key;
   owed = owed bookings;
   settled = settled bookings;
   outstanding = owed bookings -ℤ settled bookings;
@@ -34,18 +34,18 @@ sums_of place bookings = record {
 -- ---- rows
 
 -- no row where nothing is booked
-abbrev pub row_of : Place → List Booking → List Row
-row_of place [] = []
-row_of place (booking ∷ more) = sums_of place (booking ∷ more) ∷ []
+abbrev pub row_of : RowKey → List Booking → List Row
+row_of key [] = []
+row_of key (booking ∷ more) = sums_of key (booking ∷ more) ∷ []
 
-abbrev pub is_of : Place → Booking → Bool
-is_of place booking =
-    (booking.period == place.period) && same_currency booking.currency place.currency
-    && same_party booking.operator place.operator && same_party booking.provider place.provider
+abbrev pub is_of : RowKey → Booking → Bool
+is_of key booking =
+    (booking.period == key.period) && same_currency booking.currency key.currency
+    && same_party booking.operator key.operator && same_party booking.provider key.provider
 
--- the row of what is booked of the place
-abbrev pub row_at : List Booking → Place → List Row
-row_at bookings place = row_of place (filter (is_of place) bookings)
+-- the row of what is booked by the key
+abbrev pub row_at : List Booking → RowKey → List Row
+row_at bookings key = row_of key (filter (is_of key) bookings)
 
 abbrev pub operators : Config → List Party
 operators config = map (λ operator. operator.party) config.operators
@@ -54,20 +54,20 @@ operators config = map (λ operator. operator.party) config.operators
 abbrev pub providers : Config → List Party
 providers config = map (λ provider. as_configured config provider.party) config.providers
 
-abbrev pub place_of : ℕ → List ℕ → Party → Party → Place
-place_of period currency operator provider =
+abbrev pub key_of : ℕ → List ℕ → Party → Party → RowKey
+key_of period currency operator provider =
     record { period = period; currency = currency; operator = operator; provider = provider }
 
 -- by currency, operator and provider, each in the order of the configuration
-abbrev pub places_in : Config → ℕ → List Place
-places_in config period =
-    flat_map (λ currency. flat_map (λ operator. map (place_of period currency operator) (providers config)) (operators config)) config.currencies
+abbrev pub row_keys_in : Config → ℕ → List RowKey
+row_keys_in config period =
+    flat_map (λ currency. flat_map (λ operator. map (key_of period currency operator) (providers config)) (operators config)) config.currencies
 
 -- those of so many periods, from 0
-abbrev pub places : Config → ℕ → List Place
-places config zero = []
-places config (suc period) = places config period ++ places_in config period
+abbrev pub row_keys : Config → ℕ → List RowKey
+row_keys config zero = []
+row_keys config (suc period) = row_keys config period ++ row_keys_in config period
 
--- a row for each place of which something is booked, up to the current period
+-- a row for each key by which something is booked, up to the current period
 abbrev pub rows : Config → List Event → List Row
-rows config events = flat_map (row_at (bookings events)) (places config (suc (period_of events)))
+rows config events = flat_map (row_at (bookings events)) (row_keys config (suc (period_of events)))

@@ -10,7 +10,7 @@ ghost use Rattle.house_reports.specs.balances.Inner.Narrowed.{of_period, rows_of
 
 use super::booking::{Booking, bookings};
 use super::laws::bookings_are_obligations;
-use super::row::{Place, Row, of_currency, of_operator, of_period, of_provider, row_of};
+use super::row::{Row, RowKey, of_currency, of_operator, of_period, of_provider, row_of};
 use ocpi_types::{Config, Currency, Party};
 use plain_house::{Event, period_of};
 use std::alloc::{AllocError, Global};
@@ -38,13 +38,13 @@ fn add_operator(
 {
     for provider in listed.providers.as_slice() {
         let booked = of_provider(alloc, bookings, provider)?;
-        let place = Place {
+        let key = RowKey {
             period,
             currency: *currency,
             operator: *operator,
             provider: *provider,
         };
-        if let Some(row) = row_of(place, booked.as_slice()) {
+        if let Some(row) = row_of(key, booked.as_slice()) {
             rows.push(row)?;
         }
     }

@@ -1,10 +1,10 @@
 //! What a row shows, column by column, and the heads of the columns.
 
 ghost use Rattle.std.specs.Prelude.{◌≡◌, ◌∷◌, IfOk, map};
-ghost use Rattle.house_reports.specs.balances.BalanceText.{amount_fields, amount_heads, header, place_fields, place_heads, row_fields};
-ghost use Rattle.house_reports.specs.balances.Inner.Fields.{texts_of, texts_of_amounts, texts_of_place};
+ghost use Rattle.house_reports.specs.balances.BalanceText.{amount_fields, amount_heads, header, key_fields, key_heads, row_fields};
+ghost use Rattle.house_reports.specs.balances.Inner.Fields.{texts_of, texts_of_amounts, texts_of_key};
 
-use super::row::{Place, Row};
+use super::row::{Row, RowKey};
 use std::alloc::{AllocError, Global};
 
 /// How many columns there are.
@@ -14,7 +14,7 @@ pub const COLUMNS: usize = 7;
 pub const FIRST_AMOUNT: usize = 4;
 
 #[derive(Drop)]
-struct PlaceTexts {
+struct KeyTexts {
     period: String,
     currency: String,
     operator: String,
@@ -31,7 +31,7 @@ struct AmountTexts {
 /// The texts of a line.
 #[derive(Drop)]
 pub struct Fields {
-    place: PlaceTexts,
+    key: KeyTexts,
     amounts: AmountTexts,
 }
 
@@ -41,10 +41,10 @@ impl Fields {
         ensures { map (λ text. text.now) result ≡ texts_of self.now }
     {
         [
-            self.place.period.as_str(),
-            self.place.currency.as_str(),
-            self.place.operator.as_str(),
-            self.place.provider.as_str(),
+            self.key.period.as_str(),
+            self.key.currency.as_str(),
+            self.key.operator.as_str(),
+            self.key.provider.as_str(),
             self.amounts.owed.as_str(),
             self.amounts.settled.as_str(),
             self.amounts.outstanding.as_str(),
@@ -52,10 +52,10 @@ impl Fields {
     }
 }
 
-fn heads_of_place(alloc: Global) -> Result<PlaceTexts, AllocError>
-    ensures { IfOk result (λ heads. texts_of_place heads ≡ place_heads) }
+fn heads_of_key(alloc: Global) -> Result<KeyTexts, AllocError>
+    ensures { IfOk result (λ heads. texts_of_key heads ≡ key_heads) }
 {
-    Ok(PlaceTexts {
+    Ok(KeyTexts {
         period: String::from_str(alloc, "period")?,
         currency: String::from_str(alloc, "currency")?,
         operator: String::from_str(alloc, "operator")?,
@@ -78,19 +78,19 @@ fn heads(alloc: Global) -> Result<Fields, AllocError>
     ensures { IfOk result (λ heads. texts_of heads ≡ header) }
 {
     Ok(Fields {
-        place: heads_of_place(alloc)?,
+        key: heads_of_key(alloc)?,
         amounts: heads_of_amounts(alloc)?,
     })
 }
 
-fn place_of(alloc: Global, place: &Place) -> Result<PlaceTexts, AllocError>
-    ensures { IfOk result (λ texts. texts_of_place texts ≡ place_fields place.now) }
+fn key_of(alloc: Global, key: &RowKey) -> Result<KeyTexts, AllocError>
+    ensures { IfOk result (λ texts. texts_of_key texts ≡ key_fields key.now) }
 {
-    Ok(PlaceTexts {
-        period: place.period.to_string(alloc)?,
-        currency: String::from_str(alloc, place.currency.as_str())?,
-        operator: place.operator.to_string(alloc)?,
-        provider: place.provider.to_string(alloc)?,
+    Ok(KeyTexts {
+        period: key.period.to_string(alloc)?,
+        currency: String::from_str(alloc, key.currency.as_str())?,
+        operator: key.operator.to_string(alloc)?,
+        provider: key.provider.to_string(alloc)?,
     })
 }
 
@@ -109,7 +109,7 @@ fn fields_of(alloc: Global, row: &Row) -> Result<Fields, AllocError>
     ensures { IfOk result (λ fields. texts_of fields ≡ row_fields row.now) }
 {
     Ok(Fields {
-        place: place_of(alloc, &row.place)?,
+        key: key_of(alloc, &row.key)?,
         amounts: amounts_of(alloc, row)?,
     })
 }

@@ -2,7 +2,7 @@
 
 ghost use Rattle.std.specs.Prelude.{◌≡◌, ◌↔◌, length, slice_get, string_bytes, IfErr, IfOk, IfSome};
 
-use house_program::StartFault;
+use command_line::Fault;
 
 /// How rows are printed.
 #[derive(Clone, Copy)]
@@ -22,15 +22,15 @@ pub struct Asked<'a> {
 }
 
 /// What is asked for; the command's name is the first of the words.
-pub fn asked_of(words: &[String]) -> Result<Asked<'_>, StartFault<'static>>
+pub fn asked_of(words: &[String]) -> Result<Asked<'_>, Fault<'static>>
     ensures path { IfOk result (λ asked. IfSome (slice_get words.now 1) (λ given. asked.path.now ≡ string_bytes given)) }
     ensures csv { IfOk result (λ asked. (asked.form ≡ Form.Csv) ↔ (length words.now ≡ 2)) }
-    ensures fault { IfErr result (λ fault. fault ≡ StartFault.Usage) }
+    ensures fault { IfErr result (λ fault. fault ≡ Fault.Usage) }
 {
     let (path, form) = match words {
         [_, path] => (path, Form::Csv),
         [_, path, word] if matches!(word.as_str(), "--table" | "-table") => (path, Form::Table),
-        _ => return Err(StartFault::Usage),
+        _ => return Err(Fault::Usage),
     };
     Ok(Asked {
         path: path.as_str(),

@@ -10,7 +10,8 @@ use super::csv_text::csv_of;
 use super::fields::{Fields, lines_of};
 use super::form::Form;
 use super::terminal_text::table_of;
-use crate::ended_house::{EndedHouse, Fault, write_text};
+use crate::ended_house::{EndedHouse, write_text};
+use command_line::Fault;
 use plain_house::legal_lists_can_be_netted;
 use request_lines::Sink;
 use std::alloc::{AllocError, Global};
@@ -42,7 +43,7 @@ pub fn print<W: Sink>(
     ended: &EndedHouse,
     form: Form,
 ) -> Result<(), Fault<'static>>
-    ensures { form ≡ Form.Csv → OnOk result (W.takes writer.old (balance_text (rows ended.now.config ended.now.events)) writer.new) }
+    ensures { form ≡ Form.Csv → OnOk result (W.writing.takes writer.old (balance_text (rows ended.now.config ended.now.events)) writer.new) }
 {
     let text = text_of(alloc, ended, form)?;
     write_text(writer, text.as_slice())

@@ -10,19 +10,19 @@ use exact_money::Amount;
 use ocpi_types::{Currency, Party};
 use std::alloc::{AllocError, Global};
 
-/// Where something is booked.
+/// The period, the currency and the parties of a row.
 #[derive(Clone, Copy)]
-pub struct Place {
+pub struct RowKey {
     pub period: u64,
     pub currency: Currency,
     pub operator: Party,
     pub provider: Party,
 }
 
-/// What is booked of a place: of an operator and a provider, in a period and a currency.
+/// What is booked by one key.
 #[derive(Clone, Copy)]
 pub struct Row {
-    pub place: Place,
+    pub key: RowKey,
     /// CDRs less Credit CDRs.
     pub owed: Amount,
     /// What of it a settlement ended.
@@ -80,27 +80,27 @@ fn left_of(owed: i128, settled: i128) -> Amount
 }
 
 #[tactic(auto, using(crate::proofs::balances::SizeLemmas::open_small))]
-fn sums_of(place: Place, bookings: &[Booking]) -> Row
+fn sums_of(key: RowKey, bookings: &[Booking]) -> Row
     requires { size bookings.now < 2 ^ 63 }
-    ensures { result ≡ sums_of place bookings.now }
+    ensures { result ≡ sums_of key bookings.now }
 {
     let owed = owed(bookings);
     let settled = settled(bookings);
     Row {
-        place,
+        key,
         owed: amount_of(owed),
         settled: amount_of(settled),
         outstanding: left_of(owed, settled),
     }
 }
 
-/// The row of what is booked of one place, if anything is.
-pub fn row_of(place: Place, bookings: &[Booking]) -> Option<Row>
+/// The row of what is booked by one key, if anything is.
+pub fn row_of(key: RowKey, bookings: &[Booking]) -> Option<Row>
     requires { size bookings.now < 2 ^ 63 }
-    ensures { option_to_list result ≡ row_of place bookings.now }
+    ensures { option_to_list result ≡ row_of key bookings.now }
 {
     match bookings.split_first() {
-        Some(_) => Some(sums_of(place, bookings)),
+        Some(_) => Some(sums_of(key, bookings)),
         None => None,
     }
 }

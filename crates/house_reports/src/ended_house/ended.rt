@@ -1,8 +1,8 @@
 ghost use Rattle.std.specs.Prelude.{◌≡◌, ◌≢◌, [], IfErr, IfOk};
-ghost use Rattle.house_reports.specs.ended_house.Ended.{HasRead, IsStopped, Reading};
+ghost use Rattle.house_reports.specs.ended_house.Ended.{HasRead, IsStopped};
 
 use super::counted::CountedHouse;
-use super::fault::Fault;
+use command_line::Fault;
 use ocpi_types::{Config, TryCopy};
 use period_order::BookHouse;
 use plain_house::{Event, empty_lists_are_legal};
@@ -52,10 +52,8 @@ fn answer_lines<R: Source>(
 ) -> Result<Left, ScriptFault>
     requires config { counted.old.house.config ≡ config.now }
     requires empty { counted.old.house.events ≡ [] }
-    ensures events { let reading : Reading R = record { gives = R.gives; at_end = R.at_end; failed = R.failed; reader = reader.old; reader' = reader.new } in
-        IfOk result (λ left. HasRead reading config.now left.events.items) }
-    ensures fault { let reading : Reading R = record { gives = R.gives; at_end = R.at_end; failed = R.failed; reader = reader.old; reader' = reader.new } in
-        IfErr result (λ fault. fault ≢ ScriptFault.NoMemory → IsStopped reading config.now fault) }
+    ensures events { IfOk result (λ left. HasRead R.reading reader.old reader.new config.now left.events.items) }
+    ensures fault { IfErr result (λ fault. fault ≢ ScriptFault.NoMemory → IsStopped R.reading reader.old reader.new config.now fault) }
 {
     let mut writer = Device::new(io::sink());
     let count = run_script(alloc, reader, &mut writer, config, counted)?;
@@ -67,10 +65,8 @@ fn answer_lines<R: Source>(
 }
 
 fn left_by<R: Source>(alloc: Global, config: &Config, reader: &mut R) -> Result<Left, ScriptFault>
-    ensures events { let reading : Reading R = record { gives = R.gives; at_end = R.at_end; failed = R.failed; reader = reader.old; reader' = reader.new } in
-        IfOk result (λ left. HasRead reading config.now left.events.items) }
-    ensures fault { let reading : Reading R = record { gives = R.gives; at_end = R.at_end; failed = R.failed; reader = reader.old; reader' = reader.new } in
-        IfErr result (λ fault. fault ≢ ScriptFault.NoMemory → IsStopped reading config.now fault) }
+    ensures events { IfOk result (λ left. HasRead R.reading reader.old reader.new config.now left.events.items) }
+    ensures fault { IfErr result (λ fault. fault ≢ ScriptFault.NoMemory → IsStopped R.reading reader.old reader.new config.now fault) }
 {
     let Ok(mut counted) = counted_house(alloc, config) else {
         return Err(ScriptFault::NoMemory);
@@ -82,7 +78,7 @@ impl EndedHouse {
     ghost use Rattle.std.specs.Prelude.{◌≡◌, ◌≢◌, Ok, IfErr, IfOk};
     ghost use Rattle.ocpi_types.specs.ConfigText.{config_of};
     ghost use Rattle.plain_house.specs.Legal.{IsLegal};
-    ghost use Rattle.house_reports.specs.ended_house.Ended.{HasRead, IsFaultOf, IsStopped, Reading};
+    ghost use Rattle.house_reports.specs.ended_house.Ended.{HasRead, IsFaultOf, IsStopped};
 
     /// A house of this configuration, after the lines of the reader. Their answers are not written.
     pub fn of_lines<R: Source>(
@@ -91,10 +87,8 @@ impl EndedHouse {
         reader: &mut R,
     ) -> Result<EndedHouse, ScriptFault>
         ensures config { IfOk result (λ ended. ended.config ≡ config) }
-        ensures events { let reading : Reading R = record { gives = R.gives; at_end = R.at_end; failed = R.failed; reader = reader.old; reader' = reader.new } in
-            IfOk result (λ ended. HasRead reading config ended.events) }
-        ensures fault { let reading : Reading R = record { gives = R.gives; at_end = R.at_end; failed = R.failed; reader = reader.old; reader' = reader.new } in
-            IfErr result (λ fault. fault ≢ ScriptFault.NoMemory → IsStopped reading config fault) }
+        ensures events { IfOk result (λ ended. HasRead R.reading reader.old reader.new config ended.events) }
+        ensures fault { IfErr result (λ fault. fault ≢ ScriptFault.NoMemory → IsStopped R.reading reader.old reader.new config fault) }
     {
         empty_lists_are_legal();
         scripts_keep_lists_legal();
@@ -113,10 +107,8 @@ impl EndedHouse {
         reader: &mut R,
     ) -> Result<EndedHouse, Fault<'static>>
         ensures config { IfOk result (λ ended. config_of file.now ≡ Ok ended.config) }
-        ensures events { let reading : Reading R = record { gives = R.gives; at_end = R.at_end; failed = R.failed; reader = reader.old; reader' = reader.new } in
-            IfOk result (λ ended. HasRead reading ended.config ended.events) }
-        ensures fault { let reading : Reading R = record { gives = R.gives; at_end = R.at_end; failed = R.failed; reader = reader.old; reader' = reader.new } in
-            IfErr result (λ fault. fault ≢ Fault.NoMemory → IsFaultOf reading (config_of file.now) fault) }
+        ensures events { IfOk result (λ ended. HasRead R.reading reader.old reader.new ended.config ended.events) }
+        ensures fault { IfErr result (λ fault. fault ≢ Fault.NoMemory → IsFaultOf R.reading reader.old reader.new (config_of file.now) fault) }
     {
         let config = Config::read(alloc, file)?;
         Ok(EndedHouse::of_lines(alloc, config, reader)?)

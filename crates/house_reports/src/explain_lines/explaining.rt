@@ -5,7 +5,7 @@ use crate::explain_lines::happened::{
     bookings, credits, holds, limits, periods, stores, tokens, versions,
 };
 use crate::explain_lines::line::{failing, no_json};
-use crate::explain_lines::place::Place;
+use crate::explain_lines::member_path::MemberPath;
 use crate::explain_lines::telling::{Cause, Told, Value};
 use cdr_checks::{Ask, Authorize, Release, Request, Settlement};
 use ocpi_json::name::Name;
@@ -46,7 +46,7 @@ fn settlement_of(ask: &Ask) -> Option<&Settlement> {
 // What is stored or booked otherwise.
 fn conflict(events: &[Event], ask: &Ask) -> Option<Told> {
     match ask {
-        Ask::PutTariff(tariff) => versions::conflict(events, Place::at(Name::Tariff), tariff),
+        Ask::PutTariff(tariff) => versions::conflict(events, MemberPath::at(Name::Tariff), tariff),
         Ask::Post(cdr) => bookings::conflict(events, cdr),
         Ask::PutToken(_)
         | Ask::Authorize(_)
@@ -79,7 +79,7 @@ fn not_found(ask: &Ask) -> Option<Told> {
     let Ask::Find(find) = ask else {
         return None;
     };
-    Some(bookings::not_booked(Place::at(Name::Id), find.id))
+    Some(bookings::not_booked(MemberPath::at(Name::Id), find.id))
 }
 
 // Why a request is refused, after these events.
@@ -186,5 +186,5 @@ pub fn of_line(
         Err(Refusal::Field { name: at }) => of_member(alloc, room, line, at)?,
         Err(_) => return no_json::told(alloc, line),
     };
-    Ok(told.unwrap_or(Told::new(Place::nowhere(), Cause::Untold, Value::Nothing)))
+    Ok(told.unwrap_or(Told::new(MemberPath::nowhere(), Cause::Untold, Value::Nothing)))
 }

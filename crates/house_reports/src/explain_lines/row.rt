@@ -51,14 +51,14 @@ pub fn row(
     ensures { IfOk result (λ text. IsRow number refusal.now text.items) }
 {
     let mut digits = Buffer::new();
-    let place = told.place.to_string(alloc)?;
+    let path = told.path.to_string(alloc)?;
     let found = told.found.to_string(alloc)?;
     let against = told.against.to_string(alloc)?;
     let event = event_text(alloc, told.event)?;
     let fields = [
         digits.format(number).as_bytes(),
         refusal.as_bytes(),
-        place.as_bytes(),
+        path.as_bytes(),
         told.cause.words().as_bytes(),
         found.as_bytes(),
         against.as_bytes(),

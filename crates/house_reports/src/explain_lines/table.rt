@@ -9,16 +9,17 @@ ghost use Rattle.house_reports.specs.explain_lines.Table.{header};
 ghost use Rattle.house_reports.specs.explain_lines.Inner.Standing.{standing};
 ghost use Rattle.house_reports.specs.explain_lines.Inner.Telling.{IsNew};
 
-use crate::ended_house::{Fault, write_text};
+use crate::ended_house::write_text;
 use crate::explain_lines::explainer::Explainer;
 use crate::explain_lines::row::header;
+use command_line::Fault;
 use ocpi_types::Config;
 use request_lines::{ScriptFault, Sink, Source, run_lines};
 use std::alloc::Global;
 
 // Writes the names of the columns.
 fn write_header<W: Sink>(alloc: Global, writer: &mut W) -> Result<(), Fault<'static>>
-    ensures { OnOk result (W.takes writer.old header writer.new) }
+    ensures { OnOk result (W.writing.takes writer.old header writer.new) }
 {
     let header = header(alloc)?;
     write_text(writer, header.as_slice())
@@ -33,7 +34,7 @@ fn write_rows<R: Source, W: Sink>(
 ) -> Result<bool, ScriptFault>
     requires { IsNew (standing explainer.old) }
     ensures { IfOk result (λ any. (calls : ℕ) × (bytes : List ℕ) × (rows : List ℕ)
-        × R.gives reader.old calls bytes reader.new × R.at_end reader.new × W.takes writer.old rows writer.new
+        × R.reading.gives reader.old calls bytes reader.new × R.reading.at_end reader.new × W.writing.takes writer.old rows writer.new
         × AreTold explainer.old.config.now [] 0 (lines_of bytes) rows × (any ≡ is_any_turned_down explainer.old.config.now [] (lines_of bytes))) }
 {
     let count = run_lines(alloc, reader, writer, explainer)?;
@@ -49,7 +50,7 @@ fn write_rows_under<R: Source, W: Sink>(
     writer: &mut W,
 ) -> Result<bool, ScriptFault>
     ensures { IfOk result (λ any. (calls : ℕ) × (bytes : List ℕ) × (rows : List ℕ)
-        × R.gives reader.old calls bytes reader.new × R.at_end reader.new × W.takes writer.old rows writer.new
+        × R.reading.gives reader.old calls bytes reader.new × R.reading.at_end reader.new × W.writing.takes writer.old rows writer.new
         × AreTold config.now [] 0 (lines_of bytes) rows × (any ≡ is_any_turned_down config.now [] (lines_of bytes))) }
 {
     let Ok(mut explainer) = Explainer::new(alloc, config) else {
@@ -66,7 +67,7 @@ fn write_table<R: Source, W: Sink>(
     writer: &mut W,
 ) -> Result<bool, Fault<'static>>
     ensures { IfOk result (λ any. (calls : ℕ) × (bytes : List ℕ) × (text : List ℕ)
-        × R.gives reader.old calls bytes reader.new × R.at_end reader.new × W.takes writer.old text writer.new
+        × R.reading.gives reader.old calls bytes reader.new × R.reading.at_end reader.new × W.writing.takes writer.old text writer.new
         × IsTable config.now (lines_of bytes) any text) }
 {
     write_header(alloc, writer)?;
@@ -83,7 +84,7 @@ pub fn explain<R: Source, W: Sink>(
 ) -> Result<bool, Fault<'static>>
     ensures { IfOk result (λ any. (config : Config) × (config_of file.now ≡ Ok config)
         × (calls : ℕ) × (bytes : List ℕ) × (text : List ℕ)
-        × R.gives reader.old calls bytes reader.new × R.at_end reader.new × W.takes writer.old text writer.new
+        × R.reading.gives reader.old calls bytes reader.new × R.reading.at_end reader.new × W.writing.takes writer.old text writer.new
         × IsTable config (lines_of bytes) any text) }
 {
     let config = Config::read(alloc, file)?;

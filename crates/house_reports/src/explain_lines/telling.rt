@@ -1,7 +1,7 @@
 //! What is told of a line: where it is at fault, why, and by which values.
 
 use crate::explain_lines::line::member::Expected;
-use crate::explain_lines::place::Place;
+use crate::explain_lines::member_path::MemberPath;
 use exact_money::{Amount, Millionths};
 use jiff::Timestamp;
 use ocpi_json::ci_text::CiText;
@@ -144,7 +144,7 @@ impl Cause {
     }
 }
 
-/// A value of a line, or one that it is held against.
+/// A value of a line, or one that it is compared with.
 #[derive(Clone, Copy)]
 pub enum Value {
     Nothing,
@@ -223,21 +223,21 @@ fn write_decimal<W: fmt::Write>(
 /// What is told of a line that is turned down.
 #[derive(Clone, Copy)]
 pub struct Told {
-    pub place: Place,
+    pub path: MemberPath,
     pub cause: Cause,
     /// What the line has there.
     pub found: Value,
-    /// What it is held against.
+    /// What it is compared with.
     pub against: Value,
     /// The number of the event by which the house knows otherwise, from 0.
     pub event: Option<usize>,
 }
 
 impl Told {
-    /// A place, a cause, and what the line has there.
-    pub fn new(place: Place, cause: Cause, found: Value) -> Told {
+    /// A path, a cause, and what the line has there.
+    pub fn new(path: MemberPath, cause: Cause, found: Value) -> Told {
         Told {
-            place,
+            path,
             cause,
             found,
             against: Value::Nothing,
@@ -245,7 +245,7 @@ impl Told {
         }
     }
 
-    /// The same, with what it is held against.
+    /// The same, with what it is compared with.
     pub fn against(self, against: Value) -> Told {
         Told { against, ..self }
     }

@@ -1,6 +1,7 @@
 //! What is printed of a house after its last line.
 
-use crate::ended_house::{EndedHouse, Fault, write_text};
+use crate::ended_house::{EndedHouse, write_text};
+use command_line::Fault;
 use house_statements::{statement_rows, write_order, write_statement};
 use ocpi_types::Party;
 use plain_house::{Event, legal_lists_can_be_netted};

@@ -9,8 +9,8 @@ use Rattle.input_reports.specs.declared.check_config.expected.Items.{Items}
 use Rattle.input_reports.specs.declared.check_config.expected.Items.TheVariants as items
 use Rattle.input_reports.specs.declared.check_config.objects.Listing.{Listing}
 use Rattle.input_reports.specs.declared.check_config.objects.Listing.TheVariants as listing
-use Rattle.input_reports.specs.declared.check_config.objects.Place.{Place}
-use Rattle.input_reports.specs.declared.check_config.objects.Place.TheVariants as place
+use Rattle.input_reports.specs.declared.check_config.objects.ConfigObject.{ConfigObject}
+use Rattle.input_reports.specs.declared.check_config.objects.ConfigObject.TheVariants as object
 use Rattle.input_reports.specs.check_config.Known.{members_of}
 
 -- of the configuration itself
@@ -58,11 +58,11 @@ expected_of_house_limits name.Periods = Some (expected.Whole 1 10_000)
 expected_of_house_limits called = None
 
 -- what the member of that name has to be, if the object there has one
-abbrev pub expected_of : Place → Name → Option Expected
-expected_of place.Whole called = expected_of_whole called
-expected_of (place.Item list index) called = expected_of_item list called
-expected_of (place.LimitOf provider index) called = expected_of_limit called
-expected_of place.Limits called = expected_of_house_limits called
+abbrev pub expected_of : ConfigObject → Name → Option Expected
+expected_of object.Whole called = expected_of_whole called
+expected_of (object.Item list index) called = expected_of_item list called
+expected_of (object.LimitOf provider index) called = expected_of_limit called
+expected_of object.Limits called = expected_of_house_limits called
 
 -- what an item of such a list has to be
 abbrev pub expected_item : Items → Expected
@@ -80,9 +80,9 @@ abbrev pub item_or_whole : Bool → Expected → Option Expected
 item_or_whole is_item needed = if is_item then item_of needed else Some needed
 
 -- what the member of that name has to be, or an item of it
-abbrev pub expected_at : Place → Name → Bool → Option Expected
+abbrev pub expected_at : ConfigObject → Name → Bool → Option Expected
 expected_at object called is_item = option_and_then (item_or_whole is_item) (expected_of object called)
 
 -- each member of each object is expected to be something
 abbrev pub MembersAreExpected : Type 0
-MembersAreExpected = (object : Place) → list_all (λ called. is_some (expected_of object called)) (members_of object) ≡ true
+MembersAreExpected = (object : ConfigObject) → list_all (λ called. is_some (expected_of object called)) (members_of object) ≡ true

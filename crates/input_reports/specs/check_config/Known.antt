@@ -12,8 +12,8 @@ use Rattle.ocpi_json.specs.declared.name.Name.{Name}
 use Rattle.ocpi_json.specs.declared.name.Name.TheVariants.{Version, Tolerance, Currencies, Providers, Limits, CreditWindow, Party, Zone, Name as NameMember, Parties, Hub, Operator, Provider, Currency, Limit, Hold, Cdrs, Tariffs, Entries, Order, Periods, Operators as OperatorsMember, Platforms as PlatformsMember, PairLimits as PairLimitsMember}
 use Rattle.input_reports.specs.declared.check_config.objects.Listing.{Listing}
 use Rattle.input_reports.specs.declared.check_config.objects.Listing.TheVariants.{Operators, Providers as ProvidersListing, Platforms, PairLimits}
-use Rattle.input_reports.specs.declared.check_config.objects.Place.{Place}
-use Rattle.input_reports.specs.declared.check_config.objects.Place.TheVariants.{Whole, Item, LimitOf, Limits as LimitsPlace}
+use Rattle.input_reports.specs.declared.check_config.objects.ConfigObject.{ConfigObject}
+use Rattle.input_reports.specs.declared.check_config.objects.ConfigObject.TheVariants.{Whole, Item, LimitOf, Limits as LimitsObject}
 
 -- the member of a configuration that is the list
 abbrev pub list_name : Listing → Name
@@ -40,15 +40,15 @@ item_members Platforms = NameMember ∷ Parties ∷ Hub ∷ []
 item_members PairLimits = Operator ∷ Provider ∷ Currency ∷ Limit ∷ []
 
 -- the members of the object there, in the order in which they are read
-abbrev pub members_of : Place → List Name
+abbrev pub members_of : ConfigObject → List Name
 members_of Whole = Version ∷ Tolerance ∷ Currencies ∷ OperatorsMember ∷ Providers ∷ PlatformsMember ∷ Limits ∷ PairLimitsMember ∷ CreditWindow ∷ []
 members_of (Item list index) = item_members list
 members_of (LimitOf provider index) = Currency ∷ Limit ∷ Hold ∷ []
-members_of LimitsPlace = Cdrs ∷ Tariffs ∷ Entries ∷ Order ∷ Periods ∷ []
+members_of LimitsObject = Cdrs ∷ Tariffs ∷ Entries ∷ Order ∷ Periods ∷ []
 
 -- the member of that key, if the object there has one
-abbrev pub known_by : List ℕ → Place → Option Name
-known_by key place = find (λ called. pointwise ◌==◌ (key_text called) key) (members_of place)
+abbrev pub known_by : List ℕ → ConfigObject → Option Name
+known_by key object = find (λ called. pointwise ◌==◌ (key_text called) key) (members_of object)
 
 -- the name is at most two letters away from the key: put in, left out or changed
 abbrev pub is_near : List ℕ → Name → Bool

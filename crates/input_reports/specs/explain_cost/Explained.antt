@@ -11,8 +11,8 @@ use Rattle.input_reports.specs.explain_cost.Changes.{changes, raised_by}
 use Rattle.input_reports.specs.explain_cost.CostText.{explanation}
 use Rattle.input_reports.specs.explain_cost.Costs.{cost_rows}
 use Rattle.input_reports.specs.declared.explain_cost.explained.Explained.{Explained}
-use Rattle.input_reports.specs.declared.fault.Fault.{Fault}
-use Rattle.input_reports.specs.declared.fault.Fault.TheVariants.{Refused, CreditCdr}
+use Rattle.input_reports.specs.declared.rating_fault.RatingFault.{RatingFault}
+use Rattle.input_reports.specs.declared.rating_fault.RatingFault.TheVariants.{Refused, CreditCdr}
 
 -- ---- a CDR
 
@@ -26,18 +26,18 @@ pub record IsExplained (cdr : Cdr) (zone : PlainZone) (explained : Explained) : 
   pub amount : rated_price cdr zone ≡ Ok explained.amount
 
 -- the text, or why there is none
-abbrev pub explained_at : Cdr → PlainZone → Result ℤ Refusal → Result (List ℕ) Fault
+abbrev pub explained_at : Cdr → PlainZone → Result ℤ Refusal → Result (List ℕ) RatingFault
 explained_at cdr zone (Ok amount) =
     Ok (explanation (cost_rows cdr zone) (changes (first_tariff cdr cdr.charging_periods) (sum_of cdr zone) (unsigned_abs amount)) amount)
 explained_at cdr zone (Err refusal) = Err (Refused refusal)
 
 -- a Credit CDR is not rated
-unfoldable pub explained_cdr : PlainZone → Cdr → Result (List ℕ) Fault
+unfoldable pub explained_cdr : PlainZone → Cdr → Result (List ℕ) RatingFault
 explained_cdr zone cdr = if is_credit cdr then Err CreditCdr else explained_at cdr zone (rated_price cdr zone)
 
 -- ---- a text
 
-unfoldable pub explained_text : List ℕ → PlainZone → Result (List ℕ) Fault
+unfoldable pub explained_text : List ℕ → PlainZone → Result (List ℕ) RatingFault
 explained_text text zone = do
   cdr ← cdr_of text
   explained_cdr zone cdr

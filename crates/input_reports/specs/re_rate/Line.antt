@@ -8,8 +8,8 @@ use Rattle.ocpi_types.specs.declared.cdr.Cdr.{Cdr}
 use Rattle.re_rating.specs.declared.records.Record.{Record}
 use Rattle.input_reports.specs.CdrText.{◌>>=◌, cdr_of}
 use Rattle.input_reports.specs.Ratable.{or_fault, ratable}
-use Rattle.input_reports.specs.declared.fault.Fault.{Fault}
-use Rattle.input_reports.specs.declared.fault.Fault.TheVariants.{NoAmount}
+use Rattle.input_reports.specs.declared.rating_fault.RatingFault.{RatingFault}
+use Rattle.input_reports.specs.declared.rating_fault.RatingFault.TheVariants.{NoAmount}
 
 -- of millionths that make whole ten-thousandths, these
 abbrev pub whole_ten_thousandths : ℤ → Option ℤ
@@ -23,14 +23,14 @@ abbrev pub is_space : ℕ → Bool
 is_space byte = byte == 32
 
 -- a CDR of which an amount says what the session costs, or that is not rated
-unfoldable pub ratable_cdr_of : List ℕ → Result Cdr Fault
+unfoldable pub ratable_cdr_of : List ℕ → Result Cdr RatingFault
 ratable_cdr_of text = do
   cdr ← cdr_of text
   _ ← or_fault (ratable cdr)
   Ok cdr
 
 -- what was booked stands before the first space of the line, and the CDR behind it
-unfoldable pub record_of : List ℕ → Result Record Fault
+unfoldable pub record_of : List ℕ → Result Record RatingFault
 record_of line = do
   booked ← ok_or (amount_of (before_first is_space line)) NoAmount
   cdr ← ratable_cdr_of (after_first is_space line)

@@ -3,7 +3,7 @@
 ghost use Rattle.std.specs.Prelude.{◌≡◌};
 ghost use Rattle.input_reports.specs.check_config.Expectations.{MembersAreExpected, expected_item, expected_of, expected_of_house_limits, expected_of_item, expected_of_limit, expected_of_whole};
 
-use super::objects::{Listing, Place};
+use super::objects::{ConfigObject, Listing};
 use ocpi_json::name::Name;
 use std::fmt;
 
@@ -141,14 +141,14 @@ fn expected_of_house_limits(name: Name) -> Option<Expected>
 }
 
 /// What the member of that name has to be, if the object there has one.
-pub fn expected_of(place: Place, name: Name) -> Option<Expected>
-    ensures { result ≡ expected_of place name }
+pub fn expected_of(object: ConfigObject, name: Name) -> Option<Expected>
+    ensures { result ≡ expected_of object name }
 {
-    match place {
-        Place::Whole => expected_of_whole(name),
-        Place::Item { list, .. } => expected_of_item(list, name),
-        Place::LimitOf { .. } => expected_of_limit(name),
-        Place::Limits => expected_of_house_limits(name),
+    match object {
+        ConfigObject::Whole => expected_of_whole(name),
+        ConfigObject::Item { list, .. } => expected_of_item(list, name),
+        ConfigObject::LimitOf { .. } => expected_of_limit(name),
+        ConfigObject::Limits => expected_of_house_limits(name),
     }
 }
 

@@ -2,9 +2,9 @@
 
 use super::alike::second_alike;
 use super::expected::{Expected, expected_of};
-use super::objects::{Found, Listing, Place};
-use super::standing::standing;
+use super::objects::{ConfigObject, Found, Listing};
 use super::wrong::{Wrong, wrong_party, wrong_value};
+use command_line::text_of_found;
 use ocpi_json::name::Name;
 use ocpi_json::{Node, Nodes, fields};
 use ocpi_types::Currency;
@@ -20,8 +20,8 @@ struct Finding {
 /// A member that is at fault, of the object there.
 #[derive(Clone, Copy)]
 struct Failing<'o, 'a> {
-    place: Place,
-    object: &'o Node<'a>,
+    object: ConfigObject,
+    node: &'o Node<'a>,
     name: Name,
     finding: Finding,
 }
@@ -32,9 +32,9 @@ impl<'a> Failing<'_, 'a> {
 
     // What the member has to be, or that item of it.
     fn expected(&self) -> Option<Expected>
-        ensures { result ≡ expected_at self.now.place self.now.name (is_some self.now.finding.item) }
+        ensures { result ≡ expected_at self.now.object self.now.name (is_some self.now.finding.item) }
     {
-        let expected = expected_of(self.place, self.name)?;
+        let expected = expected_of(self.object, self.name)?;
         match self.finding.item {
             Some(_) => expected.item(),
             None => Some(expected),
@@ -43,7 +43,7 @@ impl<'a> Failing<'_, 'a> {
 
     // What stands there.
     fn value(&self) -> Option<Node<'a>> {
-        let member = self.object.get(self.name.key())?;
+        let member = self.node.get(self.name.key())?;
         match self.finding.item {
             Some(item) => member.items()?.nth(item),
             None => Some(member),
@@ -51,19 +51,19 @@ impl<'a> Failing<'_, 'a> {
     }
 
     fn write_path(&self, line: &mut String) -> Result<(), AllocError> {
-        let place = self.place;
+        let object = self.object;
         let key = self.name.key();
         match self.finding.item {
-            Some(item) => write!(line, "{place}{key}[{item}]: "),
-            None => write!(line, "{place}{key}: "),
+            Some(item) => write!(line, "{object}{key}[{item}]: "),
+            None => write!(line, "{object}{key}: "),
         }
     }
 
     fn write_expected(&self, alloc: Global, line: &mut String) -> Result<(), AllocError> {
-        let standing = standing(alloc, self.value().as_ref())?;
+        let found = text_of_found(alloc, self.value().as_ref())?;
         match self.expected() {
-            Some(expected) => write!(line, "expected {expected}, found {standing}"),
-            None => write!(line, "found {standing}"),
+            Some(expected) => write!(line, "expected {expected}, found {found}"),
+            None => write!(line, "found {found}"),
         }
     }
 
@@ -169,15 +169,15 @@ fn wrong_parties(whole: &Node, node: &Node) -> Option<Finding> {
     }
 }
 
-fn wrong_member(whole: &Node, place: Place, node: &Node, name: Name) -> Option<Finding> {
-    match (place, name) {
-        (Place::Whole, Name::Currencies) => Some(wrong_currencies(whole)),
-        (Place::Whole, Name::Operators) => Some(wrong_list(whole, Listing::Operators)),
-        (Place::Whole, Name::Providers) => Some(wrong_list(whole, Listing::Providers)),
-        (Place::Whole, Name::Platforms) => Some(wrong_list(whole, Listing::Platforms)),
-        (Place::Whole, Name::PairLimits) => Some(wrong_list(whole, Listing::PairLimits)),
-        (Place::Item { .. }, Name::Limits) => wrong_limits(node),
-        (Place::Item { .. }, Name::Parties) => wrong_parties(whole, node),
+fn wrong_member(whole: &Node, object: ConfigObject, node: &Node, name: Name) -> Option<Finding> {
+    match (object, name) {
+        (ConfigObject::Whole, Name::Currencies) => Some(wrong_currencies(whole)),
+        (ConfigObject::Whole, Name::Operators) => Some(wrong_list(whole, Listing::Operators)),
+        (ConfigObject::Whole, Name::Providers) => Some(wrong_list(whole, Listing::Providers)),
+        (ConfigObject::Whole, Name::Platforms) => Some(wrong_list(whole, Listing::Platforms)),
+        (ConfigObject::Whole, Name::PairLimits) => Some(wrong_list(whole, Listing::PairLimits)),
+        (ConfigObject::Item { .. }, Name::Limits) => wrong_limits(node),
+        (ConfigObject::Item { .. }, Name::Parties) => wrong_parties(whole, node),
         _ => finding_of(wrong_value(whole, node, name)),
     }
 }
@@ -194,19 +194,19 @@ fn or_missing(finding: Finding, node: &Node, name: Name) -> Finding {
 
 fn failing_in<'o, 'a>(
     whole: &Node<'a>,
-    place: Place,
-    object: &'o Node<'a>,
+    object: ConfigObject,
+    node: &'o Node<'a>,
     name: Name,
 ) -> Option<Failing<'o, 'a>> {
-    if !place.members().contains(&name) {
+    if !object.members().contains(&name) {
         return None;
     }
-    let finding = wrong_member(whole, place, object, name)?;
+    let finding = wrong_member(whole, object, node, name)?;
     Some(Failing {
-        place,
         object,
+        node,
         name,
-        finding: or_missing(finding, object, name),
+        finding: or_missing(finding, node, name),
     })
 }
 
@@ -218,11 +218,11 @@ fn failing_member<'o, 'a>(
     name: Name,
 ) -> Option<Failing<'o, 'a>> {
     for found in objects {
-        if let Some(failing) = failing_in(whole, found.place, &found.node, name) {
+        if let Some(failing) = failing_in(whole, found.object, &found.node, name) {
             return Some(failing);
         }
     }
-    failing_in(whole, Place::Whole, whole, name)
+    failing_in(whole, ConfigObject::Whole, whole, name)
 }
 
 /// Where the member stands that a fault of that name means, and what is wrong with it, if there is one.

@@ -2,7 +2,7 @@
 
 use json::{Reader, Scratch};
 use std::alloc::{AllocError, Global};
-use std::{fmt, str};
+use std::str;
 
 /// How deep arrays and objects may nest.
 const MAX_DEPTH: usize = 127;
@@ -10,15 +10,8 @@ const MAX_DEPTH: usize = 127;
 /// A line and a column of a text, each from 1.
 #[derive(Clone, Copy)]
 pub struct Spot {
-    line: usize,
-    column: usize,
-}
-
-impl fmt::Display for Spot {
-    fn fmt<W: fmt::Write>(&self, f: &mut fmt::Formatter<W>) -> fmt::Result {
-        let (line, column) = (self.line, self.column);
-        write!(f, "line {line} column {column}")
-    }
+    pub line: usize,
+    pub column: usize,
 }
 
 fn begins_character(byte: u8) -> bool {

@@ -58,16 +58,16 @@ impl Listing {
     }
 }
 
-/// Where an object of a configuration stands.
+/// Which object of a configuration.
 #[derive(Clone, Copy)]
-pub enum Place {
+pub enum ConfigObject {
     Whole,
     Item { list: Listing, index: usize },
     LimitOf { provider: usize, index: usize },
     Limits,
 }
 
-impl Place {
+impl ConfigObject {
     ghost use Rattle.std.specs.Prelude.{◌≡◌};
     ghost use Rattle.input_reports.specs.check_config.Known.{members_of};
 
@@ -76,7 +76,7 @@ impl Place {
         ensures { result.now ≡ members_of self }
     {
         match self {
-            Place::Whole => &[
+            ConfigObject::Whole => &[
                 Name::Version,
                 Name::Tolerance,
                 Name::Currencies,
@@ -87,9 +87,9 @@ impl Place {
                 Name::PairLimits,
                 Name::CreditWindow,
             ],
-            Place::Item { list, .. } => list.members(),
-            Place::LimitOf { .. } => &[Name::Currency, Name::Limit, Name::Hold],
-            Place::Limits => &[
+            ConfigObject::Item { list, .. } => list.members(),
+            ConfigObject::LimitOf { .. } => &[Name::Currency, Name::Limit, Name::Hold],
+            ConfigObject::Limits => &[
                 Name::Cdrs,
                 Name::Tariffs,
                 Name::Entries,
@@ -101,24 +101,24 @@ impl Place {
 }
 
 /// What stands before the name of a member in its path.
-impl fmt::Display for Place {
+impl fmt::Display for ConfigObject {
     fn fmt<W: fmt::Write>(&self, f: &mut fmt::Formatter<W>) -> fmt::Result {
         match self {
-            Place::Whole => Ok(()),
-            Place::Item { list, index } => write!(f, "{}[{index}].", list.name().key()),
-            Place::LimitOf { provider, index } => write!(
+            ConfigObject::Whole => Ok(()),
+            ConfigObject::Item { list, index } => write!(f, "{}[{index}].", list.name().key()),
+            ConfigObject::LimitOf { provider, index } => write!(
                 f,
                 "providers[{provider}].limits[{index}]."
             ),
-            Place::Limits => write!(f, "limits."),
+            ConfigObject::Limits => write!(f, "limits."),
         }
     }
 }
 
-/// An object of a configuration, and where it stands.
+/// An object of a configuration, and its node.
 #[derive(Drop)]
 pub struct Found<'a> {
-    pub place: Place,
+    pub object: ConfigObject,
     pub node: Node<'a>,
 }
 
@@ -148,8 +148,8 @@ fn add_items<'a>(
     list: Listing,
 ) -> Result<(), AllocError> {
     for (index, node) in items(whole, list.name()).enumerate() {
-        let place = Place::Item { list, index };
-        found.push(Found { place, node })?;
+        let object = ConfigObject::Item { list, index };
+        found.push(Found { object, node })?;
     }
     Ok(())
 }
@@ -160,8 +160,8 @@ fn add_limits_of<'a>(
     node: &Node<'a>,
 ) -> Result<(), AllocError> {
     for (index, node) in items(node, Name::Limits).enumerate() {
-        let place = Place::LimitOf { provider, index };
-        found.push(Found { place, node })?;
+        let object = ConfigObject::LimitOf { provider, index };
+        found.push(Found { object, node })?;
     }
     Ok(())
 }
@@ -175,8 +175,8 @@ fn add_limits_of_each<'a>(found: &mut Vec<Found<'a>>, whole: &Node<'a>) -> Resul
 
 fn add_limits<'a>(found: &mut Vec<Found<'a>>, whole: &Node<'a>) -> Result<(), AllocError> {
     if let Some(node) = whole.get(Name::Limits.key()) {
-        let place = Place::Limits;
-        found.push(Found { place, node })?;
+        let object = ConfigObject::Limits;
+        found.push(Found { object, node })?;
     }
     Ok(())
 }

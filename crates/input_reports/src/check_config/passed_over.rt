@@ -7,7 +7,7 @@ ghost use Rattle.input_reports.specs.check_config.Causes.{cause, is_of_version_2
 ghost use Rattle.input_reports.specs.check_config.Known.{known_by};
 
 use super::near::meant;
-use super::objects::{Found, Place, is_of_version_1};
+use super::objects::{ConfigObject, Found, is_of_version_1};
 use super::spelled::Spelled;
 use ocpi_json::Node;
 use ocpi_json::name::Name;
@@ -24,10 +24,10 @@ enum Cause {
     Repeated,
 }
 
-fn known(place: Place, key: &str) -> Option<Name>
-    ensures { result ≡ known_by key.now place }
+fn known(object: ConfigObject, key: &str) -> Option<Name>
+    ensures { result ≡ known_by key.now object }
 {
-    place
+    object
         .members()
         .iter()
         .copied()
@@ -47,10 +47,10 @@ fn is_repeated(key: &str, later: &[&str]) -> bool
 }
 
 // Why the member of that key is passed over, where others come later in its object.
-fn cause_of(is_version_1: bool, place: Place, key: &str, later: &[&str]) -> Option<Cause>
-    ensures { result ≡ cause (known_by key.now place) is_version_1 (list_any (λ other. pointwise ◌==◌ other.now key.now) later.now) }
+fn cause_of(is_version_1: bool, object: ConfigObject, key: &str, later: &[&str]) -> Option<Cause>
+    ensures { result ≡ cause (known_by key.now object) is_version_1 (list_any (λ other. pointwise ◌==◌ other.now key.now) later.now) }
 {
-    let Some(name) = known(place, key) else {
+    let Some(name) = known(object, key) else {
         return Some(Cause::Unknown);
     };
     if is_version_1 && is_of_version_2(name) {
@@ -65,18 +65,18 @@ fn cause_of(is_version_1: bool, place: Place, key: &str, later: &[&str]) -> Opti
 fn write_line(
     alloc: Global,
     lines: &mut String,
-    place: Place,
+    object: ConfigObject,
     key: &str,
     cause: Cause,
 ) -> Result<(), AllocError> {
     let spelled = Spelled { text: key };
     match cause {
-        Cause::Unknown => match meant(alloc, place.members(), key)? {
-            Some(name) => writeln!(lines, "passed over: {place}{spelled} ({}?)", name.key()),
-            None => writeln!(lines, "passed over: {place}{spelled}"),
+        Cause::Unknown => match meant(alloc, object.members(), key)? {
+            Some(name) => writeln!(lines, "passed over: {object}{spelled} ({}?)", name.key()),
+            None => writeln!(lines, "passed over: {object}{spelled}"),
         },
-        Cause::OfVersion2 => writeln!(lines, "passed over: {place}{spelled} (version 2 only)"),
-        Cause::Repeated => writeln!(lines, "passed over: {place}{spelled} (a later one stands)"),
+        Cause::OfVersion2 => writeln!(lines, "passed over: {object}{spelled} (version 2 only)"),
+        Cause::Repeated => writeln!(lines, "passed over: {object}{spelled} (a later one stands)"),
     }
 }
 
@@ -84,13 +84,13 @@ fn write_members(
     alloc: Global,
     lines: &mut String,
     is_version_1: bool,
-    place: Place,
+    object: ConfigObject,
     keys: &[&str],
 ) -> Result<(), AllocError> {
     for (index, key) in keys.iter().enumerate() {
         let later = &keys[index + 1..];
-        if let Some(cause) = cause_of(is_version_1, place, key, later) {
-            write_line(alloc, lines, place, key, cause)?;
+        if let Some(cause) = cause_of(is_version_1, object, key, later) {
+            write_line(alloc, lines, object, key, cause)?;
         }
     }
     Ok(())
@@ -100,14 +100,14 @@ fn write_object(
     alloc: Global,
     lines: &mut String,
     is_version_1: bool,
-    place: Place,
+    object: ConfigObject,
     node: &Node,
 ) -> Result<(), AllocError> {
     let Some(members) = node.members() else {
         return Ok(());
     };
     let keys: Vec<&str> = members.map(|(key, _)| key).collect(alloc)?;
-    write_members(alloc, lines, is_version_1, place, keys.as_slice())
+    write_members(alloc, lines, is_version_1, object, keys.as_slice())
 }
 
 fn write_all(
@@ -117,9 +117,9 @@ fn write_all(
     objects: &[Found],
 ) -> Result<(), AllocError> {
     let is_version_1 = is_of_version_1(whole);
-    write_object(alloc, lines, is_version_1, Place::Whole, whole)?;
+    write_object(alloc, lines, is_version_1, ConfigObject::Whole, whole)?;
     for found in objects {
-        write_object(alloc, lines, is_version_1, found.place, &found.node)?;
+        write_object(alloc, lines, is_version_1, found.object, &found.node)?;
     }
     Ok(())
 }

@@ -1,12 +1,12 @@
 //! What is told of a configuration.
 
 use super::failing::failing_line;
-use super::fault::Fault;
 use super::in_force::in_force;
-use super::no_json::spot_of;
+use super::no_json::{Spot, spot_of};
 use super::objects::objects_in;
 use super::passed_over::passed_over;
 use super::warnings::warning_lines;
+use command_line::Fault;
 use ocpi_json::name::Name;
 use ocpi_json::{Node, ReadFault, Room};
 use ocpi_types::{Config, ConfigFault};
@@ -34,10 +34,10 @@ pub enum Report {
 
 fn no_json(alloc: Global, bytes: &[u8]) -> Fault<'static> {
     if MOST_BYTES < bytes.len() {
-        return Fault::TooLong;
+        return Fault::ConfigTooLong;
     }
     match spot_of(alloc, bytes) {
-        Ok(spot) => Fault::NoJson { spot },
+        Ok(Spot { line, column }) => Fault::ConfigNoJson { line, column },
         Err(_) => Fault::NoMemory,
     }
 }

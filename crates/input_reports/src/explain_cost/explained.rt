@@ -15,8 +15,8 @@ use super::laws::rows_add_up;
 use super::row::Row;
 use super::rows::cost_rows;
 use crate::cdr_text::read_cdr;
-use crate::fault::{Fault, refused};
 use crate::ratable::rated_price;
+use crate::rating_fault::{RatingFault, refused};
 use cdr_rating::first_tariff;
 use exact_money::Amount;
 use ocpi_json::Room;
@@ -72,12 +72,12 @@ fn with_rows(alloc: Global, cdr: &Cdr, zone: &Zone, amount: Amount) -> Result<Ex
 ///
 /// `CreditCdr` for a Credit CDR; those of `rated_price`; `NoMemory` if an allocation fails.
 #[tactic(auto, unfolding(crate::specs::explain_cost::Explained::explained_cdr))]
-pub fn explain(alloc: Global, cdr: &Cdr, zone: &Zone) -> Result<Explained, Fault>
+pub fn explain(alloc: Global, cdr: &Cdr, zone: &Zone) -> Result<Explained, RatingFault>
     ensures explained { IfOk result (IsExplained cdr.now zone.now) }
     ensures fault { IfErr result (λ fault. is_no_memory fault ≡ false → explained_cdr zone.now cdr.now ≡ Err fault) }
 {
     if cdr.is_credit() {
-        return Err(Fault::CreditCdr);
+        return Err(RatingFault::CreditCdr);
     }
     match rated_price(cdr, zone) {
         Ok(amount) => Ok(with_rows(alloc, cdr, zone, amount)?),
@@ -104,7 +104,7 @@ fn text_of(alloc: Global, explained: &Explained) -> Result<Vec<u8>, AllocError>
 }
 
 #[tactic(auto, unfolding(crate::specs::explain_cost::Explained::explained_cdr))]
-fn explain_cdr(alloc: Global, cdr: &Cdr, zone: &Zone) -> Result<Vec<u8>, Fault>
+fn explain_cdr(alloc: Global, cdr: &Cdr, zone: &Zone) -> Result<Vec<u8>, RatingFault>
     ensures text { IfOk result (λ text. explained_cdr zone.now cdr.now ≡ Ok text.items) }
     ensures fault { IfErr result (λ fault. is_no_memory fault ≡ false → explained_cdr zone.now cdr.now ≡ Err fault) }
 {
@@ -120,7 +120,7 @@ fn explain_cdr(alloc: Global, cdr: &Cdr, zone: &Zone) -> Result<Vec<u8>, Fault>
 ///
 /// Those of `read_cdr`, and those of `explain`.
 #[tactic(auto, unfolding(crate::specs::explain_cost::Explained::explained_text))]
-pub fn explain_text(alloc: Global, text: &[u8], zone: &Zone) -> Result<Vec<u8>, Fault>
+pub fn explain_text(alloc: Global, text: &[u8], zone: &Zone) -> Result<Vec<u8>, RatingFault>
     ensures text { IfOk result (λ told. explained_text text.now zone.now ≡ Ok told.items) }
     ensures fault { IfErr result (λ fault. is_no_memory fault ≡ false → explained_text text.now zone.now ≡ Err fault) }
 {

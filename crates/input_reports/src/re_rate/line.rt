@@ -6,8 +6,8 @@ ghost use Rattle.input_reports.specs.CdrText.{is_no_memory};
 ghost use Rattle.input_reports.specs.re_rate.Line.{amount_of, is_space, ratable_cdr_of, record_of};
 
 use crate::cdr_text::read_cdr;
-use crate::fault::{Fault, refused};
 use crate::ratable::ensure_ratable;
+use crate::rating_fault::{RatingFault, refused};
 use exact_money::{Amount, Millionths};
 use ocpi_json::Room;
 use ocpi_types::{Cdr, Shared};
@@ -50,7 +50,7 @@ fn cut_at_space(line: &[u8]) -> (&[u8], &[u8])
 }
 
 #[tactic(auto, unfolding(crate::specs::re_rate::Line::ratable_cdr_of))]
-fn read_ratable_cdr(alloc: Global, room: &mut Room, text: &[u8]) -> Result<Cdr, Fault>
+fn read_ratable_cdr(alloc: Global, room: &mut Room, text: &[u8]) -> Result<Cdr, RatingFault>
     ensures cdr { IfOk result (λ cdr. ratable_cdr_of text.now ≡ Ok cdr) }
     ensures fault { IfErr result (λ fault. is_no_memory fault ≡ false → ratable_cdr_of text.now ≡ Err fault) }
 {
@@ -70,18 +70,18 @@ fn read_ratable_cdr(alloc: Global, room: &mut Room, text: &[u8]) -> Result<Cdr, 
 /// would be rated and has a charging period for each tariff that it names, `UnsupportedRestriction` and `Reservation` as
 /// `ensure_ratable` has them; `NoMemory` if an allocation fails.
 #[tactic(auto, unfolding(crate::specs::re_rate::Line::record_of))]
-pub fn read_record(alloc: Global, room: &mut Room, line: &[u8]) -> Result<Record, Fault>
+pub fn read_record(alloc: Global, room: &mut Room, line: &[u8]) -> Result<Record, RatingFault>
     ensures record_of_line { IfOk result (λ found. record_of line.now ≡ Ok found) }
     ensures fault { IfErr result (λ fault. is_no_memory fault ≡ false → record_of line.now ≡ Err fault) }
 {
     let (amount, text) = cut_at_space(line);
     let Some(booked) = amount_of(amount) else {
-        return Err(Fault::NoAmount);
+        return Err(RatingFault::NoAmount);
     };
     match read_ratable_cdr(alloc, room, text) {
         Ok(cdr) => match Shared::new(alloc, cdr) {
             Ok(cdr) => Ok(Record { cdr, booked }),
-            Err(AllocError) => Err(Fault::NoMemory),
+            Err(AllocError) => Err(RatingFault::NoMemory),
         },
         Err(fault) => Err(fault),
     }

@@ -16,7 +16,7 @@ use Rattle.ocpi_types.specs.Party.{party_at}
 use Rattle.ocpi_types.specs.declared.cdr.reading.Authorised.{Authorised}
 use Rattle.ocpi_types.specs.declared.cdr.Cdr.{Cdr}
 use Rattle.ocpi_types.specs.declared.cdr.reading.Opening.{Opening}
-use Rattle.ocpi_types.specs.declared.cdr.reading.Parts.{Parts}
+use Rattle.ocpi_types.specs.declared.cdr.reading.CdrMembers.{CdrMembers}
 use Rattle.ocpi_types.specs.declared.cdr.reading.Totals.{Totals}
 
 unfoldable pub opening_at : Data → Result Opening Name
@@ -55,7 +55,7 @@ totals_at node = do
     last_updated = last_updated;
   })
 
-unfoldable pub parts_at : Data → Result Parts Name
+unfoldable pub parts_at : Data → Result CdrMembers Name
 parts_at node = do
   opening ← opening_at node
   authorised ← authorised_at node
@@ -65,7 +65,7 @@ parts_at node = do
   Ok (record { opening = opening; authorised = authorised; tariffs = tariffs; charging_periods = charging_periods; totals = totals })
 
 -- the CDR of these members, in which what is tested between them holds
-abbrev pub cdr_with : (parts : Parts)
+abbrev pub cdr_with : (parts : CdrMembers)
     → (is_some parts.totals.credit || nat_le (length parts.opening.id) 36) ≡ true
     → (is_some parts.totals.credit || list_all has_volumes_in_range parts.charging_periods) ≡ true
     → (is_some parts.totals.credit || int_le (pos 0) parts.totals.total_energy) ≡ true
@@ -92,7 +92,7 @@ cdr_with parts id_in_range volumes_in_range energy_in_range = record {
 }
 
 -- it, or the first that does not hold
-abbrev pub cdr_of : Parts → Result Cdr Name
+abbrev pub cdr_of : CdrMembers → Result Cdr Name
 cdr_of parts = do
   id_in_range ← true_or name.Id (is_some parts.totals.credit || nat_le (length parts.opening.id) 36)
   volumes_in_range ← true_or name.Volume (is_some parts.totals.credit || list_all has_volumes_in_range parts.charging_periods)

@@ -154,7 +154,7 @@ fn read_totals(node: &Node) -> Result<Totals, Name>
 
 /// All members, before what is tested between them.
 #[derive(Drop)]
-struct Parts {
+struct CdrMembers {
     opening: Opening,
     authorised: Authorised,
     tariffs: Sequence<Shared<Tariff>>,
@@ -163,7 +163,7 @@ struct Parts {
 }
 
 #[tactic(auto, unfolding(crate::specs::Inner::CdrParts::parts_at))]
-fn read_parts(alloc: Global, node: &Node) -> Result<Parts, FieldFault>
+fn read_parts(alloc: Global, node: &Node) -> Result<CdrMembers, FieldFault>
     ensures { Finds result (parts_at node.now) }
 {
     let opening = read_opening(node)?;
@@ -171,7 +171,7 @@ fn read_parts(alloc: Global, node: &Node) -> Result<Parts, FieldFault>
     let tariffs = read_tariffs(alloc, node)?;
     let charging_periods = read_periods(alloc, node)?;
     let totals = read_totals(node)?;
-    Ok(Parts {
+    Ok(CdrMembers {
         opening,
         authorised,
         tariffs,
@@ -186,7 +186,7 @@ fn have_volumes_in_range(periods: &[ChargingPeriod]) -> bool
     periods.iter().all(|period| period.has_volumes_in_range())
 }
 
-impl Parts {
+impl CdrMembers {
     fn is_credit(&self) -> bool
         ensures { result ≡ is_some self.now.totals.credit }
     {

@@ -14,7 +14,7 @@ use Rattle.plain_house.specs.Exposure.{ends_hold, holds_of, holds_within, open_h
 use Rattle.plain_house.specs.House.{is_hold_of, reference_text}
 use Rattle.provider_account.specs.declared.holds.HoldKey.{HoldKey}
 use Rattle.provider_account.specs.declared.holds.Holds.{Holds}
-use Rattle.provider_account.specs.Inner.Held.{held_at}
+use Rattle.provider_account.specs.Inner.HoldSums.{hold_sum_at}
 
 -- ---- keys
 
@@ -61,16 +61,16 @@ abbrev pub without : Scope → Option Hold → ℕ → ℕ
 without scope None sum = sum
 without scope (Some hold) sum = if holds_within scope hold then sum - hold.amount else sum
 
--- an open hold is part of what is held within its scopes
+-- an open hold is part of the sum within its scopes
 abbrev pub IsCovered : Holds → Hold → Type 0
-IsCovered holds hold = (scope : Scope) → holds_within scope hold ≡ true → hold.amount ≤ held_at holds.held scope
+IsCovered holds hold = (scope : Scope) → holds_within scope hold ≡ true → hold.amount ≤ hold_sum_at holds.sums scope
 
 abbrev pub AreCovered : Holds → Type 0
 AreCovered holds = (release : Release) (hold : Hold) → open_under holds release ≡ Some hold → IsCovered holds hold
 
 -- room for what one more entry needs
 abbrev pub HasRoomForHolds : Holds → Type 0
-HasRoomForHolds holds = (0 < spare holds.open) × (1 < spare holds.held.cells)
+HasRoomForHolds holds = (0 < spare holds.open) × (1 < spare holds.sums.cells)
 
 -- ---- what the entries say
 
@@ -101,5 +101,5 @@ pub record AreNumbered (entries : List AccountEntry) : Type 0 where
 -- for every release and scope the maps say what the entries say
 pub record KnowsHolds (holds : Holds) (entries : List AccountEntry) : Type 0 where
   pub found : (release : Release) → open_under holds release ≡ released_hold entries release
-  pub held : (scope : Scope) → held_at holds.held scope ≡ holds_of scope entries
+  pub sums : (scope : Scope) → hold_sum_at holds.sums scope ≡ holds_of scope entries
   pub numbered : AreNumbered entries

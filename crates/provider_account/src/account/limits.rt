@@ -20,15 +20,15 @@ impl Account {
     pub fn is_full(&self, config: &Config, provider: &Party) -> bool
         ensures { result ≡ is_account_full config.now provider.now self.now.entries }
     {
-        config.limits.entries.get() <= self.parts.counts.entries.get(provider)
+        config.limits.entries.get() <= self.index.counts.entries.get(provider)
     }
 
-    // What is held and owed within the scope, in ten-thousandths.
+    // The open holds and debts within the scope, in ten-thousandths.
     fn exposure_within(&self, scope: &Scope) -> u64
         ensures value { result ≡ exposure_of scope.now self.now.entries }
         ensures bound { result ≤ 10 ^ 15 }
     {
-        self.parts.exposure(self.entries.as_slice(), scope)
+        self.index.exposure(self.entries.as_slice(), scope)
     }
 
     fn lacks_pair_credit(&self, config: &Config, ask: &Authorize, hold: u64) -> bool
@@ -61,7 +61,7 @@ impl Account {
         ensures { result ≡ above limit (exposure_of scope.now (self.now.entries ++ account.Charge charge.now ∷ [])) pair }
     {
         let exposure = self
-            .parts
+            .index
             .exposure_with(self.entries.as_slice(), scope, charge);
         above(limit, exposure, pair)
     }
@@ -99,7 +99,7 @@ impl Account {
         ensures { result ≡ pos (settled_debt settlement.now self.now.entries) }
     {
         let debt = self
-            .parts
+            .index
             .debts
             .settled_debt(self.entries.as_slice(), settlement);
         Amount::from_ten_thousandths(debt as i64)
@@ -111,8 +111,8 @@ impl Account {
     {
         let scope = Scope::of_provider(ask.provider, ask.currency);
         let limit = config.limit(&ask.provider, &ask.currency).get();
-        let holds = self.parts.holds.held(&scope);
-        let debts = self.parts.debts.owed(self.entries.as_slice(), &scope);
+        let holds = self.index.holds.total(&scope);
+        let debts = self.index.debts.owed(self.entries.as_slice(), &scope);
         Answer::Exposure {
             holds: Amount::from_ten_thousandths(holds as i64),
             debts: Amount::from_ten_thousandths(debts as i64),

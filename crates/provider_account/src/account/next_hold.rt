@@ -15,7 +15,7 @@ impl Account {
         ensures value { result ≡ count_by (is_hold_of provider.now) self.now.entries }
         ensures bound { result ≤ length self.now.entries }
     {
-        self.parts.counts.holds.get(provider)
+        self.index.counts.holds.get(provider)
     }
 
     // The reference of the provider's next authorisation.

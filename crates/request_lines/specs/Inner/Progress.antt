@@ -1,10 +1,11 @@
 -- A run over lines while it goes on.
-use Rattle.std.specs.Prelude.{◌≡◌, ◌==◌, ℕ, ◌+◌, ◌<◌, Bool, true, false, List, [], ◌∷◌, ◌++◌, length, if◌then◌else◌, All}
+use Rattle.std.specs.Prelude.{◌≡◌, ◌==◌, ℕ, ◌+◌, ◌<◌, true, false, List, [], ◌∷◌, ◌++◌, length, if◌then◌else◌, All}
 use Rattle.request_lines.specs.declared.progress.Progress.{Progress}
 use Rattle.request_lines.specs.declared.faults.ScriptFault.{ScriptFault}
 use Rattle.request_lines.specs.declared.faults.ScriptFault.TheVariants.{Read, Write, NoMemory, LineTooLong}
 use Rattle.request_lines.specs.Lines.{newline, last_line, IsShort}
 use Rattle.request_lines.specs.Answering.{Rule, Run, LinesRead, StopsAtWrite, StopsForMemory, StopsAtLongLine, is_write_fault}
+use Rattle.request_lines.specs.Streams.{Writing}
 
 -- of a stream of which these bytes of a line have come: its lines, its whole lines, and what has come of the next
 abbrev pub lines_from : List ℕ → List ℕ → List (List ℕ)
@@ -55,21 +56,21 @@ abbrev pub state : {A W : Type 0} → A → W → Progress → State A W
 state answerer writer progress = record { answerer = answerer; writer = writer; progress = progress }
 
 -- these lines are answered and counted
-pub record HasAnswered {A W : Type 0} (rule : Rule A) (takes : W → List ℕ → W → Type 0) (failed : W → Bool) (lines : List (List ℕ)) (old new : State A W) : Type 0 where
+pub record HasAnswered {A W : Type 0} (rule : Rule A) (writing : Writing W) (lines : List (List ℕ)) (old new : State A W) : Type 0 where
   pub text : List ℕ
-  pub taken : takes old.writer text new.writer
+  pub taken : writing.takes old.writer text new.writer
   pub answered : rule.answers old.answerer lines text new.answerer
   pub written_is : new.progress.written ≡ old.progress.written + length text
   pub lines_are : new.progress.lines ≡ old.progress.lines + length lines
-  pub unfailed : failed new.writer ≡ failed old.writer
+  pub unfailed : writing.failed new.writer ≡ writing.failed old.writer
 
 -- these lines stopped at a fault
-pub record HasStopped {A W : Type 0} (rule : Rule A) (takes : W → List ℕ → W → Type 0) (failed : W → Bool) (read : LinesRead) (old new : State A W) (fault : ScriptFault) : Type 0 where
+pub record HasStopped {A W : Type 0} (rule : Rule A) (writing : Writing W) (read : LinesRead) (old new : State A W) (fault : ScriptFault) : Type 0 where
   pub text : List ℕ
-  pub taken : takes old.writer text new.writer
+  pub taken : writing.takes old.writer text new.writer
   pub stops : Stops rule read old.progress.lines old.progress.written fault (record { start = old.answerer; written = text; now = new.answerer })
-  pub has_failed : is_write_fault fault ≡ true → failed new.writer ≡ true
-  pub unfailed : is_write_fault fault ≡ false → failed new.writer ≡ failed old.writer
+  pub has_failed : is_write_fault fault ≡ true → writing.failed new.writer ≡ true
+  pub unfailed : is_write_fault fault ≡ false → writing.failed new.writer ≡ writing.failed old.writer
 
 -- these bytes are read, their whole lines are answered, and this is what has come of the next
 pub record IsUnderWay {A : Type 0} (rule : Rule A) (bytes : List ℕ) (run : Run A) (part : List ℕ) (progress : Progress) : Type 0 where

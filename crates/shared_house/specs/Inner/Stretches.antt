@@ -31,7 +31,7 @@ IsStretchFit config events turns stretch = AreFit config events (take stretch.st
 -- it is fit if all calls were told the net positions and the rows that are right
 abbrev pub IsFitByTables : Config → List Event → List Turn → Stretch → Type 0
 IsFitByTables config events turns stretch =
-    All (λ turn. HasRightTable config events turn.made.now) turns → IsStretchFit config events (map plain_turn turns) stretch
+    All (λ turn. HasRightTable config events turn.call.now) turns → IsStretchFit config events (map plain_turn turns) stretch
 
 -- all that were found are
 abbrev pub AreFitByTables : Config → List Event → List Turn → List (Result (Option Stretch) AllocError) → Type 0

@@ -14,7 +14,7 @@ use Rattle.plain_house.specs.declared.event.Event.{Event}
 use Rattle.plain_house.specs.Entries.{book_entries}
 use Rattle.plain_house.specs.House.{positions_in}
 use Rattle.plain_house.specs.Obligations.{obligations}
-use Rattle.shared_house.specs.declared.made.Made.{Made}
+use Rattle.shared_house.specs.declared.call.Call.{Call}
 
 -- the list of each number is what the events oblige to in the period of that number
 abbrev pub AreOwed : List (List Obligation) → List Event → Type 0
@@ -26,8 +26,8 @@ pub record CanBeNetted (config : Config) (owed : List Obligation) : Type 0 where
   pub fits : total_size owed < 2 ^ 63
 
 -- the net positions or the rows that the call was told are those of what all events oblige to in the period
-pub record HasRightTable (config : Config) (events : List Event) (made : Made) : Type 0 where
-  pub positions : (at period : ℕ) (told : List NetPosition) → made.reply ≡ Ok (record { at = at; answer = answer.Closed period told }) →
+pub record HasRightTable (config : Config) (events : List Event) (call : Call) : Type 0 where
+  pub positions : (at period : ℕ) (told : List NetPosition) → call.reply ≡ Ok (record { at = at; answer = answer.Closed period told }) →
       told ≡ positions_in config (book_entries events) period
-  pub rows : (at : ℕ) (ask : StatementOf) (told : List StatementRow) → made.command ≡ command.Statement ask → made.reply ≡ Ok (record { at = at; answer = answer.Statement told }) →
+  pub rows : (at : ℕ) (ask : StatementOf) (told : List StatementRow) → call.command ≡ command.Statement ask → call.reply ≡ Ok (record { at = at; answer = answer.Statement told }) →
       told ≡ statement_rows ask.party (obligations ask.period (book_entries events))

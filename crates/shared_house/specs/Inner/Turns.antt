@@ -8,7 +8,7 @@ use Rattle.plain_house.specs.declared.event.Event.{Event}
 use Rattle.plain_house.specs.House.{events_after}
 use Rattle.plain_house.specs.Legal.{IsLegal}
 use Rattle.plain_house.specs.Replies.{is_no_memory}
-use Rattle.shared_house.specs.declared.made.Made.{Made}
+use Rattle.shared_house.specs.declared.call.Call.{Call}
 use Rattle.shared_house.specs.declared.certifying.turn.Turn.{Turn}
 use Rattle.shared_house.specs.Points.{owns, point_of_reply, seen_behind}
 use Rattle.shared_house.specs.Inner.Ranks.{rank_of}
@@ -17,41 +17,41 @@ use Rattle.shared_house.specs.History.{Stands}
 -- a call that found memory, and what its pass has seen before it
 pub record PlainTurn : Type 0 where
   pub front : ℕ
-  pub made : Made
+  pub call : Call
 
 abbrev pub plain_turn : Turn → PlainTurn
-plain_turn turn = record { front = turn.front; made = turn.made.now }
+plain_turn turn = record { front = turn.front; call = turn.call.now }
 
 -- the turns of a pass that has seen so much
-abbrev pub turns_from : ℕ → List Made → List PlainTurn
+abbrev pub turns_from : ℕ → List Call → List PlainTurn
 turns_from front [] = []
-turns_from front (made ∷ later) =
-    if is_no_memory made.reply then turns_from (seen_behind front made) later
-    else record { front = front; made = made } ∷ turns_from (seen_behind front made) later
+turns_from front (call ∷ later) =
+    if is_no_memory call.reply then turns_from (seen_behind front call) later
+    else record { front = front; call = call } ∷ turns_from (seen_behind front call) later
 
-abbrev pub turns_of : List (List Made) → List PlainTurn
+abbrev pub turns_of : List (List Call) → List PlainTurn
 turns_of passes = flat_map (turns_from 0) passes
 
 abbrev pub point_at : PlainTurn → ℕ
-point_at turn = point_of_reply turn.made.reply
+point_at turn = point_of_reply turn.call.reply
 
 abbrev pub added_at : PlainTurn → ℕ
-added_at turn = if adds_event turn.made.reply then 1 else 0
+added_at turn = if adds_event turn.call.reply then 1 else 0
 
 abbrev pub rank : PlainTurn → ℕ
-rank turn = rank_of turn.made
+rank turn = rank_of turn.call
 
 abbrev pub owns_at : ℕ → PlainTurn → Bool
-owns_at number turn = owns number turn.made
+owns_at number turn = owns number turn.call
 
 -- the turns of these passes, in the order of their ranks
-pub record AreTurns (passes : List (List Made)) (turns : List PlainTurn) : Type 0 where
+pub record AreTurns (passes : List (List Call)) (turns : List PlainTurn) : Type 0 where
   pub same : IsPermutation (turns_of passes) turns
   pub in_order : IsNonDecreasingBy rank turns
 
 -- a call that is in its turn, and stands
 pub record IsFit (config : Config) (events : List Event) (turn : PlainTurn) : Type 0 where
-  pub stands : Stands config events turn.made
+  pub stands : Stands config events turn.call
   pub in_turn : turn.front ≤ point_at turn
 
 -- the turns so far are fit, and so many events are theirs
@@ -72,4 +72,4 @@ Tears config events count turn number =
 pub record IsNext (config : Config) (events : List Event) (count : ℕ) (turn : PlainTurn) (now : List Event) : Type 0 where
   pub fit : IsFit config events turn
   pub point_is : point_at turn ≡ count
-  pub now_is : now ≡ events_after config (take count events) turn.made.command
+  pub now_is : now ≡ events_after config (take count events) turn.call.command

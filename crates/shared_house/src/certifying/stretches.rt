@@ -1,4 +1,4 @@
-//! Stretches of a history, each checked by ledgers of its own.
+//! Stretches of a history, each checked by entry books of its own.
 
 ghost use Rattle.std.specs.Prelude.{All, ◌≡◌, ◌≤◌, ◌++◌, [], true, List, length, map, take, IfOk, IfSome};
 ghost use denote.Param.Send.{IsSync};
@@ -6,7 +6,7 @@ ghost use Rattle.cdr_checks.specs.Admission.{IsAdmitted};
 ghost use Rattle.plain_house.specs.declared.event.Event.{Event};
 ghost use Rattle.plain_house.specs.House.{events_after};
 ghost use Rattle.plain_house.specs.Legal.{IsLegal};
-ghost use Rattle.period_order.specs.Ledgers.{Keep};
+ghost use Rattle.period_order.specs.EntryBooks.{Keep};
 ghost use Rattle.shared_house.specs.Points.{point_of_reply};
 ghost use Rattle.shared_house.specs.History.{Stands, events_before};
 ghost use Rattle.shared_house.specs.Inner.Stretches.{Agrees, AreFitByTables, IsFitByTables, IsStretchFit};
@@ -15,11 +15,11 @@ ghost use Rattle.shared_house.specs.Inner.Turns.{AreFit, IsNext, plain_turn};
 
 use super::tables::are_tables_right;
 use super::turn::Turn;
-use crate::made::Made;
+use crate::call::Call;
 use ocpi_json::same::Same;
 use ocpi_types::{Config, TryCopy};
 use operator_book::Book;
-use period_order::{Decided, Ledgers, Outcome};
+use period_order::{Decided, EntryBooks, Outcome};
 use plain_house::{
     Answer, Event, Refused, Replied, adds_event, closed_periods_stay, commands_keep_lists_legal,
     empty_lists_are_legal, events_are_of_configured, legal_lists_begin_legally,
@@ -39,15 +39,15 @@ pub struct Stretch {
     pub until: u64,
 }
 
-// Puts events behind those that the ledgers keep. False where one cannot be put.
-fn put_all(ledgers: &mut Ledgers, events: &[Event]) -> Result<bool, AllocError>
-    ensures config { ledgers.new.config ≡ ledgers.old.config }
-    ensures put { IfOk result (λ are_put. are_put ≡ true → (before : List Event) → Keep ledgers.old before →
-        IsLegal ledgers.old.config (before ++ events.now) → Keep ledgers.new (before ++ events.now)) }
+// Puts events behind those that the entry books keep. False where one cannot be put.
+fn put_all(entry_books: &mut EntryBooks, events: &[Event]) -> Result<bool, AllocError>
+    ensures config { entry_books.new.config ≡ entry_books.old.config }
+    ensures put { IfOk result (λ are_put. are_put ≡ true → (before : List Event) → Keep entry_books.old before →
+        IsLegal entry_books.old.config (before ++ events.now) → Keep entry_books.new (before ++ events.now)) }
 {
     legal_lists_begin_legally();
     for event in events {
-        if !ledgers.put(event)? {
+        if !entry_books.put(event)? {
             return Ok(false);
         }
     }
@@ -84,35 +84,35 @@ fn agrees(decided: Decided, reply: &Result<Replied, Refused>) -> bool
     }
 }
 
-// Does the command of a call on ledgers that keep the events before it, and tells whether the call stands there if what it was told
+// Does the command of a call on entry books that keep the events before it, and tells whether the call stands there if what it was told
 // of net positions or rows is right.
 fn stands(
     alloc: Global,
-    ledgers: &mut Ledgers,
+    entry_books: &mut EntryBooks,
     events: &[Event],
-    made: &Made,
+    call: &Call,
 ) -> Result<bool, AllocError>
-    requires admitted { IsAdmitted ledgers.old.config made.now.command }
-    requires within { point_of_reply made.now.reply ≤ length events.now }
-    ensures config { ledgers.new.config ≡ ledgers.old.config }
-    ensures stands { IfOk result (λ stands. stands ≡ true → HasRightTable ledgers.old.config events.now made.now →
-        Keep ledgers.old (events_before events.now made.now) → Stands ledgers.old.config events.now made.now) }
-    ensures kept { IfOk result (λ _. Keep ledgers.old (events_before events.now made.now) →
-        Keep ledgers.new (events_after ledgers.old.config (events_before events.now made.now) made.now.command)) }
+    requires admitted { IsAdmitted entry_books.old.config call.now.command }
+    requires within { point_of_reply call.now.reply ≤ length events.now }
+    ensures config { entry_books.new.config ≡ entry_books.old.config }
+    ensures stands { IfOk result (λ stands. stands ≡ true → HasRightTable entry_books.old.config events.now call.now →
+        Keep entry_books.old (events_before events.now call.now) → Stands entry_books.old.config events.now call.now) }
+    ensures kept { IfOk result (λ _. Keep entry_books.old (events_before events.now call.now) →
+        Keep entry_books.new (events_after entry_books.old.config (events_before events.now call.now) call.now.command)) }
 {
     closed_periods_stay();
     events_are_of_configured();
     replies_tell_events();
-    let command = made.command.copy(alloc)?;
-    let decided = ledgers.decide(command)?;
-    if !agrees(decided, &made.reply) {
+    let command = call.command.copy(alloc)?;
+    let decided = entry_books.decide(command)?;
+    if !agrees(decided, &call.reply) {
         return Ok(false);
     }
-    if !adds_event(&made.reply) {
+    if !adds_event(&call.reply) {
         return Ok(true);
     }
-    match events.get(made.point() as usize) {
-        Some(event) => Ok(ledgers.is_last(event)),
+    match events.get(call.point() as usize) {
+        Some(event) => Ok(entry_books.is_last(event)),
         None => Ok(false),
     }
 }
@@ -120,76 +120,76 @@ fn stands(
 // Does the command of the next turn, where so many events are those of the turns before it, and tells whether it is fit.
 fn takes_turn(
     alloc: Global,
-    ledgers: &mut Ledgers,
+    entry_books: &mut EntryBooks,
     events: &[Event],
     turn: &Turn,
     count: u64,
 ) -> Result<bool, AllocError>
-    requires admitted { IsAdmitted ledgers.old.config turn.now.made.now.command }
-    ensures config { ledgers.new.config ≡ ledgers.old.config }
+    requires admitted { IsAdmitted entry_books.old.config turn.now.call.now.command }
+    ensures config { entry_books.new.config ≡ entry_books.old.config }
     ensures within { IfOk result (λ takes. takes ≡ true → count ≤ length events.now) }
-    ensures next { IfOk result (λ takes. takes ≡ true → HasRightTable ledgers.old.config events.now turn.now.made.now → Keep ledgers.old (take count events.now) →
-        IsNext ledgers.old.config events.now count (plain_turn turn.now) (events_after ledgers.old.config (take count events.now) turn.now.made.now.command)) }
-    ensures kept { IfOk result (λ takes. takes ≡ true → Keep ledgers.old (take count events.now) →
-        Keep ledgers.new (events_after ledgers.old.config (take count events.now) turn.now.made.now.command)) }
+    ensures next { IfOk result (λ takes. takes ≡ true → HasRightTable entry_books.old.config events.now turn.now.call.now → Keep entry_books.old (take count events.now) →
+        IsNext entry_books.old.config events.now count (plain_turn turn.now) (events_after entry_books.old.config (take count events.now) turn.now.call.now.command)) }
+    ensures kept { IfOk result (λ takes. takes ≡ true → Keep entry_books.old (take count events.now) →
+        Keep entry_books.new (events_after entry_books.old.config (take count events.now) turn.now.call.now.command)) }
 {
-    let point = turn.made.point();
+    let point = turn.call.point();
     if point != count || u128::from(point) < turn.front || events.len() < point as usize {
         return Ok(false);
     }
-    stands(alloc, ledgers, events, turn.made)
+    stands(alloc, entry_books, events, turn.call)
 }
 
-// The turns of a stretch are fit on ledgers that keep the events before it.
+// The turns of a stretch are fit on entry books that keep the events before it.
 fn are_fit(
     alloc: Global,
-    ledgers: &mut Ledgers,
+    entry_books: &mut EntryBooks,
     events: &[Event],
     turns: &[Turn],
     stretch: Stretch,
 ) -> Result<bool, AllocError>
-    requires admitted { All (λ turn. IsAdmitted ledgers.old.config turn.made.now.command) turns.now }
+    requires admitted { All (λ turn. IsAdmitted entry_books.old.config turn.call.now.command) turns.now }
     requires within { (stretch.start ≤ stretch.end) × (stretch.end ≤ length turns.now) }
-    requires kept { IsLegal ledgers.old.config (take stretch.from events.now) → Keep ledgers.old (take stretch.from events.now) }
-    ensures { IfOk result (λ are. are ≡ true → IsFitByTables ledgers.old.config events.now turns.now stretch) }
+    requires kept { IsLegal entry_books.old.config (take stretch.from events.now) → Keep entry_books.old (take stretch.from events.now) }
+    ensures { IfOk result (λ are. are ≡ true → IsFitByTables entry_books.old.config events.now turns.now stretch) }
 {
     commands_keep_lists_legal();
     replies_tell_events();
     let mut count = stretch.from;
     for number in stretch.start..stretch.end {
         let turn = &turns[number];
-        if !takes_turn(alloc, ledgers, events, turn, count)? {
+        if !takes_turn(alloc, entry_books, events, turn, count)? {
             return Ok(false);
         }
-        if adds_event(&turn.made.reply) {
+        if adds_event(&turn.call.reply) {
             count += 1;
         }
     }
     Ok(count == stretch.until)
 }
 
-// The same on ledgers that keep no event yet. False too where the events before the stretch cannot be put.
+// The same on entry books that keep no event yet. False too where the events before the stretch cannot be put.
 fn are_fit_behind(
     alloc: Global,
-    ledgers: &mut Ledgers,
+    entry_books: &mut EntryBooks,
     events: &[Event],
     turns: &[Turn],
     stretch: Stretch,
 ) -> Result<bool, AllocError>
-    requires admitted { All (λ turn. IsAdmitted ledgers.old.config turn.made.now.command) turns.now }
+    requires admitted { All (λ turn. IsAdmitted entry_books.old.config turn.call.now.command) turns.now }
     requires within { (stretch.start ≤ stretch.end) × (stretch.end ≤ length turns.now) }
     requires begins { stretch.from ≤ length events.now }
-    requires empty { Keep ledgers.old [] }
-    ensures { IfOk result (λ are. are ≡ true → IsFitByTables ledgers.old.config events.now turns.now stretch) }
+    requires empty { Keep entry_books.old [] }
+    ensures { IfOk result (λ are. are ≡ true → IsFitByTables entry_books.old.config events.now turns.now stretch) }
 {
     Ok(
-        put_all(ledgers, &events[..stretch.from as usize])?
-            && are_fit(alloc, ledgers, events, turns, stretch)?,
+        put_all(entry_books, &events[..stretch.from as usize])?
+            && are_fit(alloc, entry_books, events, turns, stretch)?,
     )
 }
 
 // The stretch, where its turns are fit if what calls were told of net positions and rows is right. None too where it is none of the
-// turns, or the events before it cannot be put. Its ledgers have room for as many entries as the books and accounts have.
+// turns, or the events before it cannot be put. Its entry books have room for as many entries as the books and accounts have.
 fn fit_stretch(
     alloc: Global,
     config: &Config,
@@ -199,7 +199,7 @@ fn fit_stretch(
     turns: &[Turn],
     stretch: Stretch,
 ) -> Result<Option<Stretch>, AllocError>
-    requires { All (λ turn. IsAdmitted config.now turn.made.now.command) turns.now }
+    requires { All (λ turn. IsAdmitted config.now turn.call.now.command) turns.now }
     ensures { IfOk result (λ found. IfSome found (IsFitByTables config.now events.now turns.now)) }
 {
     if stretch.end < stretch.start
@@ -208,8 +208,8 @@ fn fit_stretch(
     {
         return Ok(None);
     }
-    let mut ledgers = Ledgers::with_room(alloc, config.copy(alloc)?, books, accounts)?;
-    if are_fit_behind(alloc, &mut ledgers, events, turns, stretch)? {
+    let mut entry_books = EntryBooks::with_room(alloc, config.copy(alloc)?, books, accounts)?;
+    if are_fit_behind(alloc, &mut entry_books, events, turns, stretch)? {
         Ok(Some(stretch))
     } else {
         Ok(None)
@@ -269,7 +269,7 @@ fn stretches_of(
     for behind in (0..count).rev() {
         let end = start + share(turns.len() - start, behind);
         let until = match turns.get(end) {
-            Some(turn) => turn.made.point(),
+            Some(turn) => turn.call.point(),
             None => events.len() as u64,
         };
         stretches.push(Stretch {
@@ -302,7 +302,7 @@ fn fit_stretches<R: Threads + Sync>(
     events: &[Event],
     turns: &[Turn],
 ) -> Result<Vec<Result<Option<Stretch>, AllocError>>, AllocError>
-    requires { All (λ turn. IsAdmitted config.now turn.made.now.command) turns.now }
+    requires { All (λ turn. IsAdmitted config.now turn.call.now.command) turns.now }
     ensures { IfOk result (λ found. AreFitByTables config.now events.now turns.now found.items) }
 {
     let stretches = stretches_of(alloc, events, turns, processors(rt))?;
@@ -335,14 +335,14 @@ pub fn is_found_in_stretches<R: Threads + Sync>(
     events: &[Event],
     turns: &[Turn],
 ) -> Result<bool, AllocError>
-    requires { All (λ turn. IsAdmitted config.now turn.made.now.command) turns.now }
+    requires { All (λ turn. IsAdmitted config.now turn.call.now.command) turns.now }
     ensures { IfOk result (λ is. is ≡ true → AreFit config.now events.now (map plain_turn turns.now) (length events.now)) }
 {
     let tables = || -> Result<bool, AllocError>
-        ensures { IfOk result (λ are. are ≡ true → All (λ turn. HasRightTable config.entry.now events.entry.now turn.made.now) turns.entry.now) }
+        ensures { IfOk result (λ are. are ≡ true → All (λ turn. HasRightTable config.entry.now events.entry.now turn.call.now) turns.entry.now) }
     { are_tables_right(alloc, config, events, turns) };
     let stretches = || -> Result<Vec<Result<Option<Stretch>, AllocError>>, AllocError>
-        requires { IsSync R.row × All (λ turn. IsAdmitted config.now turn.made.now.command) turns.now }
+        requires { IsSync R.row × All (λ turn. IsAdmitted config.now turn.call.now.command) turns.now }
         ensures { IfOk result (λ found. AreFitByTables config.entry.now events.entry.now turns.entry.now found.items) }
     { fit_stretches(rt, alloc, config, books, accounts, events, turns) };
     let (are_right, found) = thread::join(rt, tables, stretches);

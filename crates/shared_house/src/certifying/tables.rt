@@ -1,4 +1,4 @@
-//! The net positions and the rows of statements that calls were told, held against what their periods oblige to.
+//! The net positions and the rows of statements that calls were told, compared with what their periods oblige to.
 
 ghost use Rattle.std.specs.Prelude.{All, List, ◌≡◌, true, map, IfOk};
 ghost use Rattle.netting_positions.specs.Netting.{is_configured, parties};
@@ -10,7 +10,7 @@ ghost use Rattle.plain_house.specs.Obligations.{obligations};
 ghost use Rattle.shared_house.specs.Inner.Tables.{AreOwed, CanBeNetted, HasRightTable};
 
 use super::turn::Turn;
-use crate::made::Made;
+use crate::call::Call;
 use cdr_checks::{Command, StatementOf};
 use netting_positions::{
     NetPosition, Obligation, Positions, StatementRow, add_each, parties_are_configured, rows_of,
@@ -98,12 +98,12 @@ fn has_right_table(
     alloc: Global,
     config: &Config,
     owed: &[Vec<Obligation>],
-    made: &Made,
+    call: &Call,
 ) -> Result<bool, AllocError>
     requires { All (λ list. CanBeNetted config.now list.items) owed.now }
-    ensures { IfOk result (λ has. has ≡ true → (events : List Event) → AreOwed (map (λ list. list.items) owed.now) events → HasRightTable config.now events made.now) }
+    ensures { IfOk result (λ has. has ≡ true → (events : List Event) → AreOwed (map (λ list. list.items) owed.now) events → HasRightTable config.now events call.now) }
 {
-    match (&made.command, &made.reply) {
+    match (&call.command, &call.reply) {
         (
             _,
             Ok(
@@ -145,14 +145,14 @@ pub fn are_tables_right(
     events: &[Event],
     turns: &[Turn],
 ) -> Result<bool, AllocError>
-    ensures { IfOk result (λ are. are ≡ true → All (λ turn. HasRightTable config.now events.now turn.made.now) turns.now) }
+    ensures { IfOk result (λ are. are ≡ true → All (λ turn. HasRightTable config.now events.now turn.call.now) turns.now) }
 {
     let owed = owed_by_period(alloc, events)?;
     if !can_all_be_netted(config, owed.as_slice()) {
         return Ok(false);
     }
     for turn in turns {
-        if !has_right_table(alloc, config, owed.as_slice(), turn.made)? {
+        if !has_right_table(alloc, config, owed.as_slice(), turn.call)? {
             return Ok(false);
         }
     }

@@ -9,7 +9,7 @@ ghost use Rattle.period_order.specs.Kept.{IsConfiguration};
 ghost use Rattle.shared_house.specs.Inner.Collecting.{IsCollected, IsNetted, IsStated};
 
 use super::locks::House;
-use crate::gate::{Gate, Place};
+use crate::gate::{Gate, Waypoint};
 use crate::laws::collecting_laws;
 use crate::ledgers::{Configured, Names, Part};
 use crate::locked::LockedBook;
@@ -69,7 +69,7 @@ impl<N: Names> House<N> {
         is_configuration(&self.config);
         let operators = self.config.operators.as_slice();
         for number in 0..self.locks.books.len() {
-            gate.at(pass, Place::Collecting(number));
+            gate.at(pass, Waypoint::Collecting(number));
             let held = take_lock(rt, &self.locks.books[number]);
             collect_from(&self.config, &held, &operators[number].party, period, table);
         }

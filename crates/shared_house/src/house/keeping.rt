@@ -5,7 +5,7 @@ ghost use Rattle.plain_house.specs.Laws.{most_rows};
 ghost use Rattle.plain_house.specs.Replies.{no_memory};
 ghost use Rattle.plain_house.specs.ReplyRoom.{FitsIn};
 
-use crate::made::Made;
+use crate::call::Call;
 use cdr_checks::Command;
 use ocpi_types::{Config, TryCopy};
 use plain_house::{Refused, Replied, ReplyRoom, out_of_memory};
@@ -21,7 +21,7 @@ pub struct CallRoom {
 /// Takes memory for one call more, its place first, and what it returns; the calls so far are as before.
 pub fn room_for_call(
     config: &Config,
-    calls: &mut Vec<Made>,
+    calls: &mut Vec<Call>,
     command: &Command,
 ) -> Result<CallRoom, AllocError>
     ensures same { calls.new.items ≡ calls.old.items }
@@ -39,13 +39,13 @@ pub fn room_for_call(
 }
 
 /// Refuses a call that has not been made, for want of memory. It is kept so if there is a place for it.
-pub fn refused(calls: &mut Vec<Made>, command: Command) -> Result<Replied, Refused>
+pub fn refused(calls: &mut Vec<Call>, command: Command) -> Result<Replied, Refused>
     ensures kept { vec_len calls.old < vec_capacity calls.old → calls.new.items ≡ calls.old.items ++ record { command = command; reply = no_memory } ∷ [] }
     ensures not_kept { vec_capacity calls.old ≤ vec_len calls.old → (calls.new.items ≡ calls.old.items) × (vec_capacity calls.new ≤ vec_len calls.new) }
     ensures refused { result ≡ no_memory }
 {
     if calls.len() < calls.capacity() {
-        calls.push_reserved(Made {
+        calls.push_reserved(Call {
             command,
             reply: Err(out_of_memory()),
         });
@@ -54,11 +54,11 @@ pub fn refused(calls: &mut Vec<Made>, command: Command) -> Result<Replied, Refus
 }
 
 /// The call with what it returned, without taking memory.
-pub fn filled(kept: CallRoom, reply: &Result<Replied, Refused>) -> Made
+pub fn filled(kept: CallRoom, reply: &Result<Replied, Refused>) -> Call
     requires { FitsIn kept.room reply.now }
     ensures { result ≡ record { command = kept.command; reply = reply.now } }
 {
     let CallRoom { command, room } = kept;
     let reply = room.fill(reply);
-    Made { command, reply }
+    Call { command, reply }
 }

@@ -7,7 +7,7 @@ ghost use Rattle.shared_house.specs.Calls.{Returns, event_count, is_collecting};
 
 use super::locks::House;
 use super::numbers::{account_number, book_number};
-use crate::gate::{Gate, Place};
+use crate::gate::{Gate, Waypoint};
 use crate::held::{answer_both, answer_in_account, answer_in_book};
 use crate::ledgers::{Configured, Names, Part};
 use crate::waiting::take_lock;
@@ -39,9 +39,9 @@ impl<N: Names> House<N> {
         ensures returns { Returns N.BookEntries.config command mine.old.amount result }
     {
         let mut held_book = take_lock(rt, &self.locks.books[book]);
-        gate.at(pass, Place::BookHeld(book));
+        gate.at(pass, Waypoint::BookHeld(book));
         let mut held_account = take_lock(rt, &self.locks.accounts[account]);
-        gate.at(pass, Place::AccountHeld(account));
+        gate.at(pass, Waypoint::AccountHeld(account));
         answer_both(
             rt,
             &self.config,
@@ -73,7 +73,7 @@ impl<N: Names> House<N> {
         ensures returns { Returns N.BookEntries.config command mine.old.amount result }
     {
         let mut held = take_lock(rt, &self.locks.books[book]);
-        gate.at(pass, Place::BookHeld(book));
+        gate.at(pass, Waypoint::BookHeld(book));
         answer_in_book(
             rt,
             &self.config,
@@ -104,7 +104,7 @@ impl<N: Names> House<N> {
         ensures returns { Returns N.BookEntries.config command mine.old.amount result }
     {
         let mut held = take_lock(rt, &self.locks.accounts[account]);
-        gate.at(pass, Place::AccountHeld(account));
+        gate.at(pass, Waypoint::AccountHeld(account));
         answer_in_account(
             rt,
             &self.config,

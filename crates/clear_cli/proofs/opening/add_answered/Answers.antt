@@ -1,6 +1,6 @@
 use Rattle.std.proofs.Common.{rules, append-nil, refl, subst, sym}
-use Rattle.clear_cli.specs.declared.fault.Fault.{Fault}
-use Rattle.clear_cli.specs.Fault.{IsTold, fault_text, file_line}
+use Rattle.command_line.specs.declared.fault.Fault.{Fault}
+use Rattle.command_line.specs.Fault.{IsTold, fault_text, file_line}
 use Rattle.clear_cli.specs.Opening.{Opened, Unmade}
 use Rattle.clear_cli.proofs.opening.add_answered.Goals as goal
 
@@ -21,7 +21,7 @@ returns-in-Err-clause-added g c = record {
   pairs_is = sym (append-nil c.args.opened.now.pairs.items);
   told = (
     c.tell_of_file.new.faults,
-    subst (λ (f : Fault). IsTold g.F.Sink.takes g.F.Sink.failed c.args.faults.now (file_line c.args.number (fault_text f)) c.tell_of_file.new.faults) c.from.ensures c.tell_of_file.ensures,
+    subst (λ (f : Fault). IsTold g.F.Sink.writing c.args.faults.now (file_line c.args.number (fault_text f)) c.tell_of_file.new.faults) c.from.ensures c.tell_of_file.ensures,
     refl,
   );
 }

@@ -2,7 +2,7 @@ use Rattle.std.proofs.Common.{rules, List, map, sym, subst}
 use Rattle.netting_positions.specs.declared.obligation.Obligation.{Obligation}
 use Rattle.plain_house.specs.Entries.{book_entries}
 use Rattle.plain_house.specs.Obligations.{obligations}
-use Rattle.clear_cli.specs.Folder.{AreLeft, AreWritten, FolderWords}
+use Rattle.clear_cli.specs.Folder.{AreLeft, AreWritten, folder_words}
 use Rattle.clear_cli.specs.Inner.Stated.{CanBeStated}
 use Rattle.clear_cli.specs.Outputs.{statement_output, statements}
 use Rattle.clear_cli.proofs.OutputLemmas.{goes_on, left_in_period, one_period_more, owed_first, written_more}
@@ -18,7 +18,7 @@ write_period-requires g c =
 
 pub loop-period-preserved : goal.loop-period-preserved
 loop-period-preserved g c =
-    let words : FolderWords _ _ = record { makes = g.O.Folder.makes; refuses = g.O.Folder.refuses; takes = g.O.File.Sink.takes; failed = g.O.File.Sink.failed } in
+    let words = folder_words g.O.Folder.making g.O.File.Sink.writing in
     let events = c.args.events.now in
     let among = c.args.parties.now in
     let period = c.loop-period.period in
@@ -32,7 +32,7 @@ loop-period-preserved g c =
 
 pub returns-in_err-write_period-clause-err : goal.returns-in_err-write_period-clause-err
 returns-in_err-write_period-clause-err g c =
-    let words : FolderWords _ _ = record { makes = g.O.Folder.makes; refuses = g.O.Folder.refuses; takes = g.O.File.Sink.takes; failed = g.O.File.Sink.failed } in
+    let words = folder_words g.O.Folder.making g.O.File.Sink.writing in
     let events = c.args.events.now in
     let among = c.args.parties.now in
     let period = c.loop-period.period in

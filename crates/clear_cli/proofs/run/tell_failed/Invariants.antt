@@ -6,6 +6,6 @@ use Rattle.clear_cli.proofs.run.tell_failed.Given as goal
 
 abbrev pub invariant-loop-place : goal.invariant-loop-place
 invariant-loop-place g l = record {
-  told : AreTold g.F.Sink.takes g.F.Sink.failed l.fn.faults (worker_lines (take l.place l.named) (take l.place l.ends)) l.faults;
+  told : AreTold g.F.Sink.writing l.fn.faults (worker_lines (take l.place l.named) (take l.place l.ends)) l.faults;
   done : (l.are_done ≡ true) ↔ (worker_lines (take l.place l.named) (take l.place l.ends) ≡ []);
 }

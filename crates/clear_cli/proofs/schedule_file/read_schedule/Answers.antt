@@ -12,8 +12,8 @@ use Rattle.clear_cli.proofs.schedule_file.read_schedule.Goals as goal
 pub returns-clause-told : goal.returns-clause-told
 returns-clause-told g c =
     let told = c.run_lines-run.ensures.told in
-    let failed = g.R.Source.failed c.run_lines-run.new.reader in
-    let at_end = g.R.Source.at_end c.run_lines-run.new.reader in
+    let failed = g.R.Source.reading.failed c.run_lines-run.new.reader in
+    let at_end = g.R.Source.reading.at_end c.run_lines-run.new.reader in
     let begins = ap₂ (λ (commands : List Command) (steps : List Step). record { schedule = record { commands = commands; steps = steps }; lines = 0; fault = None }) c.new.ensures.items c.new-2.ensures.items in
     let so = ended_so _ (λ (a : Reading). a.config.now) (λ a. record { schedule = a.schedule; lines = a.lines; fault = a.fault }) (λ a b lines text answers. answers) _ c.run_lines-run.new.answerer begins told.0 told.1 failed at_end told.2 c.run_lines-run.result c.ended.ensures.counted told.6 in (
       told.0,

@@ -1,7 +1,7 @@
 use Rattle.std.proofs.Common.{◌≡◌, ◌∙◌, ℕ, List, Result, IfOk, IfSome, MatchResult, Some, map, subst, sym}
 use Rattle.std.specs.String.{string_bytes}
-use Rattle.clear_cli.specs.declared.fault.Fault.{Fault}
-use Rattle.clear_cli.specs.declared.fault.Fault.TheVariants.{NoMemory}
+use Rattle.command_line.specs.declared.fault.Fault.{Fault}
+use Rattle.command_line.specs.declared.fault.Fault.TheVariants.{NoMemory}
 use Rattle.clear_cli.specs.declared.words.Job.{Job}
 use Rattle.clear_cli.specs.Words.{Asked, asked_of_house, asked_by}
 use Rattle.clear_cli.proofs.AskedWords.{all_utf8, answered, for_ask, given, met, only_memory}

@@ -3,7 +3,7 @@ use Rattle.std.specs.Prelude.{ℕ, List, filter, flat_map, sum_by, unsigned_abs}
 use Rattle.ocpi_types.specs.Currency.{same_currency}
 use Rattle.ocpi_types.specs.Party.{same_party}
 use Rattle.ocpi_types.specs.declared.party.Party.{Party}
-use Rattle.house_reports.specs.balances.Balances.{place_of, row_of}
+use Rattle.house_reports.specs.balances.Balances.{key_of, row_of}
 use Rattle.house_reports.specs.balances.Laws.{is_in}
 use Rattle.house_reports.specs.declared.balances.booking.Booking.{Booking}
 use Rattle.house_reports.specs.declared.balances.row.Row.{Row}
@@ -27,7 +27,7 @@ of_provider provider bookings = filter (λ booking. same_party booking.provider 
 -- of bookings of one period, currency and operator: a row for each of these providers
 abbrev pub rows_of_operator : ℕ → List ℕ → Party → List Party → List Booking → List Row
 rows_of_operator period currency operator providers bookings =
-    flat_map (λ provider. row_of (place_of period currency operator provider) (of_provider provider bookings)) providers
+    flat_map (λ provider. row_of (key_of period currency operator provider) (of_provider provider bookings)) providers
 
 -- of bookings of one period and currency
 abbrev pub rows_of_currency : ℕ → List ℕ → List Party → List Party → List Booking → List Row

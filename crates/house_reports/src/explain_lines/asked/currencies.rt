@@ -4,7 +4,7 @@ ghost use Rattle.std.specs.Prelude.{◌≡◌, not, position};
 ghost use Rattle.ocpi_types.specs.Currency.{same_currency};
 ghost use Rattle.house_reports.specs.explain_lines.Currencies.{asked_currency, of_another_currency, wrong_currency};
 
-use crate::explain_lines::place::Place;
+use crate::explain_lines::member_path::MemberPath;
 use crate::explain_lines::telling::{Cause, Told, Value};
 use cdr_checks::Ask;
 use ocpi_json::name::Name;
@@ -77,10 +77,10 @@ pub fn wrong_currency(config: &Config, ask: &Ask) -> Option<WrongCurrency>
 }
 
 // Where the request's object stands that has the currency.
-fn holder(ask: &Ask) -> Place {
+fn holder(ask: &Ask) -> MemberPath {
     match ask {
-        Ask::PutTariff(_) => Place::at(Name::Tariff),
-        Ask::Post(_) => Place::at(Name::Cdr),
+        Ask::PutTariff(_) => MemberPath::at(Name::Tariff),
+        Ask::Post(_) => MemberPath::at(Name::Cdr),
         Ask::PutToken(_)
         | Ask::Authorize(_)
         | Ask::Release(_)
@@ -88,7 +88,7 @@ fn holder(ask: &Ask) -> Place {
         | Ask::Settle(_)
         | Ask::Exposure(_)
         | Ask::Find(_)
-        | Ask::Statement(_) => Place::nowhere(),
+        | Ask::Statement(_) => MemberPath::nowhere(),
     }
 }
 
@@ -97,9 +97,9 @@ fn of_tariff(ask: &Ask, number: usize) -> Option<Told> {
         return None;
     };
     let found = cdr.tariffs.as_slice().get(number)?.currency;
-    let tariff = Place::at(Name::Cdr).then(Name::Tariffs, Some(number));
-    let place = tariff.then(Name::Currency, None);
-    let told = Told::new(place, Cause::NotCurrencyOfCdr, Value::Currency(found));
+    let tariff = MemberPath::at(Name::Cdr).then(Name::Tariffs, Some(number));
+    let path = tariff.then(Name::Currency, None);
+    let told = Told::new(path, Cause::NotCurrencyOfCdr, Value::Currency(found));
     Some(told.against(Value::Currency(cdr.currency)))
 }
 
@@ -109,8 +109,8 @@ pub fn told(config: &Config, ask: &Ask) -> Option<Told> {
     match wrong_currency(config, ask)? {
         WrongCurrency::OfTariff(number) => of_tariff(ask, number),
         WrongCurrency::Asked => {
-            let place = holder(ask).then(Name::Currency, None);
-            Some(Told::new(place, Cause::NotConfigured, Value::Currency(own)))
+            let path = holder(ask).then(Name::Currency, None);
+            Some(Told::new(path, Cause::NotConfigured, Value::Currency(own)))
         }
     }
 }

@@ -3,7 +3,7 @@
 ghost use Rattle.std.specs.Prelude.{◌≡◌};
 ghost use Rattle.house_reports.specs.explain_lines.Dates.{out_of_order};
 
-use crate::explain_lines::place::Place;
+use crate::explain_lines::member_path::MemberPath;
 use crate::explain_lines::telling::{Cause, Told, Value};
 use jiff::Timestamp;
 use ocpi_json::name::Name;
@@ -53,25 +53,25 @@ fn in_front(cdr: &Cdr, number: usize) -> Timestamp {
     }
 }
 
-fn before(place: Place, found: Timestamp, against: Timestamp) -> Told {
-    let told = Told::new(place, Cause::BeforeItsFront, Value::Moment(found));
+fn before(path: MemberPath, found: Timestamp, against: Timestamp) -> Told {
+    let told = Told::new(path, Cause::BeforeItsFront, Value::Moment(found));
     told.against(Value::Moment(against))
 }
 
 /// Which date is before which.
 pub fn told(cdr: &Cdr) -> Option<Told> {
     let periods = cdr.charging_periods.as_slice();
-    let of_cdr = Place::at(Name::Cdr);
+    let of_cdr = MemberPath::at(Name::Cdr);
     match out_of_order(cdr)? {
         OutOfOrder::Period(number) => {
             let period = of_cdr.then(Name::ChargingPeriods, Some(number));
             let found = periods.get(number)?.start_date_time;
-            let place = period.then(Name::StartDateTime, None);
-            Some(before(place, found, in_front(cdr, number)))
+            let path = period.then(Name::StartDateTime, None);
+            Some(before(path, found, in_front(cdr, number)))
         }
         OutOfOrder::End => {
-            let place = of_cdr.then(Name::EndDateTime, None);
-            Some(before(place, cdr.end_date_time, in_front(cdr, periods.len())))
+            let path = of_cdr.then(Name::EndDateTime, None);
+            Some(before(path, cdr.end_date_time, in_front(cdr, periods.len())))
         }
     }
 }

@@ -3,7 +3,7 @@
 ghost use Rattle.std.specs.Prelude.{◌≡◌};
 ghost use Rattle.house_reports.specs.explain_lines.Parties.{named_parties, unknown_either, unknown_operator, unknown_party, unknown_provider};
 
-use crate::explain_lines::place::Place;
+use crate::explain_lines::member_path::MemberPath;
 use crate::explain_lines::telling::{Cause, Told, Value};
 use cdr_checks::Ask;
 use ocpi_json::name::Name;
@@ -95,33 +95,33 @@ pub fn unknown_party(config: &Config, named: &NamedParties) -> Option<UnknownPar
 }
 
 // Where the request names that party.
-fn place(ask: &Ask, unknown: &UnknownParty) -> Place {
+fn path(ask: &Ask, unknown: &UnknownParty) -> MemberPath {
     match (ask, unknown) {
-        (Ask::PutTariff(_), _) => Place::at(Name::Tariff),
-        (Ask::PutToken(_), _) => Place::at(Name::Token),
+        (Ask::PutTariff(_), _) => MemberPath::at(Name::Tariff),
+        (Ask::PutToken(_), _) => MemberPath::at(Name::Token),
         (Ask::Post(_), UnknownParty::Provider(_)) => {
-            Place::at(Name::Cdr).then(Name::CdrToken, None)
+            MemberPath::at(Name::Cdr).then(Name::CdrToken, None)
         }
-        (Ask::Post(_), _) => Place::at(Name::Cdr),
-        (_, UnknownParty::Operator(_)) => Place::at(Name::Operator),
-        (_, UnknownParty::Provider(_)) => Place::at(Name::Provider),
-        (_, UnknownParty::Either(_)) => Place::at(Name::Party),
+        (Ask::Post(_), _) => MemberPath::at(Name::Cdr),
+        (_, UnknownParty::Operator(_)) => MemberPath::at(Name::Operator),
+        (_, UnknownParty::Provider(_)) => MemberPath::at(Name::Provider),
+        (_, UnknownParty::Either(_)) => MemberPath::at(Name::Party),
     }
 }
 
 /// Which party is not configured.
 pub fn told(config: &Config, ask: &Ask) -> Option<Told> {
     let unknown = unknown_party(config, &named_parties(ask))?;
-    let place = place(ask, &unknown);
+    let path = path(ask, &unknown);
     match &unknown {
         UnknownParty::Operator(party) => {
-            Some(Told::new(place, Cause::NoOperator, Value::Party(*party)))
+            Some(Told::new(path, Cause::NoOperator, Value::Party(*party)))
         }
         UnknownParty::Provider(party) => {
-            Some(Told::new(place, Cause::NoProvider, Value::Party(*party)))
+            Some(Told::new(path, Cause::NoProvider, Value::Party(*party)))
         }
         UnknownParty::Either(party) => {
-            Some(Told::new(place, Cause::NotConfigured, Value::Party(*party)))
+            Some(Told::new(path, Cause::NotConfigured, Value::Party(*party)))
         }
     }
 }

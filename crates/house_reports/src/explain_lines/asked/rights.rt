@@ -3,7 +3,7 @@
 ghost use Rattle.std.specs.Prelude.{◌≡◌};
 ghost use Rattle.house_reports.specs.explain_lines.Rights.{acting_party, missing_right};
 
-use crate::explain_lines::place::Place;
+use crate::explain_lines::member_path::MemberPath;
 use crate::explain_lines::telling::{Cause, Told, Value};
 use cdr_checks::{Ask, Request};
 use ocpi_json::ci_text::CiText;
@@ -60,13 +60,13 @@ pub fn missing_right(
 /// Whose right is missing.
 pub fn told(config: &Config, request: &Request) -> Option<Told> {
     let missing = missing_right(config, &request.platform, acting_party(&request.ask))?;
-    let place = Place::at(Name::Platform);
+    let path = MemberPath::at(Name::Platform);
     let platform = Value::Reference(request.platform);
     match missing {
-        MissingRight::Unknown => Some(Told::new(place, Cause::NotConfigured, platform)),
-        MissingRight::Hub => Some(Told::new(place, Cause::NoHub, platform)),
+        MissingRight::Unknown => Some(Told::new(path, Cause::NotConfigured, platform)),
+        MissingRight::Hub => Some(Told::new(path, Cause::NoHub, platform)),
         MissingRight::ActFor(party) => {
-            let told = Told::new(place, Cause::ActsNotForParty, platform);
+            let told = Told::new(path, Cause::ActsNotForParty, platform);
             Some(told.against(Value::Party(party)))
         }
     }

@@ -7,7 +7,7 @@ ghost use Rattle.ocpi_json.specs.Folded.{same_folded};
 ghost use Rattle.tariff_elements.specs.Active.{has_electric_bound, supported};
 ghost use Rattle.house_reports.specs.explain_lines.Tariffs.{electric_bound, is_not_given};
 
-use crate::explain_lines::place::Place;
+use crate::explain_lines::member_path::MemberPath;
 use crate::explain_lines::telling::{Cause, Told, Value};
 use cdr_checks::Ask;
 use ocpi_json::ci_text::CiText;
@@ -89,33 +89,33 @@ pub fn not_given(cdr: &Cdr) -> Option<Told> {
     let periods = cdr.charging_periods.as_slice();
     let number = period_without_tariff(cdr.tariffs.as_slice(), periods)?;
     let id = periods.get(number)?.tariff_id?;
-    let period = Place::at(Name::Cdr).then(Name::ChargingPeriods, Some(number));
-    let place = period.then(Name::TariffId, None);
-    Some(Told::new(place, Cause::IdOfNoTariff, Value::Reference(id)))
+    let period = MemberPath::at(Name::Cdr).then(Name::ChargingPeriods, Some(number));
+    let path = period.then(Name::TariffId, None);
+    Some(Told::new(path, Cause::IdOfNoTariff, Value::Reference(id)))
 }
 
-// The restriction of the tariff that is not supported, by the tariff's place.
-fn of_tariff(place: Place, tariff: &Tariff) -> Option<Told> {
+// The restriction of the tariff that is not supported, by the tariff's path.
+fn of_tariff(path: MemberPath, tariff: &Tariff) -> Option<Told> {
     let elements = tariff.elements.as_slice();
     let number = electric_element(elements)?;
     let Some(restrictions) = &elements.get(number)?.restrictions else {
         return None;
     };
     let name = electric_bound(restrictions.electric)?;
-    let element = place.then(Name::Elements, Some(number));
-    let place = element.then(Name::Restrictions, None).then(name, None);
-    Some(Told::new(place, Cause::NotSupported, Value::Nothing))
+    let element = path.then(Name::Elements, Some(number));
+    let path = element.then(Name::Restrictions, None).then(name, None);
+    Some(Told::new(path, Cause::NotSupported, Value::Nothing))
 }
 
 /// Which restriction is not supported.
 pub fn not_supported(ask: &Ask) -> Option<Told> {
     match ask {
-        Ask::PutTariff(tariff) => of_tariff(Place::at(Name::Tariff), tariff),
+        Ask::PutTariff(tariff) => of_tariff(MemberPath::at(Name::Tariff), tariff),
         Ask::Post(cdr) => {
             let tariffs = cdr.tariffs.as_slice();
             let number = unsupported_tariff(tariffs)?;
-            let place = Place::at(Name::Cdr).then(Name::Tariffs, Some(number));
-            of_tariff(place, tariffs.get(number)?)
+            let path = MemberPath::at(Name::Cdr).then(Name::Tariffs, Some(number));
+            of_tariff(path, tariffs.get(number)?)
         }
         Ask::PutToken(_)
         | Ask::Authorize(_)

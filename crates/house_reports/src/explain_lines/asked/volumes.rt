@@ -4,7 +4,7 @@ ghost use Rattle.std.specs.Prelude.{◌≡◌, position};
 ghost use Rattle.std.specs.List.{list_any};
 ghost use Rattle.cdr_checks.specs.CdrConditions.{is_reservation};
 
-use crate::explain_lines::place::Place;
+use crate::explain_lines::member_path::MemberPath;
 use crate::explain_lines::telling::{Cause, Told, Value};
 use cdr_rating::energy_of;
 use exact_money::Amount;
@@ -56,17 +56,17 @@ pub fn reserved(cdr: &Cdr) -> Option<Told> {
     let dimensions = periods.get(number)?.dimensions.as_slice();
     let volume = reserved_volume(dimensions)?;
     let found = dimensions.get(volume)?.volume;
-    let period = Place::at(Name::Cdr).then(Name::ChargingPeriods, Some(number));
-    let place = period.then(Name::Dimensions, Some(volume));
-    let place = place.then(Name::Volume, None);
-    Some(Told::new(place, Cause::Reserved, Value::Decimal(found)))
+    let period = MemberPath::at(Name::Cdr).then(Name::ChargingPeriods, Some(number));
+    let path = period.then(Name::Dimensions, Some(volume));
+    let path = path.then(Name::Volume, None);
+    Some(Told::new(path, Cause::Reserved, Value::Decimal(found)))
 }
 
 /// How far the total energy is from that of the charging periods.
 pub fn energy(cdr: &Cdr) -> Told {
-    let place = Place::at(Name::Cdr).then(Name::TotalEnergy, None);
+    let path = MemberPath::at(Name::Cdr).then(Name::TotalEnergy, None);
     let told = Told::new(
-        place,
+        path,
         Cause::NotSumOfEnergy,
         Value::Decimal(cdr.total_energy),
     );
@@ -75,20 +75,24 @@ pub fn energy(cdr: &Cdr) -> Told {
 
 /// The CDR is rated at too much.
 pub fn too_large() -> Told {
-    let told = Told::new(Place::at(Name::Cdr), Cause::RatedTooHigh, Value::Nothing);
+    let told = Told::new(
+        MemberPath::at(Name::Cdr),
+        Cause::RatedTooHigh,
+        Value::Nothing,
+    );
     told.against(Value::Amount(Amount::from_ten_thousandths(MOST)))
 }
 
-/// The place of a CDR's declared cost.
-pub fn cost_place() -> Place {
-    let cost = Place::at(Name::Cdr).then(Name::TotalCost, None);
+/// The path of a CDR's declared cost.
+pub fn cost_path() -> MemberPath {
+    let cost = MemberPath::at(Name::Cdr).then(Name::TotalCost, None);
     cost.then(Name::ExclVat, None)
 }
 
 /// How the declared cost and the rated one differ.
 pub fn mismatch(cdr: &Cdr, rated: Amount) -> Told {
     let told = Told::new(
-        cost_place(),
+        cost_path(),
         Cause::FarFromRated,
         Value::Decimal(cdr.total_cost),
     );

@@ -4,7 +4,7 @@ ghost use Rattle.std.specs.Prelude.{◌≡◌, position};
 ghost use Rattle.house_reports.specs.explain_lines.Bookings.{books, credits};
 
 use crate::explain_lines::happened::differences::differing_in_cdr;
-use crate::explain_lines::place::Place;
+use crate::explain_lines::member_path::MemberPath;
 use crate::explain_lines::telling::{Cause, Told, Value};
 use ocpi_json::ci_text::CiText;
 use ocpi_json::name::Name;
@@ -58,7 +58,7 @@ pub fn credited_at(events: &[Event], operator: &Party, id: &CiText<39>) -> Optio
 /// In which member a CDR differs from the one that is booked under its id.
 pub fn conflict(events: &[Event], cdr: &Cdr) -> Option<Told> {
     let at = booked_at(events, &cdr.operator, &cdr.id)?;
-    let of_cdr = Place::at(Name::Cdr);
+    let of_cdr = MemberPath::at(Name::Cdr);
     let (name, amount) = match events.get(at)? {
         Event::Cdr { cdr: other, cost } => (
             differing_in_cdr(cdr, other),
@@ -84,6 +84,6 @@ pub fn conflict(events: &[Event], cdr: &Cdr) -> Option<Told> {
 }
 
 /// No CDR of the operator has the id that stands there.
-pub fn not_booked(place: Place, id: CiText<39>) -> Told {
-    Told::new(place, Cause::IdOfNoCdr, Value::Id(id))
+pub fn not_booked(path: MemberPath, id: CiText<39>) -> Told {
+    Told::new(path, Cause::IdOfNoCdr, Value::Id(id))
 }

@@ -4,9 +4,9 @@ ghost use Rattle.std.specs.Prelude.{◌≡◌, neg_ℤ};
 ghost use Rattle.cdr_checks.specs.CdrConditions.{is_within_tolerance};
 ghost use Rattle.house_reports.specs.explain_lines.Credits.{difference};
 
-use crate::explain_lines::asked::volumes::cost_place;
+use crate::explain_lines::asked::volumes::cost_path;
 use crate::explain_lines::happened::bookings::{booked_at, credited_at, not_booked};
-use crate::explain_lines::place::Place;
+use crate::explain_lines::member_path::MemberPath;
 use crate::explain_lines::telling::{Cause, Told, Value};
 use cdr_checks::is_within_tolerance;
 use ocpi_json::ci_text::CiText;
@@ -54,19 +54,19 @@ pub fn difference_from(
     }
 }
 
-fn reference_place() -> Place {
-    Place::at(Name::Cdr).then(Name::CreditReferenceId, None)
+fn reference_path() -> MemberPath {
+    MemberPath::at(Name::Cdr).then(Name::CreditReferenceId, None)
 }
 
 /// The Credit CDR names no CDR.
 pub fn without_original(credit: &Cdr) -> Option<Told> {
-    Some(not_booked(reference_place(), credit.credit?))
+    Some(not_booked(reference_path(), credit.credit?))
 }
 
 /// The Credit CDR names a Credit CDR.
 pub fn of_credit(events: &[Event], credit: &Cdr) -> Option<Told> {
     let id = credit.credit?;
-    let told = Told::new(reference_place(), Cause::IdOfCredit, Value::Id(id));
+    let told = Told::new(reference_path(), Cause::IdOfCredit, Value::Id(id));
     Some(told.by_event(booked_at(events, &credit.operator, &id)))
 }
 
@@ -88,7 +88,7 @@ fn credit_id(events: &[Event], at: usize) -> Option<CiText<39>> {
 pub fn credited_already(events: &[Event], credit: &Cdr) -> Option<Told> {
     let id = credit.credit?;
     let at = credited_at(events, &credit.operator, &id)?;
-    let told = Told::new(reference_place(), Cause::CreditedAlready, Value::Id(id));
+    let told = Told::new(reference_path(), Cause::CreditedAlready, Value::Id(id));
     let earlier = Value::Id(credit_id(events, at)?);
     Some(told.against(earlier).by_event(Some(at)))
 }
@@ -96,7 +96,7 @@ pub fn credited_already(events: &[Event], credit: &Cdr) -> Option<Told> {
 /// The credit window of the CDR that is named is over.
 pub fn too_late(original: u64, current: u64) -> Told {
     let told = Told::new(
-        reference_place(),
+        reference_path(),
         Cause::BeforeTheWindow,
         Value::Number(original),
     );
@@ -104,24 +104,24 @@ pub fn too_late(original: u64, current: u64) -> Told {
 }
 
 fn told_of(credit: &Cdr, original: &Cdr, amount: BookedAmount, difference: Difference) -> Told {
-    let of_cdr = Place::at(Name::Cdr);
+    let of_cdr = MemberPath::at(Name::Cdr);
     let cost = Value::Decimal(credit.total_cost);
     match difference {
         Difference::Provider => {
             let found = Value::Party(credit.cdr_token.provider);
-            let place = of_cdr.then(Name::CdrToken, None);
-            let told = Told::new(place, Cause::NotProviderOfCdr, found);
+            let path = of_cdr.then(Name::CdrToken, None);
+            let told = Told::new(path, Cause::NotProviderOfCdr, found);
             told.against(Value::Party(original.cdr_token.provider))
         }
         Difference::Currency => {
             let found = Value::Currency(credit.currency);
-            let place = of_cdr.then(Name::Currency, None);
-            let told = Told::new(place, Cause::NotCurrencyOfCdr, found);
+            let path = of_cdr.then(Name::Currency, None);
+            let told = Told::new(path, Cause::NotCurrencyOfCdr, found);
             told.against(Value::Currency(original.currency))
         }
-        Difference::AboveZero => Told::new(cost_place(), Cause::AboveZero, cost),
+        Difference::AboveZero => Told::new(cost_path(), Cause::AboveZero, cost),
         Difference::Cost => {
-            let told = Told::new(cost_place(), Cause::FarFromNegated, cost);
+            let told = Told::new(cost_path(), Cause::FarFromNegated, cost);
             told.against(Value::Amount(amount.negated().amount()))
         }
     }

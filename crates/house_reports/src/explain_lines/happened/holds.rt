@@ -6,7 +6,7 @@ ghost use Rattle.ocpi_types.specs.Party.{same_party};
 ghost use Rattle.plain_house.specs.Exposure.{names};
 ghost use Rattle.house_reports.specs.explain_lines.Holds.{authorises, ends};
 
-use crate::explain_lines::place::Place;
+use crate::explain_lines::member_path::MemberPath;
 use crate::explain_lines::telling::{Cause, NoHold, Told, Value};
 use cdr_checks::Release;
 use ocpi_json::name::Name;
@@ -116,7 +116,7 @@ fn told_of_hold(events: &[Event], at: usize, told: Told, release: &Release) -> O
 pub fn told(events: &[Event], release: &Release) -> Option<Told> {
     let found = Value::Reference(release.reference);
     let never = Cause::NoHold(NoHold::NeverGiven);
-    let told = Told::new(Place::at(Name::Reference), never, found);
+    let told = Told::new(MemberPath::at(Name::Reference), never, found);
     match authorised_at(events, release) {
         Some(at) => told_of_hold(events, at, told, release),
         None => Some(told),

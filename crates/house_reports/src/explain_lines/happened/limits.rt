@@ -2,7 +2,7 @@
 
 ghost use Rattle.std.specs.Prelude.{◌≡◌, ◌≤◌, pos};
 
-use crate::explain_lines::place::Place;
+use crate::explain_lines::member_path::MemberPath;
 use crate::explain_lines::telling::{Cause, Told, Value};
 use cdr_checks::Authorize;
 use exact_money::Amount;
@@ -17,7 +17,7 @@ fn amount<const MOST: u64>(ten_thousandths: &AtMost<MOST>) -> Amount
 }
 
 fn over(name: Name, cause: Cause, found: Amount, limit: Amount) -> Told {
-    Told::new(Place::at(name), cause, Value::Amount(found)).against(Value::Amount(limit))
+    Told::new(MemberPath::at(name), cause, Value::Amount(found)).against(Value::Amount(limit))
 }
 
 /// A CDR would lead to an exposure above a limit.

@@ -3,7 +3,7 @@
 ghost use Rattle.std.specs.Prelude.{◌≡◌, position};
 ghost use Rattle.house_reports.specs.explain_lines.Settled.{settles};
 
-use crate::explain_lines::place::Place;
+use crate::explain_lines::member_path::MemberPath;
 use crate::explain_lines::telling::{Cause, PeriodCause, Told, Value};
 use cdr_checks::Settlement;
 use ocpi_json::name::Name;
@@ -37,7 +37,7 @@ pub fn settled_at(events: &[Event], settlement: &Settlement) -> Option<usize>
 
 fn told(period: u64, why: PeriodCause) -> Told {
     let cause = Cause::Period(why);
-    Told::new(Place::at(Name::Period), cause, Value::Number(period))
+    Told::new(MemberPath::at(Name::Period), cause, Value::Number(period))
 }
 
 /// The period to close is not the current one.

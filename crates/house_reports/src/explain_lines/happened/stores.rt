@@ -1,6 +1,6 @@
 //! What has reached its limit.
 
-use crate::explain_lines::place::Place;
+use crate::explain_lines::member_path::MemberPath;
 use crate::explain_lines::telling::{Cause, Told, Value};
 use cdr_checks::Ask;
 use ocpi_types::{Config, Party, Store};
@@ -51,5 +51,5 @@ pub fn full(config: &Config, ask: &Ask, what: Store) -> Told {
         Store::Order => (limits.order.get(), Value::Nothing),
         Store::Periods => (limits.periods.get(), Value::Nothing),
     };
-    Told::new(Place::nowhere(), Cause::Full(what), found).against(Value::Number(limit))
+    Told::new(MemberPath::nowhere(), Cause::Full(what), found).against(Value::Number(limit))
 }

@@ -3,7 +3,7 @@
 ghost use Rattle.std.specs.Prelude.{◌≡◌, position};
 ghost use Rattle.house_reports.specs.explain_lines.Tokens.{puts};
 
-use crate::explain_lines::place::Place;
+use crate::explain_lines::member_path::MemberPath;
 use crate::explain_lines::telling::{Cause, Told, Value};
 use cdr_checks::Authorize;
 use ocpi_json::name::Name;
@@ -51,14 +51,14 @@ pub fn unknown(events: &[Event], asked: &Authorize) -> Option<Told> {
     match put_at(events, asked) {
         Some(at) => {
             let found = Value::Kind(asked.kind);
-            let told = Told::new(Place::at(Name::Type), Cause::OfAnotherType, found);
+            let told = Told::new(MemberPath::at(Name::Type), Cause::OfAnotherType, found);
             Some(
                 told.against(Value::Kind(kind_at(events, at)?))
                     .by_event(Some(at)),
             )
         }
         None => Some(Told::new(
-            Place::at(Name::Uid),
+            MemberPath::at(Name::Uid),
             Cause::TokenNotPut,
             Value::Reference(asked.uid),
         )),
@@ -68,7 +68,7 @@ pub fn unknown(events: &[Event], asked: &Authorize) -> Option<Told> {
 /// The token is not valid.
 pub fn blocked(asked: &Authorize) -> Told {
     Told::new(
-        Place::at(Name::Uid),
+        MemberPath::at(Name::Uid),
         Cause::TokenNotValid,
         Value::Reference(asked.uid),
     )

@@ -5,7 +5,7 @@ ghost use Rattle.std.specs.List.{list_any};
 ghost use Rattle.house_reports.specs.explain_lines.Versions.{registers, stores};
 
 use crate::explain_lines::happened::differences::differing_in_tariff;
-use crate::explain_lines::place::Place;
+use crate::explain_lines::member_path::MemberPath;
 use crate::explain_lines::telling::{Cause, Told, Value};
 use ocpi_json::name::Name;
 use ocpi_types::{Cdr, Party, Tariff, same_tariff};
@@ -70,27 +70,27 @@ pub fn unregistered(events: &[Event], cdr: &Cdr) -> Option<usize>
         .position(|tariff| !is_registered(events, &cdr.operator, tariff))
 }
 
-/// The member in which a version that is stored differs from the tariff at this place.
-pub fn conflict(events: &[Event], place: Place, tariff: &Tariff) -> Option<Told> {
+/// The member in which a version that is stored differs from the tariff at this path.
+pub fn conflict(events: &[Event], path: MemberPath, tariff: &Tariff) -> Option<Told> {
     let at = stored_at(events, tariff)?;
     let Event::Tariff(stored) = events.get(at)? else {
         return None;
     };
-    let place = place.then(differing_in_tariff(tariff, stored), None);
-    let told = Told::new(place, Cause::StoredOtherwise, Value::Nothing);
+    let path = path.then(differing_in_tariff(tariff, stored), None);
+    let told = Told::new(path, Cause::StoredOtherwise, Value::Nothing);
     Some(told.by_event(Some(at)))
 }
 
-fn why_unregistered(events: &[Event], place: Place, operator: Party, tariff: &Tariff) -> Told {
+fn why_unregistered(events: &[Event], path: MemberPath, operator: Party, tariff: &Tariff) -> Told {
     if !tariff.operator.is(&operator) {
         let found = Value::Party(tariff.operator);
-        let told = Told::new(place, Cause::OfAnotherOperator, found);
+        let told = Told::new(path, Cause::OfAnotherOperator, found);
         return told.against(Value::Party(operator));
     }
-    match conflict(events, place, tariff) {
+    match conflict(events, path, tariff) {
         Some(told) => told,
         None => Told::new(
-            place.then(Name::LastUpdated, None),
+            path.then(Name::LastUpdated, None),
             Cause::NotStored,
             Value::Moment(tariff.last_updated),
         ),
@@ -101,6 +101,6 @@ fn why_unregistered(events: &[Event], place: Place, operator: Party, tariff: &Ta
 pub fn not_registered(events: &[Event], cdr: &Cdr) -> Option<Told> {
     let number = unregistered(events, cdr)?;
     let tariff = cdr.tariffs.as_slice().get(number)?;
-    let place = Place::at(Name::Cdr).then(Name::Tariffs, Some(number));
-    Some(why_unregistered(events, place, cdr.operator, tariff))
+    let path = MemberPath::at(Name::Cdr).then(Name::Tariffs, Some(number));
+    Some(why_unregistered(events, path, cdr.operator, tariff))
 }

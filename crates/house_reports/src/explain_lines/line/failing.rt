@@ -2,7 +2,7 @@
 
 use crate::explain_lines::line::found::found;
 use crate::explain_lines::line::member::{Shape, meets, members_of, shape_of, unmet};
-use crate::explain_lines::place::Place;
+use crate::explain_lines::member_path::MemberPath;
 use crate::explain_lines::telling::{Cause, Told, Value};
 use ocpi_json::fields::FieldFault;
 use ocpi_json::name::Name;
@@ -142,7 +142,11 @@ fn negative_dimension(
 }
 
 // The first volume of a CDR that is below 0, where its members are all as they have to be.
-fn negative_volume(alloc: Global, place: Place, cdr: &Node) -> Result<Option<Told>, AllocError> {
+fn negative_volume(
+    alloc: Global,
+    path: MemberPath,
+    cdr: &Node,
+) -> Result<Option<Told>, AllocError> {
     let Ok(periods) = fields::list(cdr, Name::ChargingPeriods, 1, 1000) else {
         return Ok(None);
     };
@@ -151,10 +155,10 @@ fn negative_volume(alloc: Global, place: Place, cdr: &Node) -> Result<Option<Tol
             return Ok(None);
         };
         if let Some((dimension, volume)) = negative_dimension(alloc, dimensions)? {
-            let place = place.then(Name::ChargingPeriods, Some(number));
-            let place = place.then(Name::Dimensions, Some(dimension));
-            let place = place.then(Name::Volume, None);
-            let told = Told::new(place, Cause::Unfit, volume);
+            let path = path.then(Name::ChargingPeriods, Some(number));
+            let path = path.then(Name::Dimensions, Some(dimension));
+            let path = path.then(Name::Volume, None);
+            let told = Told::new(path, Cause::Unfit, volume);
             return Ok(Some(told.against(Value::NotBelow0)));
         }
     }
@@ -162,24 +166,28 @@ fn negative_volume(alloc: Global, place: Place, cdr: &Node) -> Result<Option<Tol
 }
 
 // The first of the days that is none.
-fn wrong_day(alloc: Global, place: Place, restrictions: &Node) -> Result<Option<Told>, AllocError> {
+fn wrong_day(
+    alloc: Global,
+    path: MemberPath,
+    restrictions: &Node,
+) -> Result<Option<Told>, AllocError> {
     let Ok(days) = fields::list(restrictions, Name::DayOfWeek, 0, 1_048_576) else {
         return Ok(None);
     };
     for (number, node) in days.enumerate() {
         if fields::parsed_in::<DayOfWeek>(&node, Name::DayOfWeek).is_err() {
-            let place = place.then(Name::DayOfWeek, Some(number));
-            let told = Told::new(place, Cause::Unfit, found(alloc, Some(&node))?);
+            let path = path.then(Name::DayOfWeek, Some(number));
+            let told = Told::new(path, Cause::Unfit, found(alloc, Some(&node))?);
             return Ok(Some(told.against(Value::Day)));
         }
     }
     Ok(None)
 }
 
-/// What stands at a place of a line.
+/// What stands at a path of a line.
 #[derive(Drop)]
 struct Standing<'a> {
-    place: Place,
+    path: MemberPath,
     shape: Shape,
     node: Node<'a>,
 }
@@ -192,7 +200,7 @@ fn deeper<'a>(
 ) -> Result<Standing<'a>, AllocError> {
     match first_failing(alloc, standing.shape, &standing.node, name)? {
         Some(inner) => Ok(Standing {
-            place: standing.place.then(inner.name, inner.item),
+            path: standing.path.then(inner.name, inner.item),
             shape: inner.shape,
             node: inner.node,
         }),
@@ -213,7 +221,7 @@ fn of_member(
         None => Cause::Missing,
     };
     let found = found(alloc, value.as_ref())?;
-    Ok(Told::new(standing.place.then(name, None), cause, found).against(against))
+    Ok(Told::new(standing.path.then(name, None), cause, found).against(against))
 }
 
 // What is told of a member that is by itself as it has to be: an item of it is not, or it is not that of a CDR that is no Credit CDR.
@@ -222,12 +230,12 @@ fn beyond_itself(
     standing: &Standing,
     name: Name,
 ) -> Result<Option<Told>, AllocError> {
-    let place = standing.place;
+    let path = standing.path;
     if name == Name::DayOfWeek {
-        return wrong_day(alloc, place, &standing.node);
+        return wrong_day(alloc, path, &standing.node);
     }
     if name == Name::Volume {
-        return negative_volume(alloc, place, &standing.node);
+        return negative_volume(alloc, path, &standing.node);
     }
     let against = if name == Name::Id {
         Value::ShortId
@@ -240,7 +248,7 @@ fn beyond_itself(
 /// Where in the value of a line the member of that name stands that is at fault, what stands there, and what has to.
 pub fn told(alloc: Global, line: Node, name: Name) -> Result<Option<Told>, AllocError> {
     let mut standing = Standing {
-        place: Place::nowhere(),
+        path: MemberPath::nowhere(),
         shape: shape_of(&line),
         node: line,
     };

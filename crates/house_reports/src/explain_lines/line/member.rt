@@ -3,6 +3,7 @@
 ghost use Rattle.std.specs.Prelude.{◌≡◌};
 ghost use Rattle.house_reports.specs.explain_lines.Members.{expected_of, meets, member_named, members_of, members_of_command, shape_of, unmet};
 
+use jiff::civil::Time;
 use ocpi_json::name::Name;
 use ocpi_json::{Node, fields};
 use ocpi_types::{AuthMethod, ComponentKind, TokenKind, members};
@@ -354,7 +355,7 @@ pub fn meets(expected: Expected, node: &Node, name: Name) -> bool
         Expected::Number => fields::number(node, name).is_ok(),
         Expected::AtLeast0 => fields::unsigned(node, name).is_ok(),
         Expected::Date => fields::date(node, name).is_ok(),
-        Expected::Clock => fields::clock(node, name).is_ok(),
+        Expected::Clock => fields::parsed::<Time>(node, name).is_ok(),
         Expected::Moment => fields::instant(node, name).is_ok(),
         Expected::Flag => fields::flag(node, name).is_ok(),
         Expected::Command => fields::parsed::<CommandName>(node, name).is_ok(),

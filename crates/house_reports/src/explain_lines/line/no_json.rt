@@ -1,6 +1,6 @@
 //! Where a line stops being JSON.
 
-use crate::explain_lines::place::Place;
+use crate::explain_lines::member_path::MemberPath;
 use crate::explain_lines::telling::{Cause, Told, Value};
 use json::{Reader, Scratch};
 use std::alloc::{AllocError, Global};
@@ -29,6 +29,6 @@ pub fn told(alloc: Global, line: &[u8]) -> Result<Told, AllocError> {
     };
     let before = &line[..read.min(line.len())];
     let column = before.iter().filter(|byte| begins_character(byte)).count();
-    let place = Place::column(column.saturating_add(1));
-    Ok(Told::new(place, cause, Value::Nothing))
+    let path = MemberPath::column(column.saturating_add(1));
+    Ok(Told::new(path, cause, Value::Nothing))
 }

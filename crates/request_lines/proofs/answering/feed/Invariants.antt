@@ -7,7 +7,7 @@ abbrev pub invariant-loop-line : goal.invariant-loop-line
 invariant-loop-line g l = record {
   fed : List ℕ;
   cut : l.bytes ≡ fed ++ l.rest;
-  answered : HasAnswered g.A.Answerer.rule g.W.Sink.takes g.W.Sink.failed (whole_from l.initial.part.items fed) (state l.initial.answerer l.initial.writer l.initial.progress) (state l.answerer l.writer l.progress);
+  answered : HasAnswered g.A.Answerer.rule g.W.Sink.writing (whole_from l.initial.part.items fed) (state l.initial.answerer l.initial.writer l.initial.progress) (state l.answerer l.writer l.progress);
   part_is : l.part.items ≡ rest_from l.initial.part.items fed;
   short : IsShort l.part.items;
   each_short : All IsShort (whole_from l.initial.part.items fed);

@@ -15,7 +15,7 @@ returns-in-Err-clause-told g c =
       v.read,
       v.written,
       omega (arith, c.loop-turn-test.true),
-      subst (λ (xs : List ℕ). g.R.Source.gives c.args.reader.now (c.loop-turn.turn + 1) xs c.read_into.new.reader) (append-nil v.read) (g.met.R.Source.gives_more _ _ _ _ _ _ _ v.given c.in-Err.ensures.err_gives),
+      subst (λ (xs : List ℕ). g.R.Source.reading.gives c.args.reader.now (c.loop-turn.turn + 1) xs c.read_into.new.reader) (append-nil v.read) (g.met.R.Source.gives_more _ _ _ _ _ _ _ v.given c.in-Err.ensures.err_gives),
       v.taken,
       at_read _ _ _ _ _ v.under_way (inl c.in-Err.ensures.err),
     )
@@ -30,7 +30,7 @@ returns-in_err-finish_last-clause-told g c =
       v.read,
       v.written ++ h.text,
       omega (arith, c.loop-turn-test.true),
-      subst (λ (xs : List ℕ). g.R.Source.gives c.args.reader.now (c.loop-turn.turn + 1) xs c.read_into.new.reader) (none_taken v.read c.read_into.new.buffer.items _ c.if-n-eq0.true) (g.met.R.Source.gives_more _ _ _ _ _ _ _ v.given c.in-Ok.ensures.gives),
+      subst (λ (xs : List ℕ). g.R.Source.reading.gives c.args.reader.now (c.loop-turn.turn + 1) xs c.read_into.new.reader) (none_taken v.read c.read_into.new.buffer.items _ c.if-n-eq0.true) (g.met.R.Source.gives_more _ _ _ _ _ _ _ v.given c.in-Ok.ensures.gives),
       g.met.W.Sink.takes_more _ _ _ _ _ v.taken h.taken,
       fault_at_last _ g.met.A.Answerer.answers_more _ c.loop-turn.answerer _ _ _ _ _ _ _ _ (c.in-Ok.ensures.end c.if-n-eq0.true) v.under_way c.as_slice.ensures.value h.stops,
     )
@@ -43,7 +43,7 @@ returns-then-n-eq0-clause-told g c =
       v.read,
       v.written ++ e.ok.text,
       omega (arith, c.loop-turn-test.true),
-      subst (λ (xs : List ℕ). g.R.Source.gives c.args.reader.now (c.loop-turn.turn + 1) xs c.read_into.new.reader) (none_taken v.read c.read_into.new.buffer.items _ c.if-n-eq0.true) (g.met.R.Source.gives_more _ _ _ _ _ _ _ v.given c.in-Ok.ensures.gives),
+      subst (λ (xs : List ℕ). g.R.Source.reading.gives c.args.reader.now (c.loop-turn.turn + 1) xs c.read_into.new.reader) (none_taken v.read c.read_into.new.buffer.items _ c.if-n-eq0.true) (g.met.R.Source.gives_more _ _ _ _ _ _ _ v.given c.in-Ok.ensures.gives),
       g.met.W.Sink.takes_more _ _ _ _ _ v.taken e.ok.taken,
       done _ g.met.A.Answerer.answers_more _ _ _ _ _ _ _ _ _ _ _ v.under_way v.bytes_are c.as_slice.ensures.value e.ok.answered e.ok.lines_are,
     )

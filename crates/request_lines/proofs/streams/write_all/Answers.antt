@@ -13,5 +13,5 @@ loop-at-preserved g c = record {
 
 pub returns-in-Err-clause-err : goal.returns-in-Err-clause-err
 returns-in-Err-clause-err g c =
-    subst (λ (xs : List ℕ). g.W.Sink.takes c.args.writer.now xs c.write.new.self) (append-nil _)
+    subst (λ (xs : List ℕ). g.W.Sink.writing.takes c.args.writer.now xs c.write.new.self) (append-nil _)
     (g.met.W.Sink.takes_more _ _ _ _ _ c.loop-at.invariant.taken c.in-Err.ensures.err_takes)

@@ -2,7 +2,7 @@ use Rattle.std.proofs.Common.{◌≡◌, List, [], IfOk, map, sym, subst}
 use Rattle.plain_house.specs.declared.event.Event.{Event}
 use Rattle.period_order.specs.Resolved.{entries_of_accounts, entries_of_books}
 use Rattle.period_order.specs.Resolves.{Resolves}
-use Rattle.shared_house.specs.declared.made.Made.{Made}
+use Rattle.shared_house.specs.declared.call.Call.{Call}
 use Rattle.shared_house.specs.declared.certifying.turn.Turn.{Turn}
 use Rattle.shared_house.specs.Certified.{IsTornFirst}
 use Rattle.shared_house.specs.Inner.Turns.{AreTurns, plain_turn}
@@ -12,7 +12,7 @@ use Rattle.shared_house.proofs.certifying.certify.Goals as goal
 
 pub first_break-requires-after_bounds : goal.first_break-requires-after_bounds
 first_break-requires-after_bounds g c κs within =
-    let passes : List (List Made) = map (λ calls. calls.items) c.args.passes.now in
+    let passes : List (List Call) = map (λ calls. calls.items) c.args.passes.now in
     let turns : List Turn = c.as_slice-turns.result.now in
     let told : IfOk c.events_and_turns-events.result.1 (λ turns. AreTurns passes (map plain_turn turns.items)) = c.events_and_turns-events.ensures.turns in
     let are : AreTurns passes (map plain_turn turns) = subst (λ (l : List Turn). AreTurns passes (map plain_turn l)) (sym c.as_slice-turns.ensures.value) (rw c.in_ok-turns.was at told) in
@@ -20,7 +20,7 @@ first_break-requires-after_bounds g c κs within =
 
 pub first_torn-requires-clause-admitted : goal.first_torn-requires-clause-admitted
 first_torn-requires-clause-admitted g c κs within =
-    let passes : List (List Made) = map (λ calls. calls.items) c.args.passes.now in
+    let passes : List (List Call) = map (λ calls. calls.items) c.args.passes.now in
     let turns : List Turn = c.as_slice-turns.result.now in
     let told : IfOk c.events_and_turns-events.result.1 (λ turns. AreTurns passes (map plain_turn turns.items)) = c.events_and_turns-events.ensures.turns in
     let are : AreTurns passes (map plain_turn turns) = subst (λ (l : List Turn). AreTurns passes (map plain_turn l)) (sym c.as_slice-turns.ensures.value) (rw c.in_ok-turns.was at told) in
@@ -28,7 +28,7 @@ first_torn-requires-clause-admitted g c κs within =
 
 pub returns-in-Ok-clause-torn : goal.returns-in-Ok-clause-torn
 returns-in-Ok-clause-torn g c = λ entry is.
-    let passes : List (List Made) = map (λ calls. calls.items) c.args.passes.now in
+    let passes : List (List Call) = map (λ calls. calls.items) c.args.passes.now in
     let books = entries_of_books c.args.books.now in
     let accounts = entries_of_accounts c.args.accounts.now in
     let events : List Event = c.as_slice.result.now in
@@ -44,7 +44,7 @@ returns-in-Ok-clause-torn g c = λ entry is.
 
 pub returns-clause-torn : goal.returns-clause-torn
 returns-clause-torn g c = λ entry is.
-    let passes : List (List Made) = map (λ calls. calls.items) c.args.passes.now in
+    let passes : List (List Call) = map (λ calls. calls.items) c.args.passes.now in
     let turns : List Turn = c.as_slice-turns.result.now in
     let told : IfOk c.events_and_turns-events.result.1 (λ turns. AreTurns passes (map plain_turn turns.items)) = c.events_and_turns-events.ensures.turns in
     let are : AreTurns passes (map plain_turn turns) = subst (λ (l : List Turn). AreTurns passes (map plain_turn l)) (sym c.as_slice-turns.ensures.value) (rw c.in_ok-turns.was at told) in

@@ -6,7 +6,7 @@ use Rattle.period_order.specs.Resolves.{Resolves}
 use Rattle.shared_house.specs.Certified.{IsTornFirst}
 use Rattle.shared_house.specs.History.{BreaksFirst, IsOneHistory}
 use Rattle.shared_house.specs.Inner.Turns.{AreTurns, plain_turn}
-use Rattle.shared_house.specs.declared.made.Made.{Made}
+use Rattle.shared_house.specs.declared.call.Call.{Call}
 use Rattle.shared_house.proofs.CertifiedLemmas.{part_is_whole, torn_at_entry, torn_in_part}
 use Rattle.shared_house.proofs.StandLemmas.{if_none, if_some, same_option}
 use Rattle.shared_house.proofs.certifying.first_torn.Goals as goal
@@ -38,15 +38,15 @@ returns g c =
     let turns = map plain_turn c.args.turns.now in
     let number = c.in_ok-number.field-0 in
     let resolves : Resolves books accounts (take c.args.entry order) events = subst (Resolves books accounts (take c.args.entry order)) (sym c.as_slice.ensures.value) c.in-Ok.ensures.ok in
-    let torn : ((at : ℕ) → number ≡ Some at → c.args.entry ≤ at) → (passes : List (List Made)) → AreTurns passes turns → IsTornFirst config books accounts order passes c.args.entry =
+    let torn : ((at : ℕ) → number ≡ Some at → c.args.entry ≤ at) → (passes : List (List Call)) → AreTurns passes turns → IsTornFirst config books accounts order passes c.args.entry =
     λ least passes are.
     torn_at_entry c.resolving_is_unique.ensures config books accounts order passes events c.args.entry number resolves c.requires.fails
     (if_none number _ (IsOneHistory config events passes) (λ all. all passes are) c.in_ok-number.ensures.history)
     (if_some number _ (BreaksFirst config events passes) (λ at all. all passes are) c.in_ok-number.ensures.torn) least in
     let at_entry : ((at : ℕ) → number ≡ Some at → c.args.entry ≤ at) → c.match-branch-2.result ≡ Ok c.args.entry
-    → IfOk c.match-branch-2.result (λ told. (passes : List (List Made)) → AreTurns passes turns → IsTornFirst config books accounts order passes told) =
+    → IfOk c.match-branch-2.result (λ told. (passes : List (List Call)) → AreTurns passes turns → IsTornFirst config books accounts order passes told) =
     λ least is.
-    subst (λ (r : Result ℕ AllocError). IfOk r (λ told. (passes : List (List Made)) → AreTurns passes turns → IsTornFirst config books accounts order passes told)) (sym is) (torn least) in
+    subst (λ (r : Result ℕ AllocError). IfOk r (λ told. (passes : List (List Call)) → AreTurns passes turns → IsTornFirst config books accounts order passes told)) (sym is) (torn least) in
     elim c.match-branch-2.branch [
       | in_default-2 w ↦ at_entry (λ at e. omega (arith, w.if-number-entry.false, same_option at w.in-Some.number (sym e ∙ w.in-Some.is))) w.result-is
       | in_default w ↦ at_entry (λ at e. absurd (let h : Some at ≡ None = sym e ∙ w.in_default.is in cc)) w.result-is

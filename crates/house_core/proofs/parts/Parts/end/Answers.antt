@@ -1,8 +1,8 @@
 use Rattle.std.proofs.Common.{rules, ◌≡◌, ◌∙◌, sym, ap, subst, if◌then◌else◌, ℕ, Option, None, Some, is_some, slice_get}
 use Rattle.std.specs.Vec.{with_item}
 use Rattle.std.proofs.lemmas.Option.{none-some, same_Some}
-use Rattle.house_core.specs.declared.call.Call.{Call}
-use Rattle.house_core.specs.declared.call.ReplyDue.{ReplyDue}
+use Rattle.house_core.specs.declared.running_call.RunningCall.{RunningCall}
+use Rattle.house_core.specs.declared.running_call.ReplyDue.{ReplyDue}
 use Rattle.house_core.specs.declared.finished.Done.TheVariants as done
 use Rattle.house_core.specs.declared.stage.Stage.TheVariants as stage
 use Rattle.house_core.specs.Calls.{held_account, held_book, reply_due}
@@ -12,14 +12,14 @@ use Rattle.house_core.proofs.ReadyLemmas.{ready_call}
 use Rattle.house_core.proofs.StepLemmas.{borrowed, same_call, with_call}
 use Rattle.house_core.proofs.parts.Parts.end.Goals as goal
 
-abbrev after_reply : Call → Option ReplyDue → Call
+abbrev after_reply : RunningCall → Option ReplyDue → RunningCall
 after_reply call due = if is_some due then record call { stage = stage.Ended } else call
 
 pub returns-in_err-due-clause-world : goal.returns-in_err-due-clause-world
 returns-in_err-due-clause-world c =
     let parts = c.args.self.now in
     let number : ℕ = c.args.call in
-    let call : Call = c.index_mut.result.now in
+    let call : RunningCall = c.index_mut.result.now in
     let there : slice_get parts.calls.items number ≡ Some call = borrowed parts.calls.items number call (search rules) c.index_mut.ensures.value in
     let none : reply_due call ≡ None = sym c.reply.ensures.value ∙ c.in_err-due.was in
     ap (with_call (shown parts) number) (c.reply.ensures.rest ∙ ap (after_reply call) none)
@@ -30,7 +30,7 @@ pub returns-in_err-due-clause-finished : goal.returns-in_err-due-clause-finished
 returns-in_err-due-clause-finished c =
     let parts = c.args.self.now in
     let number : ℕ = c.args.call in
-    let call : Call = c.index_mut.result.now in
+    let call : RunningCall = c.index_mut.result.now in
     let there : slice_get parts.calls.items number ≡ Some call = borrowed parts.calls.items number call (search rules) c.index_mut.ensures.value in
     let none : reply_due call ≡ None = sym c.reply.ensures.value ∙ c.in_err-due.was in
     c.from_residual.ensures ∙ tells_nothing (shown parts) number call there none
@@ -39,11 +39,11 @@ pub returns-in_err-due-clause-ready : goal.returns-in_err-due-clause-ready
 returns-in_err-due-clause-ready c =
     let parts = c.args.self.now in
     let number : ℕ = c.args.call in
-    let call : Call = c.index_mut.result.now in
+    let call : RunningCall = c.index_mut.result.now in
     let there : slice_get parts.calls.items number ≡ Some call = borrowed parts.calls.items number call (search rules) c.index_mut.ensures.value in
     let none : reply_due call ≡ None = sym c.reply.ensures.value ∙ c.in_err-due.was in
     let ready = c.requires.sound.ready in
-    subst (λ (x : Call). ArePartsReady (record { config = parts.config; books = parts.books; accounts = parts.accounts; order = parts.order; calls = with_item parts.calls number x })) (sym (c.reply.ensures.rest ∙ ap (after_reply call) none))
+    subst (λ (x : RunningCall). ArePartsReady (record { config = parts.config; books = parts.books; accounts = parts.accounts; order = parts.order; calls = with_item parts.calls number x })) (sym (c.reply.ensures.rest ∙ ap (after_reply call) none))
     (record {
       books = ready_call held_book BookIsReady parts.calls.items parts.books.items ready.books number call call there
           (λ at lock holds here. ready.books number at call lock there holds here);
@@ -55,7 +55,7 @@ pub returns-clause-world : goal.returns-clause-world
 returns-clause-world c =
     let parts = c.args.self.now in
     let number : ℕ = c.args.call in
-    let call : Call = c.index_mut.result.now in
+    let call : RunningCall = c.index_mut.result.now in
     let there : slice_get parts.calls.items number ≡ Some call = borrowed parts.calls.items number call (search rules) c.index_mut.ensures.value in
     let due : reply_due call ≡ Some c.in_ok-due.due = sym c.reply.ensures.value ∙ c.in_ok-due.was in
     ap (with_call (shown parts) number) (c.reply.ensures.rest ∙ ap (after_reply call) due)
@@ -65,7 +65,7 @@ pub returns-clause-finished : goal.returns-clause-finished
 returns-clause-finished c =
     let parts = c.args.self.now in
     let number : ℕ = c.args.call in
-    let call : Call = c.index_mut.result.now in
+    let call : RunningCall = c.index_mut.result.now in
     let there : slice_get parts.calls.items number ≡ Some call = borrowed parts.calls.items number call (search rules) c.index_mut.ensures.value in
     let seen : slice_get parts.calls.items number ≡ Some c.index.result.now = borrowed parts.calls.items number c.index.result.now (search rules) c.index.ensures in
     let same : c.index.result.now ≡ call = same_Some c.index.result.now call (sym seen ∙ there) in
@@ -77,11 +77,11 @@ pub returns-clause-ready : goal.returns-clause-ready
 returns-clause-ready c =
     let parts = c.args.self.now in
     let number : ℕ = c.args.call in
-    let call : Call = c.index_mut.result.now in
+    let call : RunningCall = c.index_mut.result.now in
     let there : slice_get parts.calls.items number ≡ Some call = borrowed parts.calls.items number call (search rules) c.index_mut.ensures.value in
     let due : reply_due call ≡ Some c.in_ok-due.due = sym c.reply.ensures.value ∙ c.in_ok-due.was in
     let ready = c.requires.sound.ready in
-    subst (λ (x : Call). ArePartsReady (record { config = parts.config; books = parts.books; accounts = parts.accounts; order = parts.order; calls = with_item parts.calls number x })) (sym (c.reply.ensures.rest ∙ ap (after_reply call) due))
+    subst (λ (x : RunningCall). ArePartsReady (record { config = parts.config; books = parts.books; accounts = parts.accounts; order = parts.order; calls = with_item parts.calls number x })) (sym (c.reply.ensures.rest ∙ ap (after_reply call) due))
     (record {
       books = ready_call held_book BookIsReady parts.calls.items parts.books.items ready.books number call (record call { stage = stage.Ended }) there
           (λ at lock holds here carried event carries has. absurd (none-some carried carries));

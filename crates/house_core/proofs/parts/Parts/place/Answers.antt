@@ -4,7 +4,7 @@ use Rattle.std.proofs.lemmas.Option.{same_Some}
 use Rattle.cdr_checks.specs.declared.request.Command.{Command}
 use Rattle.period_order.specs.declared.decided.Outcome.{Outcome}
 use Rattle.period_order.specs.Decided.{Decides, order_with}
-use Rattle.house_core.specs.declared.call.Call.{Call}
+use Rattle.house_core.specs.declared.running_call.RunningCall.{RunningCall}
 use Rattle.house_core.specs.declared.locks.AccountLock.{AccountLock}
 use Rattle.house_core.specs.declared.locks.BookLock.{BookLock}
 use Rattle.house_core.specs.declared.stage.Stage.{Stage}
@@ -24,7 +24,7 @@ pub decide-decided-requires-clause-book : goal.decide-decided-requires-clause-bo
 decide-decided-requires-clause-book c =
     let parts = c.args.self.now in
     let number : ℕ = c.args.call in
-    let call : Call = c.index_mut.result.now in
+    let call : RunningCall = c.index_mut.result.now in
     let own : Command = c.in-Some.command in
     let there : slice_get parts.calls.items number ≡ Some call = borrowed parts.calls.items number call (search rules) c.index_mut.ensures.value in
     let first : slice_get parts.calls.items number ≡ Some c.index.result.now = borrowed parts.calls.items number c.index.result.now (search rules) c.index.ensures in
@@ -33,17 +33,17 @@ decide-decided-requires-clause-book c =
     let given = table_given parts number call there c.args.table own begins c.requires.table in
     let book : option_copied c.book_at.result ≡ given_book parts call.book =
     c.book_at.ensures ∙ ap₂ (λ (items : List BookLock) (o : Option ℕ). option_and_then (λ n. option_map (λ (l : BookLock). l.book) (slice_get items n)) o) c.as_slice.ensures.value
-    (ap (λ (x : Call). x.book) (same_Some c.index.result.now call (sym first ∙ there))) in
+    (ap (λ (x : RunningCall). x.book) (same_Some c.index.result.now call (sym first ∙ there))) in
     let account : option_copied c.account_at.result ≡ given_account parts call.account =
     c.account_at.ensures ∙ ap₂ (λ (items : List AccountLock) (o : Option ℕ). option_and_then (λ n. option_map (λ (l : AccountLock). l.account) (slice_get items n)) o) c.as_slice-2.ensures.value
-    (ap (λ (x : Call). x.account) (same_Some c.index-2.result.now call (sym second ∙ there))) in
+    (ap (λ (x : RunningCall). x.account) (same_Some c.index-2.result.now call (sym second ∙ there))) in
     sym (map_some _ c.book_at.result) ∙ ap is_some book ∙ has_book_given parts c.requires.sound number call there own given.0
 
 pub decide-decided-requires-clause-account : goal.decide-decided-requires-clause-account
 decide-decided-requires-clause-account c =
     let parts = c.args.self.now in
     let number : ℕ = c.args.call in
-    let call : Call = c.index_mut.result.now in
+    let call : RunningCall = c.index_mut.result.now in
     let own : Command = c.in-Some.command in
     let there : slice_get parts.calls.items number ≡ Some call = borrowed parts.calls.items number call (search rules) c.index_mut.ensures.value in
     let first : slice_get parts.calls.items number ≡ Some c.index.result.now = borrowed parts.calls.items number c.index.result.now (search rules) c.index.ensures in
@@ -52,17 +52,17 @@ decide-decided-requires-clause-account c =
     let given = table_given parts number call there c.args.table own begins c.requires.table in
     let book : option_copied c.book_at.result ≡ given_book parts call.book =
     c.book_at.ensures ∙ ap₂ (λ (items : List BookLock) (o : Option ℕ). option_and_then (λ n. option_map (λ (l : BookLock). l.book) (slice_get items n)) o) c.as_slice.ensures.value
-    (ap (λ (x : Call). x.book) (same_Some c.index.result.now call (sym first ∙ there))) in
+    (ap (λ (x : RunningCall). x.book) (same_Some c.index.result.now call (sym first ∙ there))) in
     let account : option_copied c.account_at.result ≡ given_account parts call.account =
     c.account_at.ensures ∙ ap₂ (λ (items : List AccountLock) (o : Option ℕ). option_and_then (λ n. option_map (λ (l : AccountLock). l.account) (slice_get items n)) o) c.as_slice-2.ensures.value
-    (ap (λ (x : Call). x.account) (same_Some c.index-2.result.now call (sym second ∙ there))) in
+    (ap (λ (x : RunningCall). x.account) (same_Some c.index-2.result.now call (sym second ∙ there))) in
     sym (map_some _ c.account_at.result) ∙ ap is_some account ∙ has_account_given parts c.requires.sound number call there own given.0
 
 pub stage_with-requires : goal.stage_with-requires
 stage_with-requires c =
     let parts = c.args.self.now in
     let number : ℕ = c.args.call in
-    let call : Call = c.index_mut.result.now in
+    let call : RunningCall = c.index_mut.result.now in
     let own : Command = c.in-Some.command in
     let there : slice_get parts.calls.items number ≡ Some call = borrowed parts.calls.items number call (search rules) c.index_mut.ensures.value in
     let first : slice_get parts.calls.items number ≡ Some c.index.result.now = borrowed parts.calls.items number c.index.result.now (search rules) c.index.ensures in
@@ -71,10 +71,10 @@ stage_with-requires c =
     let given = table_given parts number call there c.args.table own begins c.requires.table in
     let book : option_copied c.book_at.result ≡ given_book parts call.book =
     c.book_at.ensures ∙ ap₂ (λ (items : List BookLock) (o : Option ℕ). option_and_then (λ n. option_map (λ (l : BookLock). l.book) (slice_get items n)) o) c.as_slice.ensures.value
-    (ap (λ (x : Call). x.book) (same_Some c.index.result.now call (sym first ∙ there))) in
+    (ap (λ (x : RunningCall). x.book) (same_Some c.index.result.now call (sym first ∙ there))) in
     let account : option_copied c.account_at.result ≡ given_account parts call.account =
     c.account_at.ensures ∙ ap₂ (λ (items : List AccountLock) (o : Option ℕ). option_and_then (λ n. option_map (λ (l : AccountLock). l.account) (slice_get items n)) o) c.as_slice-2.ensures.value
-    (ap (λ (x : Call). x.account) (same_Some c.index-2.result.now call (sym second ∙ there))) in
+    (ap (λ (x : RunningCall). x.account) (same_Some c.index-2.result.now call (sym second ∙ there))) in
     let o : Outcome = c.decide-decided.result.outcome in
     let decides : Decides parts.config (given_book parts call.book) (given_account parts call.account) parts.order own o =
     subst (λ b. Decides parts.config b (given_account parts call.account) parts.order own o) book
@@ -85,7 +85,7 @@ pub returns-clause-world : goal.returns-clause-world
 returns-clause-world c =
     let parts = c.args.self.now in
     let number : ℕ = c.args.call in
-    let call : Call = c.index_mut.result.now in
+    let call : RunningCall = c.index_mut.result.now in
     let own : Command = c.in-Some.command in
     let there : slice_get parts.calls.items number ≡ Some call = borrowed parts.calls.items number call (search rules) c.index_mut.ensures.value in
     let first : slice_get parts.calls.items number ≡ Some c.index.result.now = borrowed parts.calls.items number c.index.result.now (search rules) c.index.ensures in
@@ -94,10 +94,10 @@ returns-clause-world c =
     let given = table_given parts number call there c.args.table own begins c.requires.table in
     let book : option_copied c.book_at.result ≡ given_book parts call.book =
     c.book_at.ensures ∙ ap₂ (λ (items : List BookLock) (o : Option ℕ). option_and_then (λ n. option_map (λ (l : BookLock). l.book) (slice_get items n)) o) c.as_slice.ensures.value
-    (ap (λ (x : Call). x.book) (same_Some c.index.result.now call (sym first ∙ there))) in
+    (ap (λ (x : RunningCall). x.book) (same_Some c.index.result.now call (sym first ∙ there))) in
     let account : option_copied c.account_at.result ≡ given_account parts call.account =
     c.account_at.ensures ∙ ap₂ (λ (items : List AccountLock) (o : Option ℕ). option_and_then (λ n. option_map (λ (l : AccountLock). l.account) (slice_get items n)) o) c.as_slice-2.ensures.value
-    (ap (λ (x : Call). x.account) (same_Some c.index-2.result.now call (sym second ∙ there))) in
+    (ap (λ (x : RunningCall). x.account) (same_Some c.index-2.result.now call (sym second ∙ there))) in
     let o : Outcome = c.decide-decided.result.outcome in
     let decides : Decides parts.config (given_book parts call.book) (given_account parts call.account) parts.order own o =
     subst (λ b. Decides parts.config b (given_account parts call.account) parts.order own o) book
@@ -112,7 +112,7 @@ returns-clause-world c =
     let emptied : c.index_mut-2.result.now ≡ record call { stage = stage.Ended } =
     same_Some c.index_mut-2.result.now c.take_command.new.self (sym went ∙ get-set_same parts.calls.items number c.take_command.new.self call there)
     ∙ c.take_command.ensures.rest ∙ ap (λ (x : Option Command). if is_some x then record call { stage = stage.Ended } else call) begins in
-    let now : c.go_on.new.self ≡ record call { stage = s } = c.go_on.ensures ∙ ap (λ (x : Call). record x { stage = s }) emptied in
+    let now : c.go_on.new.self ≡ record call { stage = s } = c.go_on.ensures ∙ ap (λ (x : RunningCall). record x { stage = s }) emptied in
     let calls : slice_set (slice_set parts.calls.items number c.take_command.new.self) number c.go_on.new.self ≡ slice_set parts.calls.items number (record call { stage = s }) =
     set-set parts.calls.items number c.take_command.new.self c.go_on.new.self ∙ ap (slice_set parts.calls.items number) now in
     let order = c.decide-decided.ensures.order ∙ ap₂ (λ b a. order_with parts.config b a parts.order o) book account in
@@ -129,7 +129,7 @@ pub returns-clause-ready : goal.returns-clause-ready
 returns-clause-ready c =
     let parts = c.args.self.now in
     let number : ℕ = c.args.call in
-    let call : Call = c.index_mut.result.now in
+    let call : RunningCall = c.index_mut.result.now in
     let own : Command = c.in-Some.command in
     let there : slice_get parts.calls.items number ≡ Some call = borrowed parts.calls.items number call (search rules) c.index_mut.ensures.value in
     let first : slice_get parts.calls.items number ≡ Some c.index.result.now = borrowed parts.calls.items number c.index.result.now (search rules) c.index.ensures in
@@ -138,10 +138,10 @@ returns-clause-ready c =
     let given = table_given parts number call there c.args.table own begins c.requires.table in
     let book : option_copied c.book_at.result ≡ given_book parts call.book =
     c.book_at.ensures ∙ ap₂ (λ (items : List BookLock) (o : Option ℕ). option_and_then (λ n. option_map (λ (l : BookLock). l.book) (slice_get items n)) o) c.as_slice.ensures.value
-    (ap (λ (x : Call). x.book) (same_Some c.index.result.now call (sym first ∙ there))) in
+    (ap (λ (x : RunningCall). x.book) (same_Some c.index.result.now call (sym first ∙ there))) in
     let account : option_copied c.account_at.result ≡ given_account parts call.account =
     c.account_at.ensures ∙ ap₂ (λ (items : List AccountLock) (o : Option ℕ). option_and_then (λ n. option_map (λ (l : AccountLock). l.account) (slice_get items n)) o) c.as_slice-2.ensures.value
-    (ap (λ (x : Call). x.account) (same_Some c.index-2.result.now call (sym second ∙ there))) in
+    (ap (λ (x : RunningCall). x.account) (same_Some c.index-2.result.now call (sym second ∙ there))) in
     let o : Outcome = c.decide-decided.result.outcome in
     let decides : Decides parts.config (given_book parts call.book) (given_account parts call.account) parts.order own o =
     subst (λ b. Decides parts.config b (given_account parts call.account) parts.order own o) book
@@ -156,12 +156,12 @@ returns-clause-ready c =
     let emptied : c.index_mut-2.result.now ≡ record call { stage = stage.Ended } =
     same_Some c.index_mut-2.result.now c.take_command.new.self (sym went ∙ get-set_same parts.calls.items number c.take_command.new.self call there)
     ∙ c.take_command.ensures.rest ∙ ap (λ (x : Option Command). if is_some x then record call { stage = stage.Ended } else call) begins in
-    let now : c.go_on.new.self ≡ record call { stage = s } = c.go_on.ensures ∙ ap (λ (x : Call). record x { stage = s }) emptied in
+    let now : c.go_on.new.self ≡ record call { stage = s } = c.go_on.ensures ∙ ap (λ (x : RunningCall). record x { stage = s }) emptied in
     let calls : slice_set (slice_set parts.calls.items number c.take_command.new.self) number c.go_on.new.self ≡ slice_set parts.calls.items number (record call { stage = s }) =
     set-set parts.calls.items number c.take_command.new.self c.go_on.new.self ∙ ap (slice_set parts.calls.items number) now in
     record {
-      books = subst (λ (l : List Call). AreReady held_book BookIsReady l parts.books.items) (sym calls)
+      books = subst (λ (l : List RunningCall). AreReady held_book BookIsReady l parts.books.items) (sym calls)
           (books_ready parts c.requires.sound number call there own given.0 o decides c.requires.room s stage_now);
-      accounts = subst (λ (l : List Call). AreReady held_account AccountIsReady l parts.accounts.items) (sym calls)
+      accounts = subst (λ (l : List RunningCall). AreReady held_account AccountIsReady l parts.accounts.items) (sym calls)
           (accounts_ready parts c.requires.sound number call there own given.0 o decides c.requires.room s stage_now);
     }

@@ -1,7 +1,7 @@
 use Rattle.std.proofs.Common.{false, rules, ◌≡◌, ◌++◌, ◌∙◌, refl, sym, ap, ℕ, None, Some, if◌then◌else◌, is_some, option_map, slice_get, slice_set}
 use Rattle.std.proofs.lemmas.List.{map-set}
 use Rattle.std.proofs.lemmas.Option.{same_Some, slice_get-map}
-use Rattle.house_core.specs.declared.call.Call.{Call}
+use Rattle.house_core.specs.declared.running_call.RunningCall.{RunningCall}
 use Rattle.house_core.specs.declared.locks.AccountLock.{AccountLock}
 use Rattle.house_core.specs.declared.stage.Carried.{Carried}
 use Rattle.house_core.specs.Calls.{for_account, held_account, held_book}
@@ -18,11 +18,11 @@ put_account-requires-clause-ready c =
     let parts = c.args.self.now in
     let number : ℕ = c.args.call in
     let at : ℕ = c.in-Some.number in
-    let call : Call = c.index-2.result.now in
+    let call : RunningCall = c.index-2.result.now in
     let there : slice_get parts.calls.items number ≡ Some call = borrowed parts.calls.items number call (search rules) c.index-2.ensures in
     let seen : slice_get parts.calls.items number ≡ Some c.index.result.now = borrowed parts.calls.items number c.index.result.now (search rules) c.index.ensures in
     let here : slice_get parts.accounts.items at ≡ Some c.index_mut.result.now = borrowed parts.accounts.items at c.index_mut.result.now (search rules) c.index_mut.ensures.value in
-    let puts = puts_account_at call at (ap (λ (x : Call). if is_some (for_account x) then x.account else None) (same_Some call c.index.result.now (sym there ∙ seen)) ∙ sym c.putting_account.ensures ∙ c.in-Some.is) in
+    let puts = puts_account_at call at (ap (λ (x : RunningCall). if is_some (for_account x) then x.account else None) (same_Some call c.index.result.now (sym there ∙ seen)) ∙ sym c.putting_account.ensures ∙ c.in-Some.is) in
     c.requires.sound.ready.accounts number at call c.index_mut.result.now there puts.2 here
 
 pub returns-clause-world : goal.returns-clause-world
@@ -30,13 +30,13 @@ returns-clause-world c =
     let parts = c.args.self.now in
     let number : ℕ = c.args.call in
     let at : ℕ = c.in-Some.number in
-    let call : Call = c.index_mut-2.result.now in
+    let call : RunningCall = c.index_mut-2.result.now in
     let lock : AccountLock = c.index_mut.result.now in
     let there : slice_get parts.calls.items number ≡ Some call = borrowed parts.calls.items number call (search rules) c.index_mut-2.ensures.value in
     let seen : slice_get parts.calls.items number ≡ Some c.index.result.now = borrowed parts.calls.items number c.index.result.now (search rules) c.index.ensures in
     let read : slice_get parts.calls.items number ≡ Some c.index-2.result.now = borrowed parts.calls.items number c.index-2.result.now (search rules) c.index-2.ensures in
     let here : slice_get parts.accounts.items at ≡ Some lock = borrowed parts.accounts.items at lock (search rules) c.index_mut.ensures.value in
-    let puts = puts_account_at call at (ap (λ (x : Call). if is_some (for_account x) then x.account else None) (same_Some call c.index.result.now (sym there ∙ seen)) ∙ sym c.putting_account.ensures ∙ c.in-Some.is) in
+    let puts = puts_account_at call at (ap (λ (x : RunningCall). if is_some (for_account x) then x.account else None) (same_Some call c.index.result.now (sym there ∙ seen)) ∙ sym c.putting_account.ensures ∙ c.in-Some.is) in
     let carried : Carried = puts.0.0 in
     let entries = c.put_account.ensures.entries ∙ ap (λ l. lock.account.entries ++ l) (due_account c.index-2.result.now carried (ap for_account (same_Some c.index-2.result.now call (sym read ∙ there)) ∙ puts.0.1)) in
     (λ i. record {
@@ -60,11 +60,11 @@ returns-clause-ready c =
     let parts = c.args.self.now in
     let number : ℕ = c.args.call in
     let at : ℕ = c.in-Some.number in
-    let call : Call = c.index_mut-2.result.now in
+    let call : RunningCall = c.index_mut-2.result.now in
     let there : slice_get parts.calls.items number ≡ Some call = borrowed parts.calls.items number call (search rules) c.index_mut-2.ensures.value in
     let seen : slice_get parts.calls.items number ≡ Some c.index.result.now = borrowed parts.calls.items number c.index.result.now (search rules) c.index.ensures in
-    let puts = puts_account_at call at (ap (λ (x : Call). if is_some (for_account x) then x.account else None) (same_Some call c.index.result.now (sym there ∙ seen)) ∙ sym c.putting_account.ensures ∙ c.in-Some.is) in
-    let now : Call = record call { has_account = false } in
+    let puts = puts_account_at call at (ap (λ (x : RunningCall). if is_some (for_account x) then x.account else None) (same_Some call c.index.result.now (sym there ∙ seen)) ∙ sym c.putting_account.ensures ∙ c.in-Some.is) in
+    let now : RunningCall = record call { has_account = false } in
     let ready = c.requires.sound.ready in
     record {
       books = ready_call held_book BookIsReady parts.calls.items parts.books.items ready.books number call now there

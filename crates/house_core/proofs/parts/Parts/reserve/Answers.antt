@@ -1,6 +1,6 @@
 use Rattle.std.proofs.Common.{rules, ◌≡◌, ◌∙◌, refl, sym, ap, ℕ, List, Option, None, Some, slice_get}
 use Rattle.std.proofs.lemmas.Option.{same_Some}
-use Rattle.house_core.specs.declared.call.Call.{Call}
+use Rattle.house_core.specs.declared.running_call.RunningCall.{RunningCall}
 use Rattle.house_core.specs.declared.locks.AccountLock.{AccountLock}
 use Rattle.house_core.specs.declared.locks.BookLock.{BookLock}
 use Rattle.house_core.specs.Inner.Shown.{changed_lock, roomy_account, roomy_book}
@@ -34,11 +34,11 @@ returns-clause-ok c =
     record {
       book = λ call at lock there own here.
           book_roomy parts.books.items at lock
-          (ap (λ (o : Option ℕ). slice_get (changed_lock roomy_book parts.books.items o) at) (sym (ap (λ (x : Call). x.book) (same_Some c.index.result.now call (sym first ∙ there)) ∙ own))
+          (ap (λ (o : Option ℕ). slice_get (changed_lock roomy_book parts.books.items o) at) (sym (ap (λ (x : RunningCall). x.book) (same_Some c.index.result.now call (sym first ∙ there)) ∙ own))
           ∙ ap (λ (l : List BookLock). slice_get l at) (sym c.in_ok-reserve_book.ensures.ok) ∙ here);
       account = λ call at lock there own here.
           account_roomy parts.accounts.items at lock
-          (ap (λ (o : Option ℕ). slice_get (changed_lock roomy_account parts.accounts.items o) at) (sym (ap (λ (x : Call). x.account) (same_Some c.index-2.result.now call (sym second ∙ there)) ∙ own))
+          (ap (λ (o : Option ℕ). slice_get (changed_lock roomy_account parts.accounts.items o) at) (sym (ap (λ (x : RunningCall). x.account) (same_Some c.index-2.result.now call (sym second ∙ there)) ∙ own))
           ∙ ap (λ (l : List AccountLock). slice_get l at) (sym c.in_ok-reserve_account.ensures.ok) ∙ here);
       order = ap (λ o. o.has_room) c.in_ok-reserve.ensures.ok;
     }

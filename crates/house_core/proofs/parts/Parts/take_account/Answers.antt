@@ -1,7 +1,7 @@
 use Rattle.std.proofs.Common.{true, rules, ◌≡◌, ◌∙◌, sym, ap, ℕ, None, Some, option_map, is_some, slice_get, slice_set}
 use Rattle.std.proofs.lemmas.List.{map-set}
 use Rattle.std.proofs.lemmas.Option.{none-some, same_Some, slice_get-map}
-use Rattle.house_core.specs.declared.call.Call.{Call}
+use Rattle.house_core.specs.declared.running_call.RunningCall.{RunningCall}
 use Rattle.house_core.specs.declared.locks.AccountLock.{AccountLock}
 use Rattle.house_core.specs.Calls.{held_account, held_book, wanted_account}
 use Rattle.house_core.specs.Inner.Ready.{AccountIsReady, BookIsReady, shown}
@@ -18,7 +18,7 @@ returns-clause-world c =
     let parts = c.args.self.now in
     let number : ℕ = c.args.call in
     let at : ℕ = c.in-Some.number in
-    let call : Call = c.index_mut-2.result.now in
+    let call : RunningCall = c.index_mut-2.result.now in
     let lock : AccountLock = c.index_mut.result.now in
     let there : slice_get parts.calls.items number ≡ Some call = borrowed parts.calls.items number call (search rules) c.index_mut-2.ensures.value in
     let seen : slice_get parts.calls.items number ≡ Some c.index.result.now = borrowed parts.calls.items number c.index.result.now (search rules) c.index.ensures in
@@ -41,14 +41,14 @@ returns-clause-ready c =
     let parts = c.args.self.now in
     let number : ℕ = c.args.call in
     let at : ℕ = c.in-Some.number in
-    let call : Call = c.index_mut-2.result.now in
+    let call : RunningCall = c.index_mut-2.result.now in
     let lock : AccountLock = c.index_mut.result.now in
     let there : slice_get parts.calls.items number ≡ Some call = borrowed parts.calls.items number call (search rules) c.index_mut-2.ensures.value in
     let seen : slice_get parts.calls.items number ≡ Some c.index.result.now = borrowed parts.calls.items number c.index.result.now (search rules) c.index.ensures in
     let wanted : wanted_account call ≡ Some at = ap wanted_account (same_Some call c.index.result.now (sym there ∙ seen)) ∙ sym c.wanted_account.ensures ∙ c.in-Some.is in
     let here : slice_get parts.accounts.items at ≡ Some lock = borrowed parts.accounts.items at lock (search rules) c.index_mut.ensures.value in
     let nothing = begun_carries_nothing call.stage (begun_wants_account call at wanted) in
-    let now : Call = record call { has_account = true } in
+    let now : RunningCall = record call { has_account = true } in
     let ready = c.requires.sound.ready in
     record {
       accounts = ready_call held_account AccountIsReady parts.calls.items (slice_set parts.accounts.items at (record lock { holder = Some number }))

@@ -2,7 +2,7 @@ use Rattle.std.proofs.Common.{◌≡◌, ◌∙◌, sym, ap, ap₂, List, length
 use Rattle.std.proofs.lemmas.Option.{slice_get-map}
 use Rattle.ocpi_types.specs.declared.config.Operator.{Operator}
 use Rattle.plain_house.specs.declared.entry.BookEntry.{BookEntry}
-use Rattle.house_core.specs.declared.call.Call.{Call}
+use Rattle.house_core.specs.declared.running_call.RunningCall.{RunningCall}
 use Rattle.house_core.specs.declared.locks.BookLock.{BookLock}
 use Rattle.house_core.specs.Inner.Moves.{collected_call}
 use Rattle.house_core.specs.Inner.Shown.{shown_book}
@@ -29,7 +29,7 @@ collect_stage-requires c =
 
 pub returns : goal.returns
 returns c =
-    let call : Call = c.args.call.now in
+    let call : RunningCall = c.args.call.now in
     let operator : Operator = c.in-Some.operator.now in
     let lock : BookLock = c.in-Some-get.lock.now in
     let among : List Operator = c.as_slice.result.now in

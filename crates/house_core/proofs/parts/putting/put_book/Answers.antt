@@ -1,5 +1,5 @@
 use Rattle.std.proofs.Common.{false, rules, ap}
-use Rattle.house_core.specs.declared.call.Call.{Call}
+use Rattle.house_core.specs.declared.running_call.RunningCall.{RunningCall}
 use Rattle.house_core.proofs.PutLemmas.{carried_of}
 use Rattle.house_core.proofs.parts.putting.put_book.Goals as goal
 
@@ -9,4 +9,4 @@ put_in_book-requires-clause-room c =
     (c.requires.ready one.0 c.in-Some.event one.1 one.2).0
 
 pub returns-clause-call : goal.returns-clause-call
-returns-clause-call c = ap (λ (x : Call). record x { has_book = false }) c.take_event.ensures.rest
+returns-clause-call c = ap (λ (x : RunningCall). record x { has_book = false }) c.take_event.ensures.rest

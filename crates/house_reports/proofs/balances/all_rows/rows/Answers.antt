@@ -1,7 +1,7 @@
 use Rattle.std.proofs.Common.{◌≡◌, ◌<◌, ◌^◌, ◌+◌, suc, ap, sym, subst, refl, ◌∙◌, arith}
 use Rattle.std.specs.Prelude.{flat_map}
 use Rattle.plain_house.specs.Entries.{period_of}
-use Rattle.house_reports.specs.balances.Balances.{operators, places, providers, row_at}
+use Rattle.house_reports.specs.balances.Balances.{operators, row_keys, providers, row_at}
 use Rattle.house_reports.specs.balances.Bookings.{bookings}
 use Rattle.house_reports.specs.balances.Inner.Narrowed.{of_period, rows_of_period, size}
 use Rattle.house_reports.proofs.balances.ObligationLemmas.{booked_fits}
@@ -34,5 +34,5 @@ returns c =
     let all : c.loop-period.period ≡ suc (period_of c.args.events.now) =
     omega (arith, c.loop-period-test.false, c.loop-period.auto.period-end, c.period_of-period-end.ensures.value) in
     c.loop-period.invariant
-    ∙ ap (λ booked. flat_map (row_at booked) (places config c.loop-period.period)) c.in_ok-bookings.ensures
-    ∙ ap (λ periods. flat_map (row_at (bookings c.args.events.now)) (places config periods)) all
+    ∙ ap (λ booked. flat_map (row_at booked) (row_keys config c.loop-period.period)) c.in_ok-bookings.ensures
+    ∙ ap (λ periods. flat_map (row_at (bookings c.args.events.now)) (row_keys config periods)) all

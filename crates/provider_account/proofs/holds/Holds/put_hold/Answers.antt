@@ -8,4 +8,4 @@ pub returns : goal.returns
 returns c entries knows short next =
     let hold = c.args.hold.now in
     let small : count_by (is_hold_of hold.provider) entries + 1 < 2 ^ 64 = omega (arith, short, count_by-le-length (is_hold_of hold.provider) entries) in
-    begun_known entries hold knows.numbered next small c.args.self.now c.begin.new.self knows.found knows.held c.begin.ensures.opened c.begin.ensures.held
+    begun_known entries hold knows.numbered next small c.args.self.now c.begin.new.self knows.found knows.sums c.begin.ensures.opened c.begin.ensures.sums

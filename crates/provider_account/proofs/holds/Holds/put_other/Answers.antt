@@ -6,7 +6,7 @@ use Rattle.provider_account.proofs.holds.Holds.put_other.Goals as goal
 pub returns-in-Some : goal.returns-in-Some
 returns-in-Some c entries knows =
     let found = sym (ended_found c.args.self.now entries knows c.args.entry.now) ∙ sym c.ended.ensures ∙ c.in-Some.is in
-    ended_known entries c.args.entry.now c.requires.other c.args.self.now knows c.in-Some.hold found c.end.new.self c.end.ensures.opened c.end.ensures.held
+    ended_known entries c.args.entry.now c.requires.other c.args.self.now knows c.in-Some.hold found c.end.new.self c.end.ensures.opened c.end.ensures.sums
 
 pub returns-in_default : goal.returns-in_default
 returns-in_default c entries knows =

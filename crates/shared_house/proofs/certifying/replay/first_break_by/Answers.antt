@@ -18,8 +18,8 @@ loop-turn-init c = record {
 pub take_turn-requires-clause-admitted : goal.take_turn-requires-clause-admitted
 take_turn-requires-clause-admitted c =
     let turn : Turn = c.turn-item.result in
-    subst (λ (config : Config). IsAdmitted config turn.made.now.command) (sym c.loop-turn.invariant.config)
-    (subst (λ (x : Turn). IsAdmitted c.args.house.now.config x.made.now.command) (sym c.turn-item.is) (c.requires.admitted c.loop-turn.turn-index turn c.loop-turn-test.true))
+    subst (λ (config : Config). IsAdmitted config turn.call.now.command) (sym c.loop-turn.invariant.config)
+    (subst (λ (x : Turn). IsAdmitted c.args.house.now.config x.call.now.command) (sym c.turn-item.is) (c.requires.admitted c.loop-turn.turn-index turn c.loop-turn-test.true))
 
 pub loop-turn-preserved : goal.loop-turn-preserved
 loop-turn-preserved c =
@@ -28,8 +28,8 @@ loop-turn-preserved c =
     let config = c.args.house.now.config in
     let events = c.args.events.now in
     let count : ℕ = c.loop-turn.count in
-    let admitted : IsAdmitted config turn.made.now.command =
-    subst (λ (x : Turn). IsAdmitted config x.made.now.command) (sym c.turn-item.is) (c.requires.admitted c.loop-turn.turn-index turn c.loop-turn-test.true) in
+    let admitted : IsAdmitted config turn.call.now.command =
+    subst (λ (x : Turn). IsAdmitted config x.call.now.command) (sym c.turn-item.is) (c.requires.admitted c.loop-turn.turn-index turn c.loop-turn-test.true) in
     let said : IfNone c.in_ok-number.field-0 (IsNext c.loop-turn.house.config events count (plain_turn turn) c.take_turn.new.house.events) = c.in_ok-number.ensures.next in
     let next : IsNext c.loop-turn.house.config events count (plain_turn turn) c.take_turn.new.house.events = rw c.in_default.is at said in
     let done = turn_fit config events (map plain_turn xs) c.loop-turn.turn-index (plain_turn turn) (within_plain xs c.loop-turn.turn-index c.loop-turn-test.true)

@@ -10,20 +10,20 @@ pub returns-then-not-adds_event-clause-stands : goal.returns-then-not-adds_event
 returns-then-not-adds_event-clause-stands c =
     let config = c.args.house.now.config in
     let events = c.args.events.now in
-    let made = c.args.made.now in
-    let told = answered config events c.args.house.now.events c.do_command-reply.new.self.events made c.in_ok-command.command c.do_command-reply.result c.requires.before c.in_ok-command.ensures c.do_command-reply.ensures.does (sym c.if-is_out_of_memory.ensures) in
-    let same : made.reply ≡ reply_of config (events_before events made) made.command = sym (c.if-not-is_same.ensures.0 refl) ∙ told.0 in
-    let none : adds_event (reply_of config (events_before events made) made.command) ≡ false = ap adds_event (sym told.0) ∙ sym c.if-not-adds_event.ensures in
-    ((λ _. stands_silent c.replies_tell_events.ensures config events made c.requires.within same none), (λ _. refl))
+    let call = c.args.call.now in
+    let told = answered config events c.args.house.now.events c.do_command-reply.new.self.events call c.in_ok-command.command c.do_command-reply.result c.requires.before c.in_ok-command.ensures c.do_command-reply.ensures.does (sym c.if-is_out_of_memory.ensures) in
+    let same : call.reply ≡ reply_of config (events_before events call) call.command = sym (c.if-not-is_same.ensures.0 refl) ∙ told.0 in
+    let none : adds_event (reply_of config (events_before events call) call.command) ≡ false = ap adds_event (sym told.0) ∙ sym c.if-not-adds_event.ensures in
+    ((λ _. stands_silent c.replies_tell_events.ensures config events call c.requires.within same none), (λ _. refl))
 
 pub returns-clause-stands : goal.returns-clause-stands
 returns-clause-stands c =
     let config = c.args.house.now.config in
     let events = c.args.events.now in
-    let made = c.args.made.now in
+    let call = c.args.call.now in
     let now : List Event = c.do_command-reply.new.self.events in
-    let told = answered config events c.args.house.now.events now made c.in_ok-command.command c.do_command-reply.result c.requires.before c.in_ok-command.ensures c.do_command-reply.ensures.does (sym c.if-is_out_of_memory.ensures) in
-    let same : made.reply ≡ reply_of config (events_before events made) made.command = sym (c.if-not-is_same.ensures.0 refl) ∙ told.0 in
-    let some : adds_event (reply_of config (events_before events made) made.command) ≡ true = ap adds_event (sym told.0) ∙ sym c.if-not-adds_event.ensures in
-    stands_adding c.replies_tell_events.ensures config events made c.requires.within same some now told.1 c.is_last_at.result
+    let told = answered config events c.args.house.now.events now call c.in_ok-command.command c.do_command-reply.result c.requires.before c.in_ok-command.ensures c.do_command-reply.ensures.does (sym c.if-is_out_of_memory.ensures) in
+    let same : call.reply ≡ reply_of config (events_before events call) call.command = sym (c.if-not-is_same.ensures.0 refl) ∙ told.0 in
+    let some : adds_event (reply_of config (events_before events call) call.command) ≡ true = ap adds_event (sym told.0) ∙ sym c.if-not-adds_event.ensures in
+    stands_adding c.replies_tell_events.ensures config events call c.requires.within same some now told.1 c.is_last_at.result
     (subst (λ (n : ℕ). (last : Event) → slice_get now (length now - 1) ≡ Some last → (c.is_last_at.result ≡ true) ↔ (slice_get events n ≡ Some last)) c.point.ensures c.is_last_at.ensures)

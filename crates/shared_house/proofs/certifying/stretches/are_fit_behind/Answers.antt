@@ -9,5 +9,5 @@ pub returns-in_ok-are_fit : goal.returns-in_ok-are_fit
 returns-in_ok-are_fit c = λ yes.
     let events = c.args.events.now in
     let turns = c.args.turns.now in
-    subst (λ (own : Config). All (λ turn. HasRightTable own events turn.made.now) turns → IsStretchFit own events (map plain_turn turns) c.args.stretch) c.put_all.ensures.config
+    subst (λ (own : Config). All (λ turn. HasRightTable own events turn.call.now) turns → IsStretchFit own events (map plain_turn turns) c.args.stretch) c.put_all.ensures.config
     (c.in_ok-are_fit.ensures yes)

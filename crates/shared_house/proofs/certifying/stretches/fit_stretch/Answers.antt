@@ -9,5 +9,5 @@ pub returns-then-branch : goal.returns-then-branch
 returns-then-branch c =
     let events = c.args.events.now in
     let turns = c.args.turns.now in
-    subst (λ (own : Config). All (λ turn. HasRightTable own events turn.made.now) turns → IsStretchFit own events (map plain_turn turns) c.args.stretch)
-    (c.in_ok-ledgers.ensures.config ∙ c.in_ok-copy.ensures) (c.in_ok-are_fit_behind.ensures c.if-branch.true)
+    subst (λ (own : Config). All (λ turn. HasRightTable own events turn.call.now) turns → IsStretchFit own events (map plain_turn turns) c.args.stretch)
+    (c.in_ok-entry_books.ensures.config ∙ c.in_ok-copy.ensures) (c.in_ok-are_fit_behind.ensures c.if-branch.true)

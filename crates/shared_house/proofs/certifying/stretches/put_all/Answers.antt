@@ -2,13 +2,13 @@ use Rattle.std.proofs.Common.{◌∙◌, ◌++◌, [], ◌∷◌, sym, subst, ta
 use Rattle.ocpi_types.specs.declared.config.Config.{Config}
 use Rattle.plain_house.specs.declared.event.Event.{Event}
 use Rattle.plain_house.specs.Legal.{IsLegal}
-use Rattle.period_order.specs.Ledgers.{Keep}
+use Rattle.period_order.specs.EntryBooks.{Keep}
 use Rattle.shared_house.proofs.StretchLemmas.{put_more, still_legal}
 use Rattle.shared_house.proofs.certifying.stretches.put_all.Goals as goal
 
 pub loop-event-preserved : goal.loop-event-preserved
 loop-event-preserved c =
-    let config = c.args.ledgers.now.config in
+    let config = c.args.entry_books.now.config in
     let events = c.args.events.now in
     let i = c.loop-event.event-index in
     let event : Event = c.event-item.result in

@@ -17,8 +17,8 @@ returns-in_default-Ok-Closed c =
     let told : List NetPosition = c.in_default-Ok-Closed.positions in
     if_ok c.are_positions.result
     (λ are. are ≡ true → (events : List Event) → AreOwed lists events → told ≡ positions_in c.args.config.now (book_entries events) period)
-    (λ has. has ≡ true → (events : List Event) → AreOwed lists events → HasRightTable c.args.config.now events c.args.made.now)
-    (λ b are yes events all. right_positions c.args.config.now events c.args.made.now c.in_default-Ok-Closed.field-0-1.at period told (search rules) (are yes events all))
+    (λ has. has ≡ true → (events : List Event) → AreOwed lists events → HasRightTable c.args.config.now events c.args.call.now)
+    (λ b are yes events all. right_positions c.args.config.now events c.args.call.now c.in_default-Ok-Closed.field-0-1.at period told (search rules) (are yes events all))
     c.are_positions.ensures
 
 pub returns-in-Statement-Ok-Statement : goal.returns-in-Statement-Ok-Statement

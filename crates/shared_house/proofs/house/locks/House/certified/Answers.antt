@@ -7,7 +7,7 @@ use Rattle.shared_house.specs.Finished.{IsFinished}
 use Rattle.shared_house.specs.PassView.{PassView}
 use Rattle.shared_house.specs.Points.{AreAdmitted, AreAllAdmitted}
 use Rattle.shared_house.specs.declared.ended.Ended.{Ended}
-use Rattle.shared_house.specs.declared.made.Made.{Made}
+use Rattle.shared_house.specs.declared.call.Call.{Call}
 use Rattle.shared_house.proofs.FinishLemmas.{are_held, certified_alike, torn_alike}
 use Rattle.shared_house.proofs.StandLemmas.{if_ok}
 use Rattle.shared_house.proofs.house.locks.House.certified.Goals as goal
@@ -15,8 +15,8 @@ use Rattle.shared_house.proofs.house.locks.House.certified.Goals as goal
 pub certified-requires : goal.certified-requires
 certified-requires g c = (
   search rules,
-  subst (λ (config : Config). AreAllAdmitted config (map (λ (pass : Vec Made Global). pass.items) c.in_ok-gathered.gathered.calls.items)) (sym c.into_parts-config.ensures.config)
-      (All-map (AreAdmitted g.N.BookEntries.Configured.config) (λ (pass : Vec Made Global). pass.items) c.in_ok-gathered.gathered.calls.items c.in_ok-gathered.ensures.admitted),
+  subst (λ (config : Config). AreAllAdmitted config (map (λ (pass : Vec Call Global). pass.items) c.in_ok-gathered.gathered.calls.items)) (sym c.into_parts-config.ensures.config)
+      (All-map (AreAdmitted g.N.BookEntries.Configured.config) (λ (pass : Vec Call Global). pass.items) c.in_ok-gathered.gathered.calls.items c.in_ok-gathered.ensures.admitted),
 )
 
 pub returns-clause-ok : goal.returns-clause-ok
@@ -26,7 +26,7 @@ returns-clause-ok g c =
     let config = g.N.BookEntries.Configured.config in
     let every : vec_len c.args.passes ≡ g.N.Events.Part.all = omega (arith, all.no_others, c.requires.all) in
     if_ok c.certified.result
-    (λ (ended : Ended). IsCertified c.into_parts-config.result.0 (entries_of_books left.books.items) (entries_of_accounts left.accounts.items) left.entries.items (map (λ (pass : Vec Made Global). pass.items) left.calls.items) ended.events.items)
+    (λ (ended : Ended). IsCertified c.into_parts-config.result.0 (entries_of_books left.books.items) (entries_of_accounts left.accounts.items) left.entries.items (map (λ (pass : Vec Call Global). pass.items) left.calls.items) ended.events.items)
     (λ (ended : Ended). IsFinished config _ ended.events.items)
     (λ ended is. record {
       books = entries_of_books left.books.items;

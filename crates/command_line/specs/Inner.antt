@@ -1,0 +1,2 @@
+-- Words that private contracts and proofs alone use.
+pub mod Parts
