@@ -2,7 +2,7 @@
 
 ghost use Rattle.house_core.specs.Inner.HouseLaws.{HouseLaws};
 ghost use Rattle.house_core.specs.Inner.Steps.{StepsKeep};
-ghost use Rattle.house_core.specs.Laws.{CallsCanEnd, CommandsAreOneHouse, LegalListsKeepRules, LocksAreExclusive};
+ghost use Rattle.house_core.specs.Laws.{CallsCanEnd, CommandsAreOneHouse, EventsAreClaimedOnce, LegalListsKeepRules, LocksAreExclusive};
 ghost use Rattle.house_core.specs.StepTable.{StepsAreDecided, StepsChangeNoMore};
 
 use cdr_checks::commands_have_parties;
@@ -53,6 +53,14 @@ pub fn house_laws()
 /// For every list of steps, admitted commands are answered as one house over one list of events answers.
 pub fn commands_are_one_house()
     ensures { CommandsAreOneHouse }
+{
+    empty_lists_are_legal();
+    house_laws();
+}
+
+/// After every list of steps no two of the calls that ended claim one event: each event is that of one answer.
+pub fn events_are_claimed_once()
+    ensures { EventsAreClaimedOnce }
 {
     empty_lists_are_legal();
     house_laws();

@@ -2,7 +2,6 @@
 //! What a step is, and what is so of every list of steps.
 #![tactic(auto)]
 
-mod call;
 mod collection;
 mod finished;
 mod laws;
@@ -10,6 +9,7 @@ mod locks;
 mod numbers;
 mod parts;
 mod replaying;
+mod running_call;
 mod stage;
 mod step;
 mod table;
@@ -17,8 +17,8 @@ mod world;
 
 pub use finished::{Done, Finished, Trace};
 pub use laws::{
-    calls_can_end, commands_are_one_house, legal_lists_keep_rules, locks_are_exclusive,
-    steps_are_decided, steps_change_no_more,
+    calls_can_end, commands_are_one_house, events_are_claimed_once, legal_lists_keep_rules,
+    locks_are_exclusive, steps_are_decided, steps_change_no_more,
 };
 pub use period_order::decide;
 pub use replaying::replay;
