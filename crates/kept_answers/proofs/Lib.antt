@@ -1,0 +1,4 @@
+pub mod KeptLemmas
+pub mod RunLemmas
+pub mod ScriptLemmas
+pub mod StoreLemmas

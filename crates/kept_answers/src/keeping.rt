@@ -1,0 +1,182 @@
+//! A store whose lines are answered: those that it keeps again, and then new ones.
+
+ghost use Rattle.std.specs.Prelude.{◌≡◌, ◌≤◌, ◌^◌, ℕ, List, [], ◌∷◌, ◌++◌, length, string_bytes, IsTrue, IfOk, OnOk, MatchResult};
+ghost use Rattle.sqlite_disk.specs.Disk.{Only};
+ghost use Rattle.kept_lines.specs.File.{kept_in};
+ghost use Rattle.kept_lines.specs.Log.{IsSettled};
+ghost use Rattle.kept_lines.specs.Reading.{OnlyReads};
+ghost use Rattle.kept_lines.specs.Recovery.{disk_of, lines_left};
+ghost use Rattle.request_lines.specs.Lines.{AreLines};
+ghost use Rattle.kept_answers.specs.Keeping.{FitsKept, IsAllKept, IsKept, IsStoreAnswered, IsStoreSent, answers_had, greeting};
+ghost use Rattle.kept_answers.specs.Kept.{AreAnswered, Begins};
+
+use crate::answering::answer_new_lines;
+use crate::fault::KeepFault;
+use crate::restart::answer_kept_lines;
+use kept_lines::{Log, Recovery, Unrecovered};
+use request_lines::{Answerer, MOST_LINE_BYTES, Sink, Source, write_all};
+use sqlite_disk::Disk;
+use std::alloc::{AllocError, Global};
+
+/// How many bytes a kept line may have. The record that begins a store has a configuration and some words.
+pub const MOST_KEPT_BYTES: usize = 2 * MOST_LINE_BYTES;
+
+/// How a kept stream ended, and its disk.
+#[derive(Drop)]
+pub struct Ended<D: Disk> {
+    pub disk: D,
+    pub result: Result<(), KeepFault>,
+}
+
+/// The number of lines that are left.
+fn count_lines<D: Disk>(recovery: &mut Recovery<D>) -> Result<u64, KeepFault>
+    ensures count { IfOk result (λ count. IsTrue (D.Disk.is_clean (disk_of recovery.new)) → count ≡ length (lines_left recovery.old)) }
+    ensures reads { OnlyReads D.Disk (disk_of recovery.old) (disk_of recovery.new) }
+{
+    let mut count: u64 = 0;
+    while recovery.next_line()? {
+        count += 1;
+    }
+    Ok(count)
+}
+
+fn greeting_text(alloc: Global, kept: u64) -> Result<String, AllocError>
+    ensures { IfOk result (λ text. string_bytes text ≡ greeting kept) }
+{
+    format!(in alloc; "{{\"kept\":{kept}}}\n")
+}
+
+/// Sends the line that says how many lines the store keeps.
+fn greet<W: Sink>(alloc: Global, writer: &mut W, kept: u64) -> Result<(), KeepFault>
+    ensures told { (sent : List ℕ) × W.writing.takes writer.old sent writer.new
+        × MatchResult result (λ _. sent ≡ greeting kept) (λ _. Begins sent (greeting kept)) }
+{
+    let text = greeting_text(alloc, kept)?;
+    if let Err(_sent) = write_all(writer, text.as_bytes()) {
+        return Err(KeepFault::Write);
+    }
+    Ok(())
+}
+
+/// Goes past the record that begins the store.
+fn go_past_first<D: Disk>(recovery: &mut Recovery<D>) -> Result<(), KeepFault>
+    ensures lines { OnOk result (IsTrue (D.Disk.is_clean (disk_of recovery.new)) → (first : List ℕ)
+        × (kept_in (D.Disk.seen (disk_of recovery.old)) ≡ first ∷ lines_left recovery.new)) }
+    ensures reads { OnlyReads D.Disk (disk_of recovery.old) (disk_of recovery.new) }
+{
+    recovery.rewind();
+    if recovery.next_line()? {
+        Ok(())
+    } else {
+        Err(KeepFault::NoStore)
+    }
+}
+
+/// Goes past the record that begins the store, and returns how many lines come after it.
+fn read_past_first<D: Disk>(recovery: &mut Recovery<D>) -> Result<u64, KeepFault>
+    ensures count { IfOk result (λ count. IsTrue (D.Disk.is_clean (disk_of recovery.new)) → (first : List ℕ)
+        × (kept_in (D.Disk.seen (disk_of recovery.old)) ≡ first ∷ lines_left recovery.new) × (count ≡ length (lines_left recovery.new))) }
+    ensures reads { OnlyReads D.Disk (disk_of recovery.old) (disk_of recovery.new) }
+{
+    go_past_first(recovery)?;
+    let count = count_lines(recovery)?;
+    go_past_first(recovery)?;
+    Ok(count)
+}
+
+/// How many answers the client has, of so many kept lines.
+fn answers_had(from: Option<u64>, kept: u64) -> Result<u64, KeepFault>
+    ensures { IfOk result (λ had. (had ≡ answers_had from) × FitsKept from kept) }
+{
+    match from {
+        Some(had) if had <= kept => Ok(had),
+        Some(_) => Err(KeepFault::FewerLines),
+        None if kept == 0 => Ok(0),
+        None => Err(KeepFault::HasLines),
+    }
+}
+
+/// Sends how many lines the store keeps, and then the answers to those that the client does not have.
+fn answer_store<D: Disk, W: Sink, A: Answerer>(
+    alloc: Global,
+    recovery: &mut Recovery<D>,
+    from: Option<u64>,
+    writer: &mut W,
+    answerer: &mut A,
+) -> Result<(), KeepFault>
+    ensures told { (sent : List ℕ) × W.writing.takes writer.old sent writer.new
+        × (IsTrue (D.Disk.is_clean (disk_of recovery.new)) → IsStoreSent A.rule answerer.old (kept_in (D.Disk.seen (disk_of recovery.old))) from sent
+        × OnOk result (IsStoreAnswered A.rule answerer.old (kept_in (D.Disk.seen (disk_of recovery.old))) from sent answerer.new)) }
+    ensures reads { OnlyReads D.Disk (disk_of recovery.old) (disk_of recovery.new) }
+{
+    let kept = read_past_first(recovery)?;
+    let had = answers_had(from, kept)?;
+    greet(alloc, writer, kept)?;
+    answer_kept_lines(alloc, recovery, had, writer, answerer)
+}
+
+/// Keeps and answers the lines of a store: sends how many it keeps and the answers to those after the first `from`, repairs the end
+/// that a crash may have left, and then keeps each batch of new lines before it answers it, until the reader ends. Without `from` the
+/// store must have no line yet.
+///
+/// The disk comes back, with how the stream ended. The store has its first record. A disk may stop at any call, so what holds at an
+/// error holds of a crash at any moment: run again over what the crash left, and with `from` as many answers as the client has, the
+/// store goes on.
+///
+/// # Errors
+///
+/// `KeepFault`: what was sent begins the answers, and each content that a crash may leave has all lines whose answers were begun.
+pub fn keep<D: Disk, R: Source, W: Sink, A: Answerer>(
+    alloc: Global,
+    disk: D,
+    from: Option<u64>,
+    reader: &mut R,
+    writer: &mut W,
+    answerer: &mut A,
+) -> Ended<D>
+    requires usable { IsTrue (D.Disk.is_usable disk) }
+    requires durable { Only (D.Disk.seen disk) (D.Disk.may_leave disk) }
+    ensures told { (calls : ℕ) × (bytes : List ℕ) × (whole : List (List ℕ)) × (part : List ℕ) × (sent : List ℕ) × (calls ≤ 2 ^ 40)
+        × R.reading.gives reader.old calls bytes reader.new × AreLines bytes whole part × W.writing.takes writer.old sent writer.new
+        × (IsTrue (D.Disk.is_clean result.disk) → IsKept A.rule answerer.old (D.Disk.may_leave result.disk) (kept_in (D.Disk.seen disk)) whole from sent
+        × OnOk result.result ((part ≡ []) × R.reading.at_end reader.new
+        × IsAllKept A.rule answerer.old (D.Disk.seen result.disk) (kept_in (D.Disk.seen disk)) whole from sent answerer.new)) }
+    ensures clean { IsTrue (D.Disk.is_clean result.disk) → IsTrue (D.Disk.is_clean disk) }
+{
+    let mut recovery = Recovery::new(alloc, disk, MOST_KEPT_BYTES);
+    if let Err(fault) = answer_store(alloc, &mut recovery, from, writer, answerer) {
+        return Ended {
+            disk: recovery.into_disk(),
+            result: Err(fault),
+        };
+    }
+    match recovery.finish() {
+        Ok(log) => answer_log(alloc, log, reader, writer, answerer),
+        Err(Unrecovered { disk, cause }) => Ended {
+            disk,
+            result: Err(KeepFault::from(cause)),
+        },
+    }
+}
+
+/// Keeps and answers new lines behind those of a log.
+fn answer_log<D: Disk, R: Source, W: Sink, A: Answerer>(
+    alloc: Global,
+    mut log: Log<D>,
+    reader: &mut R,
+    writer: &mut W,
+    answerer: &mut A,
+) -> Ended<D>
+    requires { IsSettled D.Disk log }
+    ensures told { (calls : ℕ) × (bytes : List ℕ) × (whole : List (List ℕ)) × (part : List ℕ) × (sent : List ℕ) × (calls ≤ 2 ^ 40)
+        × R.reading.gives reader.old calls bytes reader.new × AreLines bytes whole part × W.writing.takes writer.old sent writer.new
+        × MatchResult result.result
+        (λ _. (part ≡ []) × R.reading.at_end reader.new × A.rule.answers answerer.old whole sent answerer.new
+        × (IsTrue (D.Disk.is_clean result.disk) → kept_in (D.Disk.seen result.disk) ≡ kept_in (D.Disk.seen log.disk) ++ whole) × Only (D.Disk.seen result.disk) (D.Disk.may_leave result.disk))
+        (λ _. AreAnswered A.rule answerer.old (D.Disk.may_leave result.disk) (IsTrue (D.Disk.is_clean result.disk)) (kept_in (D.Disk.seen log.disk)) whole sent) }
+    ensures clean { D.Disk.is_clean result.disk ≡ D.Disk.is_clean log.disk }
+{
+    let result = answer_new_lines(alloc, reader, &mut log, writer, answerer);
+    let Log { disk, end: _ } = log;
+    Ended { disk, result }
+}

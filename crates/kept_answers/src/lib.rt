@@ -1,0 +1,15 @@
+//! Lines that are on the disk before they are answered.
+#![tactic(auto)]
+
+mod answering;
+mod fault;
+mod keeping;
+mod laws;
+mod pending;
+mod restart;
+
+pub use answering::answer_new_lines;
+pub use fault::KeepFault;
+pub use keeping::{Ended, MOST_KEPT_BYTES, keep};
+pub use laws::{runs_are_one, script_runs_are_one, scripts_are_determined};
+pub use restart::answer_kept_lines;
