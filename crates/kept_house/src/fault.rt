@@ -1,0 +1,60 @@
+//! Why a store is not opened, or a kept house ended before its reader did.
+
+ghost use Rattle.std.specs.Prelude.{◌≡◌};
+ghost use Rattle.kept_house.specs.declared.fault.StoreFault.TheVariants.{Keep};
+ghost use Rattle.kept_answers.specs.declared.fault.KeepFault.TheVariants.{NoMemory};
+ghost use Rattle.kept_answers.specs.Faults.{of_disk};
+
+use kept_answers::KeepFault;
+use kept_lines::KeepError;
+use ocpi_json::name::Name;
+use ocpi_types::ConfigFault;
+use std::alloc::AllocError;
+use thiserror::Error;
+
+/// Why a store is not opened, or a kept house ended before its reader did.
+#[derive(Clone, Copy, Debug, Error)]
+pub enum StoreFault {
+    #[error("{0}")]
+    Keep(KeepFault),
+
+    /// The given configuration does not read.
+    #[error("{0}")]
+    Config(ConfigFault),
+
+    /// The store began under another configuration: this is the first member that differs.
+    #[error("another configuration: {}", .0.key())]
+    OtherConfig(Name),
+
+    /// The store has a later format than this program knows.
+    #[error("a later format")]
+    LaterFormat,
+
+    /// The file does not begin with the record of a store.
+    #[error("no store")]
+    NoStore,
+}
+
+impl From<KeepFault> for StoreFault {
+    ghost from_gives = { λ cause fault. fault ≡ Keep cause };
+
+    fn from(cause: KeepFault) -> Self {
+        StoreFault::Keep(cause)
+    }
+}
+
+impl From<KeepError> for StoreFault {
+    ghost from_gives = { λ error fault. fault ≡ Keep (of_disk error) };
+
+    fn from(error: KeepError) -> Self {
+        StoreFault::Keep(KeepFault::from(error))
+    }
+}
+
+impl From<AllocError> for StoreFault {
+    ghost from_gives = { λ _ fault. fault ≡ Keep NoMemory };
+
+    fn from(_error: AllocError) -> Self {
+        StoreFault::Keep(KeepFault::NoMemory)
+    }
+}
