@@ -3,19 +3,19 @@
 ghost use Rattle.std.specs.Prelude.{◌≡◌, IfErr, OnOk, is_some, true};
 ghost use Rattle.clear_cli.specs.Words.{is_command};
 
-use crate::fault::Fault;
 use clap::{Arg, ArgAction, Command};
+use command_line::Fault;
 use request_lines::{Sink, write_all};
 use std::alloc::{AllocError, Global};
 use std::io::{self, Eprint};
 
 /// The version, and the kit that the program is proved and built with.
-const VERSION: &str = "0.1.0 (rattle-kit-13f logic dac8208d650f15bf)";
+pub const VERSION: &str = "0.1.0 (rattle-kit-13f logic dac8208d650f15bf)";
 
 const ABOUT: &str =
     "A clearing house for roaming between charge point operators and e-mobility providers, by OCPI 2.2.1";
 
-/// An argument of a command, and what it is: one that has to be given, or an option by its name.
+/// An argument of a command, and what it is: one that has to be given, or an option by its name, alone or with a value.
 #[derive(Clone, Copy)]
 enum Argument {
     Given {
@@ -24,6 +24,11 @@ enum Argument {
     },
     Option {
         name: &'static str,
+        help: &'static str,
+    },
+    Value {
+        name: &'static str,
+        value: &'static str,
         help: &'static str,
     },
 }
@@ -51,6 +56,28 @@ const FILES: Argument = Argument::Given {
 const TABLE: Argument = Argument::Option {
     name: "table",
     help: "Prints a table for a terminal; -table does so, too",
+};
+
+const STORE: Argument = Argument::Given {
+    name: "STORE",
+    help: "The path of the folder of a store, which keep makes if there is none",
+};
+
+const FROM: Argument = Argument::Value {
+    name: "from",
+    value: "N",
+    help: "How many answers the client has; it has to be given if the store keeps lines",
+};
+
+const FROM_STORE: Argument = Argument::Value {
+    name: "store",
+    value: "STORE",
+    help: "Takes the lines that this store keeps, and not those of standard input",
+};
+
+const ANSWERS: Argument = Argument::Option {
+    name: "answers",
+    help: "Prints the answer to each line after it",
 };
 
 const ZONE: Argument = Argument::Given {
@@ -97,23 +124,23 @@ const CHECK_CONFIG: Entry = Entry {
 
 const EXPLAIN_LINES: Entry = Entry {
     name: "explain_lines",
-    form: "clear explain_lines CONFIG < LINES",
+    form: "clear explain_lines CONFIG [--store STORE] < LINES",
     about: "Prints where and why request lines are refused, as CSV",
-    arguments: [Some(CONFIG), None, None],
+    arguments: [Some(CONFIG), Some(FROM_STORE), None],
 };
 
 const STATEMENTS: Entry = Entry {
     name: "statements",
-    form: "clear statements CONFIG < LINES",
+    form: "clear statements CONFIG [--store STORE] < LINES",
     about: "Prints the order of events and the statements of closed periods, as CSV",
-    arguments: [Some(CONFIG), None, None],
+    arguments: [Some(CONFIG), Some(FROM_STORE), None],
 };
 
 const BALANCES: Entry = Entry {
     name: "balances",
-    form: "clear balances CONFIG [--table] < LINES",
+    form: "clear balances CONFIG [--table] [--store STORE] < LINES",
     about: "Prints what is owed, settled and open, as CSV or as a table",
-    arguments: [Some(CONFIG), Some(TABLE), None],
+    arguments: [Some(CONFIG), Some(TABLE), Some(FROM_STORE)],
 };
 
 const RATE: Entry = Entry {
@@ -137,11 +164,35 @@ const RE_RATE: Entry = Entry {
     arguments: [Some(ZONE), None, None],
 };
 
+const KEEP: Entry = Entry {
+    name: "keep",
+    form: "clear keep CONFIG STORE [--from N] < LINES",
+    about: "Answers the request lines of standard input, each after it is on the disk",
+    arguments: [Some(CONFIG), Some(STORE), Some(FROM)],
+};
+
+const LOG: Entry = Entry {
+    name: "log",
+    form: "clear log STORE [--answers]",
+    about: "Prints the request lines that a store keeps",
+    arguments: [Some(STORE), Some(ANSWERS), None],
+};
+
+const CHECK: Entry = Entry {
+    name: "check",
+    form: "clear check STORE",
+    about: "Prints how many request lines a store keeps, and whether its end is torn",
+    arguments: [Some(STORE), None, None],
+};
+
 /// All commands, in the order of the help.
-const ENTRIES: [Entry; 10] = [
+const ENTRIES: [Entry; 13] = [
     SCRIPT,
     SCHEDULE,
     RUN,
+    KEEP,
+    LOG,
+    CHECK,
     CHECK_CONFIG,
     EXPLAIN_LINES,
     STATEMENTS,
@@ -158,6 +209,9 @@ fn entry_of(name: &str) -> Option<Entry>
         "script" => Some(SCRIPT),
         "schedule" => Some(SCHEDULE),
         "run" => Some(RUN),
+        "keep" => Some(KEEP),
+        "log" => Some(LOG),
+        "check" => Some(CHECK),
         "check_config" => Some(CHECK_CONFIG),
         "explain_lines" => Some(EXPLAIN_LINES),
         "statements" => Some(STATEMENTS),
@@ -182,6 +236,11 @@ fn shown_as(alloc: Global, argument: Argument) -> Arg<'static> {
         Argument::Option { name, help } => Arg::new(alloc, name)
             .long(name)
             .action(ArgAction::SetTrue)
+            .help(help),
+        Argument::Value { name, value, help } => Arg::new(alloc, name)
+            .long(name)
+            .action(ArgAction::Set)
+            .value_name(value)
             .help(help),
     }
 }
@@ -226,8 +285,8 @@ pub fn version(alloc: Global) -> Result<String, AllocError> {
 ///
 /// `CannotWrite` if the writer fails.
 pub fn show<W: Sink>(writer: &mut W, text: &str) -> Result<(), Fault<'static>>
-    ensures ok { OnOk result (W.takes writer.old text.now writer.new) }
-    ensures fault { IfErr result (λ fault. (fault ≡ Fault.CannotWrite) × (W.failed writer.new ≡ true)) }
+    ensures ok { OnOk result (W.writing.takes writer.old text.now writer.new) }
+    ensures fault { IfErr result (λ fault. (fault ≡ Fault.CannotWrite) × (W.writing.failed writer.new ≡ true)) }
 {
     match write_all(writer, text.as_bytes()) {
         Ok(()) => Ok(()),

@@ -1,13 +1,16 @@
-//! Commands that tell of a configuration, of CDRs, or of a house after its lines, beside those by which a house answers.
+//! Commands that tell of a configuration, of CDRs, or of a house after its lines, and those over a store, beside those by which a house
+//! answers.
 
-use crate::fault::Fault;
-use house_program::only_word;
+use crate::help::VERSION;
+use command_line::{Fault, only_word};
 use input_reports::{Records, print_amount, print_explanation, tell_config};
 use ocpi_types::Zone;
 use re_rating::re_rate;
+use request_lines::Device;
 use std::io::{self, ErrorKind};
 use std::process::ExitCode;
 use std::thread::Threads;
+use store_commands::{StoreText, tell_unread};
 
 // What is to be told of CDRs.
 #[derive(Clone, Copy)]
@@ -23,6 +26,7 @@ enum Report {
     CheckConfig,
     Costs(Costs),
     House(house_reports::Command),
+    Store(store_commands::Command),
 }
 
 impl Costs {
@@ -42,8 +46,11 @@ impl Report {
         if name == "check_config" {
             return Some(Report::CheckConfig);
         }
-        match Costs::of(name) {
-            Some(costs) => Some(Report::Costs(costs)),
+        if let Some(costs) = Costs::of(name) {
+            return Some(Report::Costs(costs));
+        }
+        match store_commands::Command::of(name) {
+            Some(command) => Some(Report::Store(command)),
             None => Some(Report::House(house_reports::Command::of(name)?)),
         }
     }
@@ -73,6 +80,23 @@ fn tell_costs(
     }
 }
 
+// Reports of a house after the lines of standard input, or of the store that the last two words name.
+fn report_house<'a>(
+    rt: &HostRuntime,
+    command: house_reports::Command,
+    words: &'a [String],
+) -> Result<ExitCode, Fault<'a>> {
+    match words {
+        [first @ .., option, store] if option.as_str() == "--store" => {
+            match StoreText::open(rt, store.as_str()) {
+                Ok(text) => command.done(rt, first, &mut Device::new(text)),
+                Err(fault) => Ok(ExitCode::from(tell_unread(rt, false, store.as_str(), fault))),
+            }
+        }
+        _ => command.done(rt, words, &mut Device::new(rt.stdin())),
+    }
+}
+
 // Tells the fault, but that the reader of the output has gone, and gives the exit status.
 fn told(rt: &HostRuntime, done: io::Result<u8>) -> ExitCode {
     let fault = match done {
@@ -91,15 +115,16 @@ fn told(rt: &HostRuntime, done: io::Result<u8>) -> ExitCode {
 ///
 /// # Errors
 ///
-/// `Usage` if a report of CDRs has words of another form; the other reports print their own line for that, and give 2.
-pub fn perform(
+/// The fault that ends the report early. If the reader of the output has gone, the fault is not told: the status is returned.
+pub fn perform<'a>(
     rt: &HostRuntime,
     threads: &(impl Threads + Sync),
-    words: &[String],
-) -> Result<ExitCode, Fault<'static>> {
+    words: &'a [String],
+) -> Result<ExitCode, Fault<'a>> {
     match words.first().and_then(|name| Report::of(name.as_str())) {
-        Some(Report::CheckConfig) => Ok(tell_config(rt, words)),
-        Some(Report::House(command)) => Ok(command.done(rt, words)),
+        Some(Report::CheckConfig) => tell_config(rt, words),
+        Some(Report::House(command)) => report_house(rt, command, words),
+        Some(Report::Store(command)) => command.done(rt, VERSION, words),
         Some(Report::Costs(costs)) => match only_word(words).ok().and_then(Zone::read) {
             Some(zone) => Ok(told(rt, tell_costs(rt, threads, costs, &zone))),
             None => Err(Fault::Usage),

@@ -1,0 +1,48 @@
+//! The commands.
+
+ghost use Rattle.kept_lines.specs.File.{IsLine};
+
+use crate::{check, keep, log};
+use command_line::Fault;
+use std::process::ExitCode;
+
+/// A command over a store.
+#[derive(Clone, Copy)]
+pub enum Command {
+    Keep,
+    Log,
+    Check,
+}
+
+impl Command {
+    /// The command of this name.
+    pub fn of(name: &str) -> Option<Command> {
+        match name {
+            "keep" => Some(Command::Keep),
+            "log" => Some(Command::Log),
+            "check" => Some(Command::Check),
+            _ => None,
+        }
+    }
+
+    /// Does it by its words, its name first, and returns the exit status. `program` is the program's version, without a newline.
+    ///
+    /// # Errors
+    ///
+    /// `Usage` if the words have another form, `NoMemory`, and what ends a command before it opens its store.
+    pub fn done<'a>(
+        self,
+        rt: &HostRuntime,
+        program: &'static str,
+        words: &'a [String],
+    ) -> Result<ExitCode, Fault<'a>>
+        requires { IsLine program.now }
+    {
+        let status = match self {
+            Command::Keep => keep::perform(rt, program, words)?,
+            Command::Log => log::perform(rt, words)?,
+            Command::Check => check::perform(rt, words)?,
+        };
+        Ok(ExitCode::from(status))
+    }
+}
