@@ -16,7 +16,7 @@ pub enum CheckFault<'a> {
     /// Fewer passes came back than were made.
     MissingPass,
 
-    /// What a house that threads share left behind is no history, first at this number.
+    /// What the concurrent house has at its end is no history, first at this number.
     Torn { entry: u64 },
 
     /// The call that was to be paused was not at its waypoint, or the others were not answered while it was there.
@@ -28,10 +28,10 @@ pub enum CheckFault<'a> {
     /// Lines could not be read in both ways.
     NotCompared,
 
-    /// A line is read in one way as it stands, and in another as its marked text.
+    /// A line and its marked text are read differently.
     ReadDifferently,
 
-    /// A row that was told is not as expected.
+    /// A printed row differs from the expected one.
     NotAsExpected,
 }
 

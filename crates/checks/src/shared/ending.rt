@@ -13,7 +13,7 @@ pub enum Ending<'a> {
         is_again: bool,
     },
 
-    /// It is told how the house ends.
+    /// How the house ends is printed.
     MissingPass,
 
     /// The call is to have been paused.
@@ -21,7 +21,7 @@ pub enum Ending<'a> {
         was_paused: bool,
     },
 
-    /// It is told how the last line was done. The events are to be those that are expected then.
+    /// How the last line was done is printed. The events are to be those that are expected then.
     Growths {
         trial: &'a Trial<'a>,
         outcome: Outcome,

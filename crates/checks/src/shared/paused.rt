@@ -59,8 +59,8 @@ fn add_pair<'f>(
     Ok(pairs.push((lines, Device::new(rt.stdout())))?)
 }
 
-// The lines of four files: those of the second behind those of the first, those of the third once the second's call is at its
-// waypoint, and those of the fourth behind those of the second.
+// The lines of four files: those of the second after those of the first, those of the third once the second's call is at its
+// waypoint, and those of the fourth after those of the second.
 fn pairs_of<'f>(
     rt: &HostRuntime,
     files: &[String],

@@ -15,7 +15,7 @@ pub enum Next<'a> {
     /// What it leaves behind is gathered, and it is told what is certified of that, as it is and with one change each.
     Gather,
 
-    /// It ends, which is told or compared with what is wanted.
+    /// It ends, and how it does is printed or compared with what is expected.
     Finish(Ending<'a>),
 }
 
