@@ -18,7 +18,7 @@ names =
     name.Currencies ∷ name.Operators ∷ name.Party ∷ name.Zone ∷ name.Providers ∷ name.Limits ∷ name.Limit ∷ name.Hold ∷
     name.Platforms ∷ name.Name ∷ name.Parties ∷ name.Hub ∷ name.Cdrs ∷ name.Entries ∷ name.Order ∷ name.Periods ∷
     name.PairLimits ∷ name.Operator ∷ name.Provider ∷ name.CreditWindow ∷ name.Platform ∷ name.Do ∷ name.Token ∷ name.Tariff ∷
-    name.Cdr ∷ name.Reference ∷ name.Period ∷ []
+    name.Cdr ∷ name.Reference ∷ name.Period ∷ name.Configuration ∷ name.RequestId ∷ []
 
 -- the first of that spelling
 spelled : List ℕ → Name
@@ -102,6 +102,8 @@ is_spelled name.Tariff = refl
 is_spelled name.Cdr = refl
 is_spelled name.Reference = refl
 is_spelled name.Period = refl
+is_spelled name.Configuration = refl
+is_spelled name.RequestId = refl
 
 pub same_name : (a b : Name) → key_text a ≡ key_text b → a ≡ b
 same_name a b e = sym (is_spelled a) ∙ ap spelled e ∙ is_spelled b

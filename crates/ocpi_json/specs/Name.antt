@@ -1,7 +1,7 @@
 -- The names of members: those of OCPI 2.2.1 (sections 10 to 12: CDRs, Tariffs, Tokens), and those of the files and lines of a clearing house.
 use Rattle.std.specs.Prelude.{ℕ, List, codes}
 use Rattle.ocpi_json.specs.declared.name.Name.{Name}
-use Rattle.ocpi_json.specs.declared.name.Name.TheVariants.{CountryCode, PartyId, Uid, «Type», ContractId, Valid, Whitelist, LastUpdated, Id, Currency, MinPrice, MaxPrice, ExclVat, Elements, PriceComponents, Price, StepSize, Restrictions, StartTime, EndTime, StartDate, EndDate, MinKwh, MaxKwh, MinDuration, MaxDuration, DayOfWeek, Reservation, MinCurrent, MaxCurrent, MinPower, MaxPower, StartDateTime, EndDateTime, CdrToken, AuthMethod, AuthorizationReference, Tariffs, ChargingPeriods, Dimensions, Volume, TariffId, TotalCost, TotalEnergy, TotalTime, Credit, CreditReferenceId, Version, Tolerance, Currencies, Operators, Party, Zone, Providers, Limits, Limit, Hold, Platforms, Name as NameMember, Parties, Hub, Cdrs, Entries, Order, Periods, PairLimits, Operator, Provider, CreditWindow, Platform, Do, Token, Tariff, Cdr, Reference, Period}
+use Rattle.ocpi_json.specs.declared.name.Name.TheVariants.{CountryCode, PartyId, Uid, «Type», ContractId, Valid, Whitelist, LastUpdated, Id, Currency, MinPrice, MaxPrice, ExclVat, Elements, PriceComponents, Price, StepSize, Restrictions, StartTime, EndTime, StartDate, EndDate, MinKwh, MaxKwh, MinDuration, MaxDuration, DayOfWeek, Reservation, MinCurrent, MaxCurrent, MinPower, MaxPower, StartDateTime, EndDateTime, CdrToken, AuthMethod, AuthorizationReference, Tariffs, ChargingPeriods, Dimensions, Volume, TariffId, TotalCost, TotalEnergy, TotalTime, Credit, CreditReferenceId, Version, Tolerance, Currencies, Operators, Party, Zone, Providers, Limits, Limit, Hold, Platforms, Name as NameMember, Parties, Hub, Cdrs, Entries, Order, Periods, PairLimits, Operator, Provider, CreditWindow, Platform, Do, Token, Tariff, Cdr, Reference, Period, Configuration, RequestId}
 
 -- the name as a document writes it
 abbrev pub key_text : Name → List ℕ
@@ -81,3 +81,5 @@ key_text Tariff = codes "tariff"
 key_text Cdr = codes "cdr"
 key_text Reference = codes "reference"
 key_text Period = codes "period"
+key_text Configuration = codes "configuration"
+key_text RequestId = codes "request_id"

@@ -83,6 +83,8 @@ pub enum Name {
     Cdr,
     Reference,
     Period,
+    Configuration,
+    RequestId,
 }
 
 impl Name {
@@ -169,6 +171,8 @@ impl Name {
             Name::Cdr => "cdr",
             Name::Reference => "reference",
             Name::Period => "period",
+            Name::Configuration => "configuration",
+            Name::RequestId => "request_id",
         }
     }
 }
