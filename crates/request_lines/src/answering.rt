@@ -6,7 +6,7 @@ ghost use Rattle.request_lines.specs.Inner.Progress.{HasAnswered, HasStopped, Ca
 use super::faults::{Count, Failed, ScriptFault};
 use super::lines::{MOST_LINE_BYTES, split_line};
 use super::progress::Progress;
-use super::streams::{MOST_READ_BYTES, Sink, Source, write_all};
+use super::streams::{READ_BYTES, Sink, Source, read_buffer, read_into, write_all};
 use std::alloc::{AllocError, Global};
 
 /// How many read calls a run makes at most.
@@ -158,26 +158,6 @@ fn feed<W: Sink, A: Answerer>(
     keep(progress, part, rest)
 }
 
-fn zeros(alloc: Global, len: usize) -> Result<Vec<u8>, AllocError>
-    ensures { IfOk result (λ zeros. length zeros.items ≡ len) }
-{
-    vec![in alloc; 0u8; len]
-}
-
-/// Reads into the whole buffer.
-fn read_into<R: Source>(reader: &mut R, buffer: &mut Vec<u8>) -> Result<usize, Failed>
-    requires { length buffer.old.items ≡ 65536 }
-    ensures same { length buffer.new.items ≡ 65536 }
-    ensures bound { IfOk result (λ n. n ≤ 65536) }
-    ensures gives { IfOk result (λ n. R.reading.gives reader.old 1 (take n buffer.new.items) reader.new) }
-    ensures end { IfOk result (λ n. n ≡ 0 → R.reading.at_end reader.new) }
-    ensures ok { OnOk result (R.reading.failed reader.new ≡ R.reading.failed reader.old) }
-    ensures err { OnErr result (R.reading.failed reader.new ≡ true) }
-    ensures err_gives { OnErr result (R.reading.gives reader.old 1 [] reader.new) }
-{
-    reader.read(buffer.as_mut_slice())
-}
-
 /// The first bytes of a buffer.
 fn first(buffer: &Vec<u8>, n: usize) -> &[u8]
     requires { n ≤ length buffer.now.items }
@@ -246,7 +226,7 @@ pub fn run_lines<R: Source, W: Sink, A: Answerer>(
     ensures failed { IfErr result (λ fault. is_write_fault fault ≡ true → W.writing.failed writer.new ≡ true) }
     ensures kept { IfErr result (λ fault. is_write_fault fault ≡ false → W.writing.failed writer.new ≡ W.writing.failed writer.old) }
 {
-    match zeros(alloc, MOST_READ_BYTES) {
+    match read_buffer(alloc, READ_BYTES) {
         Ok(mut buffer) => run_by_parts(alloc, reader, writer, answerer, &mut buffer),
         Err(AllocError) => Err(ScriptFault::NoMemory),
     }

@@ -22,6 +22,6 @@ pub use faults::{Count, Failed, ScriptFault};
 pub use laws::scripts_keep_lists_legal;
 pub use lines::{MOST_LINE_BYTES, NEWLINE, lines_join_to_bytes, split_line};
 pub use one_line::{Once, Respond, command_of, reply_to};
-pub use requests::{CommandName, request_of};
+pub use requests::{CommandName, read_request, request_of};
 pub use script::{Scripted, run_script, run_script_by};
-pub use streams::{MOST_READ_BYTES, Sink, Source, write_all};
+pub use streams::{MOST_READ_BYTES, READ_BYTES, Sink, Source, read_buffer, read_into, write_all};

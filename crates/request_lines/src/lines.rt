@@ -9,7 +9,7 @@ pub const NEWLINE: u8 = b'\n';
 /// How many bytes a line has at most, without its newline.
 pub const MOST_LINE_BYTES: usize = 1_048_576;
 
-/// The first line that a newline ends, without it, and what stands behind.
+/// Returns the first line that a newline ends, without its newline, and the bytes after it.
 pub fn split_line(bytes: &[u8]) -> Option<(&[u8], &[u8])>
     ensures { MatchOption result (HasNoNewline bytes.now) (λ split. (bytes.now ≡ with_newline split.0.now ++ split.1.now)
         × HasNoNewline split.0.now) }

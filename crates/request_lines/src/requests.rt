@@ -210,8 +210,13 @@ fn read_ask(alloc: Global, command: CommandName, node: &Node) -> Result<Ask, Fie
     }
 }
 
+/// Reads the request of a line's value.
+///
+/// # Errors
+///
+/// `Field` with the first member that is missing, of a wrong kind or out of bounds, `NoMemory` if an allocation fails.
 #[tactic(auto, unfolding(crate::specs::RequestText::request_at))]
-fn read_request(alloc: Global, node: &Node) -> Result<Request, FieldFault>
+pub fn read_request(alloc: Global, node: &Node) -> Result<Request, FieldFault>
     ensures { Finds result (request_at node.now) }
 {
     let platform = fields::ci_text(node, Name::Platform)?;
@@ -220,8 +225,11 @@ fn read_request(alloc: Global, node: &Node) -> Result<Request, FieldFault>
     Ok(Request { platform, ask })
 }
 
-/// What a line says: `Syntax` where it is no JSON, `Field` for the first member that is missing, of a wrong kind or out
-/// of bounds, `NoMemory` where a growth was refused.
+/// Reads the request of a line.
+///
+/// # Errors
+///
+/// `Syntax` if the line is no JSON, and the errors of `read_request`.
 #[tactic(auto, unfolding(crate::specs::RequestText::request_of))]
 pub fn request_of(alloc: Global, room: &mut Room, line: &[u8]) -> Result<Request, Refusal>
     ensures request { IfOk result (λ request. request_of line.now ≡ Ok request) }

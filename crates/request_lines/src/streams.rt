@@ -2,11 +2,15 @@ ghost use Rattle.std.specs.Prelude.{◌≡◌, ℕ, ◌+◌, ◌<◌, ◌≤◌,
 ghost use Rattle.request_lines.specs.Streams.{Reading, Writing};
 
 use super::faults::Failed;
+use std::alloc::{AllocError, Global};
 
-/// How many bytes a read call asks for at most.
-pub const MOST_READ_BYTES: usize = 65_536;
+/// How many bytes a read call of a script asks for.
+pub const READ_BYTES: usize = 65_536;
 
-/// What gives bytes, one call at a time.
+/// How many bytes a read call may ask for.
+pub const MOST_READ_BYTES: usize = 1_048_576;
+
+/// A reader of bytes, one call at a time.
 pub trait Source {
     /// The bytes that calls return, the end, and whether a call has failed.
     ghost reading: { Reading Self };
@@ -14,7 +18,7 @@ pub trait Source {
     /// Reads some bytes to the front of the buffer, none only at the end.
     fn read(&mut self, buffer: &mut [u8]) -> Result<usize, Failed>
         requires some { 0 < length buffer.old }
-        requires few { length buffer.old ≤ 65536 }
+        requires few { length buffer.old ≤ 1048576 }
         ensures bound { IfOk result (λ n. n ≤ length buffer.new) }
         ensures gives { IfOk result (λ n. reading.gives self.old 1 (take n buffer.new) self.new) }
         ensures end { IfOk result (λ n. n ≡ 0 → reading.at_end self.new) }
@@ -27,7 +31,7 @@ pub trait Source {
     ghost gives_more: { (a b c : Self) (m n : ℕ) (xs ys : List ℕ) → reading.gives a m xs b → reading.gives b n ys c → reading.gives a (m + n) (xs ++ ys) c };
 }
 
-/// What takes bytes, one call at a time.
+/// A writer of bytes, one call at a time.
 pub trait Sink {
     /// The bytes that calls take, and whether a call has failed.
     ghost writing: { Writing Self };
@@ -45,6 +49,28 @@ pub trait Sink {
     ghost takes_none: { (a : Self) → writing.takes a [] a };
 
     ghost takes_more: { (a b c : Self) (xs ys : List ℕ) → writing.takes a xs b → writing.takes b ys c → writing.takes a (xs ++ ys) c };
+}
+
+/// A buffer for read calls that ask for `len` bytes.
+pub fn read_buffer(alloc: Global, len: usize) -> Result<Vec<u8>, AllocError>
+    ensures { IfOk result (λ buffer. length buffer.items ≡ len) }
+{
+    vec![in alloc; 0u8; len]
+}
+
+/// Reads to the front of a whole buffer.
+pub fn read_into<R: Source>(reader: &mut R, buffer: &mut Vec<u8>) -> Result<usize, Failed>
+    requires some { 0 < length buffer.old.items }
+    requires few { length buffer.old.items ≤ 1048576 }
+    ensures same { length buffer.new.items ≡ length buffer.old.items }
+    ensures bound { IfOk result (λ n. n ≤ length buffer.new.items) }
+    ensures gives { IfOk result (λ n. R.reading.gives reader.old 1 (take n buffer.new.items) reader.new) }
+    ensures end { IfOk result (λ n. n ≡ 0 → R.reading.at_end reader.new) }
+    ensures ok { OnOk result (R.reading.failed reader.new ≡ R.reading.failed reader.old) }
+    ensures err { OnErr result (R.reading.failed reader.new ≡ true) }
+    ensures err_gives { OnErr result (R.reading.gives reader.old 1 [] reader.new) }
+{
+    reader.read(buffer.as_mut_slice())
 }
 
 /// Writes all bytes. An `Err` says how many of them are written.
