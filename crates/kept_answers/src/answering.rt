@@ -1,6 +1,6 @@
 //! New lines, each kept before it is answered.
 
-ghost use Rattle.std.specs.Prelude.{◌≡◌, ◌≤◌, ◌^◌, ℕ, List, [], ◌++◌, length, take, drop, true, IsTrue, IfErr, IfOk, OnErr, OnOk, MatchResult};
+ghost use Rattle.std.specs.Prelude.{◌≡◌, ◌≤◌, ◌^◌, ℕ, List, [], ◌++◌, length, take, drop, IsTrue, IfErr, IfOk, OnOk, MatchResult};
 ghost use Rattle.kept_lines.specs.Batch.{lines_of};
 ghost use Rattle.kept_lines.specs.File.{kept_in};
 ghost use Rattle.kept_lines.specs.Log.{IsSettled};
@@ -12,10 +12,10 @@ use crate::pending::push_whole_lines;
 use kept_lines::{Batch, Log};
 use request_lines::{
     Answerer, Failed, MOST_LINE_BYTES, MOST_READ_BYTES, MOST_READ_CALLS, Sink, Source,
-    lines_join_to_bytes, split_line, write_all,
+    lines_join_to_bytes, read_buffer, read_into, split_line, write_all,
 };
 use sqlite_disk::Disk;
-use std::alloc::{AllocError, Global};
+use std::alloc::Global;
 
 /// Adds the answers to the whole lines of these bytes to a text.
 fn answer_lines<A: Answerer>(
@@ -45,7 +45,7 @@ fn drop_front(bytes: &mut Vec<u8>, count: usize)
     bytes.drain(..count);
 }
 
-/// Keeps the whole lines of what is pending, then answers them, and leaves the part of a line that follows them.
+/// Keeps the whole lines of the pending bytes, then answers them, and leaves the part of a line that follows them.
 fn answer_pending<D: Disk, W: Sink, A: Answerer>(
     alloc: Global,
     log: &mut Log<D>,
@@ -74,26 +74,7 @@ fn answer_pending<D: Disk, W: Sink, A: Answerer>(
     Ok(())
 }
 
-fn zeros(alloc: Global, len: usize) -> Result<Vec<u8>, AllocError>
-    ensures { IfOk result (λ zeros. length zeros.items ≡ len) }
-{
-    vec![in alloc; 0u8; len]
-}
-
-/// Reads into the whole buffer.
-fn read_into<R: Source>(reader: &mut R, buffer: &mut Vec<u8>) -> Result<usize, Failed>
-    requires { length buffer.old.items ≡ 65536 }
-    ensures same { length buffer.new.items ≡ 65536 }
-    ensures bound { IfOk result (λ n. n ≤ 65536) }
-    ensures gives { IfOk result (λ n. R.reading.gives reader.old 1 (take n buffer.new.items) reader.new) }
-    ensures end { IfOk result (λ n. n ≡ 0 → R.reading.at_end reader.new) }
-    ensures err { OnErr result (R.reading.failed reader.new ≡ true) }
-    ensures err_gives { OnErr result (R.reading.gives reader.old 1 [] reader.new) }
-{
-    reader.read(buffer.as_mut_slice())
-}
-
-/// Adds the first bytes of a buffer to what is pending.
+/// Adds the first bytes of a buffer to the pending bytes.
 fn add_pending(pending: &mut Vec<u8>, buffer: &Vec<u8>, count: usize) -> Result<(), KeepFault>
     requires { count ≤ length buffer.now.items }
     ensures { OnOk result (pending.new.items ≡ pending.old.items ++ take count buffer.now.items) }
@@ -132,7 +113,7 @@ pub fn answer_new_lines<D: Disk, R: Source, W: Sink, A: Answerer>(
         (λ _. AreAnswered A.rule answerer.old (D.Disk.may_leave log.new.disk) (IsTrue (D.Disk.is_clean log.new.disk)) (kept_in (D.Disk.seen log.old.disk)) whole sent) }
     ensures clean { D.Disk.is_clean log.new.disk ≡ D.Disk.is_clean log.old.disk }
 {
-    let mut buffer = zeros(alloc, MOST_READ_BYTES)?;
+    let mut buffer = read_buffer(alloc, MOST_READ_BYTES)?;
     let mut pending = Vec::new(alloc);
     for turn in 0..MOST_READ_CALLS {
         let count = match read_into(reader, &mut buffer) {

@@ -159,7 +159,7 @@ pub fn keep<D: Disk, R: Source, W: Sink, A: Answerer>(
     }
 }
 
-/// Keeps and answers new lines behind those of a log.
+/// Keeps and answers new lines after those of a log.
 fn answer_log<D: Disk, R: Source, W: Sink, A: Answerer>(
     alloc: Global,
     mut log: Log<D>,

@@ -11,5 +11,5 @@ mod restart;
 pub use answering::answer_new_lines;
 pub use fault::KeepFault;
 pub use keeping::{Ended, MOST_KEPT_BYTES, keep};
-pub use laws::{runs_are_one, script_runs_are_one, scripts_are_determined};
+pub use laws::{kept_is_a_run, runs_are_one, script_runs_are_one, scripts_are_determined};
 pub use restart::answer_kept_lines;

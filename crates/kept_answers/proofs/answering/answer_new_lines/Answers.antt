@@ -143,7 +143,7 @@ loop-turn-preserved g c =
       under_way = gone_on _ g.met.A.Answerer.answers_more _ _ _ _ _ _ _ _ _ _ _ _ _ _ _ v.under_way (λ clean. subst IsTrue c.in_ok-answer_pending.ensures.clean clean) ended told.5.1 told.5.2;
       settled = c.in_ok-answer_pending.ensures.settled;
       clean = c.in_ok-answer_pending.ensures.clean ∙ v.clean;
-      buffer_is = c.read_into.ensures.same;
+      buffer_is = c.read_into.ensures.same ∙ v.buffer_is;
     }
 
 pub returns-clause-told : goal.returns-clause-told

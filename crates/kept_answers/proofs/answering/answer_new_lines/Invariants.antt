@@ -14,5 +14,5 @@ invariant-loop-turn g l = record {
   under_way : IsUnderWay g.A.Answerer.rule l.initial.answerer l.answerer (g.D.Disk.seen l.log.disk) (IsTrue (g.D.Disk.is_clean l.log.disk)) (kept_in (g.D.Disk.seen l.initial.log.disk)) read written l.pending.items;
   settled : IsSettled g.D.Disk l.log;
   clean : g.D.Disk.is_clean l.log.disk ≡ g.D.Disk.is_clean l.initial.log.disk;
-  buffer_is : length l.buffer.items ≡ 65536;
+  buffer_is : length l.buffer.items ≡ 1048576;
 }
