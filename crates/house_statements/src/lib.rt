@@ -5,6 +5,6 @@ mod order;
 mod record;
 mod statement;
 
-pub use order::write_order;
+pub use order::{event_name, write_order};
 pub use plain_house::statement_rows;
 pub use statement::write_statement;

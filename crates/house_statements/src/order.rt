@@ -13,8 +13,9 @@ use itoa::Buffer;
 use plain_house::{Event, period_after};
 use std::alloc::{AllocError, Global};
 
+/// Returns the name of an event, as the order has it.
 #[tactic(auto, unfolding(crate::specs::Order::event_name))]
-fn event_name(event: &Event) -> &'static str
+pub fn event_name(event: &Event) -> &'static str
     ensures { result.now ≡ event_name event.now }
 {
     match event {

@@ -1,0 +1,3 @@
+pub mod AskedAgain
+pub mod EventCommands
+pub mod Inner

@@ -1,0 +1,4 @@
+pub mod AddedLemmas
+pub mod AttemptLemmas
+pub mod EventLemmas
+pub mod ValidLemmas
