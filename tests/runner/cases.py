@@ -6,7 +6,7 @@ The program runs in the folder with the arguments of `args`, one a line; else wi
 error, and to end with the number in `status`. A file that is not there means nothing, and status 0. A stream whose path is in `output_to` or
 `errors_to` goes there and is not compared.
 
-A suite with an argument runs the cases that are `script CONFIG`, with that argument in place of `script`, and wants the program's own name
+A suite with an argument runs the cases that are `script CONFIG`, with that argument in place of `script`, and wants its program's name
 instead of `clear` on standard error. Other command lines are those of `clear` alone.
 """
 
@@ -76,7 +76,7 @@ def wrong_with(suite: Suite, program: Path, folder: Path) -> list[str] | None:
                 return None
             words = [*suite.arguments, *words[1:]]
             wanted_errors = re.sub(
-                rb"(?m)^clear: ", f"{program.name}: ".encode(), wanted_errors
+                rb"(?m)^clear: ", f"{suite.program}: ".encode(), wanted_errors
             )
         output_to, errors_to = path_in(folder, "output_to"), path_in(
             folder, "errors_to"

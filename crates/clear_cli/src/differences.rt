@@ -24,7 +24,7 @@ fn empty_lists(alloc: Global, count: usize) -> Result<Vec<Vec<Record>>, AllocErr
     Ok(lists)
 }
 
-// Puts the record behind the others of the list of this number, if there is one.
+// Adds the record to the list of this number, if there is one.
 fn add_record(lists: &mut Vec<Vec<Record>>, number: usize, record: Record) -> Result<(), AllocError>
     ensures { OnOk result (map (λ list. list.items) lists.new.items ≡ added_at number «record» (map (λ list. list.items) lists.old.items)) }
 {
@@ -95,7 +95,7 @@ pub fn difference_count<R: Threads + Sync>(
 {
     let lists = lists_of(alloc, config, events)?;
     let count = count_in(rt, alloc, config.operators.as_slice(), lists.as_slice())?;
-    // The program ends behind this, and the system takes the memory back at once.
+    // The program ends after this, and the system takes the memory back at once.
     mem::forget(lists);
     Ok(count)
 }

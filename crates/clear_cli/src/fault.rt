@@ -1,4 +1,4 @@
-//! Faults of a house that does not finish, and of what is not written.
+//! Errors of a house that does not finish, and of texts that are not written.
 
 ghost use Rattle.std.specs.Prelude.{◌≡◌};
 ghost use Rattle.clear_cli.specs.Fault.{finish_fault, write_fault};

@@ -171,6 +171,13 @@ const KEEP: Entry = Entry {
     arguments: [Some(CONFIG), Some(STORE), Some(FROM)],
 };
 
+const STREAM: Entry = Entry {
+    name: "stream",
+    form: "clear stream CONFIG < LINES",
+    about: "Answers request lines that another program keeps, and lines that change the configuration",
+    arguments: [Some(CONFIG), None, None],
+};
+
 const LOG: Entry = Entry {
     name: "log",
     form: "clear log STORE [--answers]",
@@ -186,11 +193,12 @@ const CHECK: Entry = Entry {
 };
 
 /// All commands, in the order of the help.
-const ENTRIES: [Entry; 13] = [
+const ENTRIES: [Entry; 14] = [
     SCRIPT,
     SCHEDULE,
     RUN,
     KEEP,
+    STREAM,
     LOG,
     CHECK,
     CHECK_CONFIG,
@@ -210,6 +218,7 @@ fn entry_of(name: &str) -> Option<Entry>
         "schedule" => Some(SCHEDULE),
         "run" => Some(RUN),
         "keep" => Some(KEEP),
+        "stream" => Some(STREAM),
         "log" => Some(LOG),
         "check" => Some(CHECK),
         "check_config" => Some(CHECK_CONFIG),

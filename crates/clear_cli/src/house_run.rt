@@ -77,7 +77,7 @@ fn finish<N: Names, R: Threads + Sync>(
 {
     match house.finish(rt, alloc, passes) {
         Ok(ended) => {
-            // The program ends behind this, and the system takes the memory back at once.
+            // The program ends after this, and the system takes the memory back at once.
             mem::forget(ended.calls);
             Ok(ended.events)
         }

@@ -34,7 +34,7 @@ use std::sync::Wait;
 use std::thread::Threads;
 use words::{Job, read_words};
 
-// Answers standard input, and gives the exit status.
+// Answers standard input, and returns the exit status.
 fn answer_input<'a>(rt: &HostRuntime, config: &'a str) -> Result<u8, Fault<'a>> {
     let file = read_config(rt, config)?;
     let is_gone = Cell::new(false);
@@ -50,7 +50,7 @@ fn answer_input<'a>(rt: &HostRuntime, config: &'a str) -> Result<u8, Fault<'a>> 
     ))
 }
 
-// Replays the file of a schedule, and gives the exit status.
+// Replays the file of a schedule, and returns the exit status.
 fn replay_file<'a>(rt: &HostRuntime, config: &'a str, path: &'a str) -> Result<u8, Fault<'a>> {
     let file = read_config(rt, config)?;
     let reader = match open_file(rt, path)? {
@@ -91,7 +91,7 @@ fn given_files(
     Ok(files)
 }
 
-// Answers files by threads, and gives the exit status. All files are open before an answer file is made.
+// Answers files by threads, and returns the exit status. All files are open before an answer file is made.
 fn answer_files<'a>(
     rt: &HostRuntime,
     threads: &(impl Threads + Wait + Sync),
@@ -120,7 +120,7 @@ fn answer_files<'a>(
     Ok(ended.status)
 }
 
-// Prints the text, and gives the exit status. That the reader of the output has gone is not told.
+// Prints the text, and returns the exit status. If the reader of the output has gone, it reports nothing.
 fn print_text(rt: &HostRuntime, text: &str) -> Result<u8, Fault<'static>> {
     let is_gone = Cell::new(false);
     let mut writer = Device::new(Output::new(rt.stdout(), &is_gone));
@@ -131,7 +131,7 @@ fn print_text(rt: &HostRuntime, text: &str) -> Result<u8, Fault<'static>> {
     }
 }
 
-// Does what the words ask for, and gives the exit status.
+// Does the command of the words, and returns the exit status.
 fn perform<'a>(
     rt: &HostRuntime,
     threads: &(impl Threads + Wait + Sync),

@@ -106,7 +106,7 @@ fn with_places<I: Source + Drop, V: Sink + Drop>(
     })
 }
 
-// Puts a file behind the others, with its answer file, or tells that there is none.
+// Adds a file to the others, with its answer file, or reports that it has none.
 fn add_answered<I: Source + Drop, O: Folder, F: Sink>(
     opened: &mut Opened<I, O::File>,
     folder: &mut O,
@@ -171,10 +171,10 @@ fn add_all<I: Source + Drop, O: Folder, F: Sink>(
     }
 }
 
-/// The files that could be opened and whose answer files could be made. The others are told: those that could not be opened,
-/// and then those whose answer files could not be made.
+/// Returns the files that could be opened and whose answer files could be made. It reports the others: those that could not be
+/// opened, and then those whose answer files could not be made.
 ///
-/// `AllocError` where memory is refused: nothing is made or told then.
+/// `AllocError` if an allocation fails: nothing is made or reported then.
 pub fn open<I: Source + Drop, O: Folder, F: Sink>(
     alloc: Global,
     folder: &mut O,

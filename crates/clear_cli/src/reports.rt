@@ -12,7 +12,7 @@ use std::process::ExitCode;
 use std::thread::Threads;
 use store_commands::{StoreText, tell_unread};
 
-// What is to be told of CDRs.
+// The reports on CDRs.
 #[derive(Clone, Copy)]
 enum Costs {
     Rate,
@@ -20,7 +20,7 @@ enum Costs {
     ReRate,
 }
 
-// What is to be told.
+// The reports.
 #[derive(Clone, Copy)]
 enum Report {
     CheckConfig,
@@ -97,7 +97,7 @@ fn report_house<'a>(
     }
 }
 
-// Tells the fault, but that the reader of the output has gone, and gives the exit status.
+// Reports the error, unless the reader of the output has gone, and returns the exit status.
 fn told(rt: &HostRuntime, done: io::Result<u8>) -> ExitCode {
     let fault = match done {
         Ok(status) => return ExitCode::from(status),
@@ -111,11 +111,11 @@ fn told(rt: &HostRuntime, done: io::Result<u8>) -> ExitCode {
     ExitCode::from(1)
 }
 
-/// Reports by these words, the command's name first, and gives the exit status.
+/// Reports by these words, the command's name first, and returns the exit status.
 ///
 /// # Errors
 ///
-/// The fault that ends the report early. If the reader of the output has gone, the fault is not told: the status is returned.
+/// The fault that ends the report early. If the reader of the output has gone, the error is not reported: the status is returned.
 pub fn perform<'a>(
     rt: &HostRuntime,
     threads: &(impl Threads + Sync),

@@ -55,7 +55,7 @@ fn worker_fault<'a>(path: &'a str, fault: ScriptFault) -> Fault<'a>
     }
 }
 
-// Whether a worker was done. If it failed, that is told.
+// Whether a worker was done. If it failed, that is reported.
 fn tell_if_failed<F: Sink>(faults: &mut F, named: &Named, end: WorkerEnd) -> bool
     ensures told { AreTold F.writing faults.old (worker_line named.now end) faults.new }
     ensures done { (result ≡ true) ↔ (worker_line named.now end ≡ []) }
@@ -70,7 +70,7 @@ fn tell_if_failed<F: Sink>(faults: &mut F, named: &Named, end: WorkerEnd) -> boo
     }
 }
 
-// Whether all workers were done. Those that failed are told.
+// Whether all workers were done. Those that failed are reported.
 fn tell_failed<F: Sink>(faults: &mut F, named: &[Named], ends: &[WorkerEnd]) -> bool
     requires { length named.now ≡ length ends.now }
     ensures told { AreTold F.writing faults.old (worker_lines named.now ends.now) faults.new }
@@ -173,7 +173,7 @@ fn end_house<R: Threads + Sync, O: Folder, W: Sink>(
     match finished {
         Ok(events) => {
             let ended = write_end(rt, alloc, config, events.as_slice(), folder, writer);
-            // The program ends behind this, and the system takes the memory back at once.
+            // The program ends after this, and the system takes the memory back at once.
             mem::forget(events);
             ended
         }
@@ -219,7 +219,7 @@ fn is_whole(answered: usize, given: usize, are_done: bool) -> bool
     answered == given && are_done
 }
 
-// The same from the opening on. True where no line was told.
+// The same from the opening on. True if no error was reported.
 fn run_under<R: Threads + Wait + Sync, I: Source + Drop + Send, O: Folder, W: Sink, F: Sink>(
     rt: &R,
     alloc: Global,
@@ -247,9 +247,9 @@ fn run_under<R: Threads + Wait + Sync, I: Source + Drop + Send, O: Folder, W: Si
     }
 }
 
-/// Answers the lines of the files by one house of the configuration of these bytes, each file by a thread of its own where one can
-/// be made, writes what the house leaves, and gives the exit status. Each file is its path and, if it could be opened, its reader.
-/// `folder` makes the files that are written, `writer` takes the last line, and faults are told on `faults`, each in one line.
+/// Answers the lines of the files by one house of the configuration of these bytes, each file by a thread of its own if one can
+/// be made, writes the order and the statements, and returns the exit status. Each file is its path and, if it could be opened, its
+/// reader. `folder` makes the files that are written, `writer` takes the last line, and `faults` each error in one line.
 pub fn run<R: Threads + Wait + Sync, I: Source + Drop + Send, O: Folder, W: Sink, F: Sink>(
     rt: &R,
     alloc: Global,

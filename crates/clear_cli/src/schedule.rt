@@ -60,7 +60,7 @@ fn fault_of<'a>(fault: ScheduleFault, path: &'a str) -> Fault<'a>
     }
 }
 
-// Replays the file that a reader gives.
+// Replays the file of a reader.
 fn replay_read<'a, R: Source, W: Sink>(
     alloc: Global,
     path: &'a str,
@@ -108,8 +108,8 @@ fn replay_file<'a, R: Source + Drop, W: Sink>(
     replay_given(alloc, path, &config, reader, writer)
 }
 
-/// Replays the calls and steps of a file under the configuration of these bytes, writes how each call ended, and gives the exit
-/// status. `path` is the file's, and `reader` gives its bytes, if it could be opened. A fault is told on `faults` in one line.
+/// Replays the calls and steps of a file under the configuration of these bytes, writes how each call ended, and returns the
+/// exit status. `path` is the file's, and `reader` reads it, if it could be opened. `faults` takes an error in one line.
 pub fn schedule<R: Source + Drop, W: Sink, F: Sink>(
     alloc: Global,
     path: &str,

@@ -66,7 +66,7 @@ fn command_said(
     }
 }
 
-// Puts the call of a request behind the others, or says that it is refused.
+// Adds the call of a request to the others, or returns that it is refused.
 fn add_call(
     alloc: Global,
     config: &Config,
@@ -85,7 +85,7 @@ fn add_call(
     Ok(true)
 }
 
-// Puts what the line behind these says behind the others, or tells that with it they are no schedule.
+// Adds the next line's call or steps to the others, or returns that with it they are no schedule.
 fn add_line(
     alloc: Global,
     config: &Config,
@@ -103,7 +103,7 @@ fn add_line(
     add_steps(config, commands.as_slice(), steps, line)
 }
 
-// Puts what one line more says, and tells the first line at fault then: the line of this number is put behind those before it.
+// Adds the call or steps of one line more, and returns the first line at fault then: the line of this number comes after the others.
 fn fault_with(
     alloc: Global,
     config: &Config,
@@ -192,7 +192,7 @@ fn ended(
     }
 }
 
-/// The calls and steps of the file that a reader gives.
+/// Returns the calls and steps of the file of a reader.
 pub fn read_schedule<R: Source>(
     alloc: Global,
     config: &Config,

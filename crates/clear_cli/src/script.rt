@@ -70,8 +70,8 @@ fn answer_lines<R: Source, W: Sink>(
     answer_under(alloc, &config, reader, writer)
 }
 
-/// Answers the lines of the reader under the configuration of these bytes, and gives the exit status. A fault is told
-/// on `faults` in one line.
+/// Answers the lines of the reader under the configuration of these bytes, and returns the exit status. `faults`
+/// takes an error in one line.
 pub fn script<R: Source, W: Sink, F: Sink>(
     alloc: Global,
     config: &[u8],

@@ -200,10 +200,10 @@ fn add_named(
     }
 }
 
-/// Puts the steps that a line says behind the others. False, and nothing is put, where it says none: it has another form, or
-/// names a call that none of the commands is.
+/// Adds the steps of a line to the others. False, and nothing is added, if it has none: it has another form, or names a call that
+/// is none of the commands.
 ///
-/// `AllocError` where memory is refused.
+/// `AllocError` if an allocation fails.
 pub fn add_steps(
     config: &Config,
     commands: &[Command],

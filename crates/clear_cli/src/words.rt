@@ -1,4 +1,4 @@
-//! What a command line asks for.
+//! The commands that a command line asks for.
 
 ghost use Rattle.std.specs.Prelude.{◌≡◌, ◌≢◌, ◌↔◌, IfErr, IfOk, IfSome, MatchResult, Some, codes, false, map, option_map, option_and_then};
 ghost use Rattle.std.specs.Option.{option_or};
@@ -238,6 +238,7 @@ fn is_report(name: &str) -> bool
             | "explain_cost"
             | "re_rate"
             | "keep"
+            | "stream"
             | "log"
             | "check"
     )
@@ -286,7 +287,7 @@ fn shown_by_two<'a>(first: &'a str, second: &'a str) -> Option<Job<'a>>
     }
 }
 
-// The help or the version, if these words behind the program's name ask for it.
+// The help or the version, if these words after the program's name ask for it.
 fn shown<'a>(words: &'a [String]) -> Option<Job<'a>>
     ensures { option_map asked_by result ≡ shown (map string_bytes words.now) }
 {
@@ -297,7 +298,7 @@ fn shown<'a>(words: &'a [String]) -> Option<Job<'a>>
     }
 }
 
-// The report, if these words behind the program's name ask for one.
+// The report, if these words after the program's name ask for one.
 fn reported<'a>(words: &'a [String]) -> Option<Job<'a>>
     ensures { option_map asked_by result ≡ reported (map string_bytes words.now) }
 {

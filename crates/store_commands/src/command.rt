@@ -2,14 +2,15 @@
 
 ghost use Rattle.kept_lines.specs.File.{IsLine};
 
-use crate::{check, keep, log};
+use crate::{check, keep, log, stream};
 use command_line::Fault;
 use std::process::ExitCode;
 
-/// A command over a store.
+/// A command that answers a stream of lines, or reads a store.
 #[derive(Clone, Copy)]
 pub enum Command {
     Keep,
+    Stream,
     Log,
     Check,
 }
@@ -19,6 +20,7 @@ impl Command {
     pub fn of(name: &str) -> Option<Command> {
         match name {
             "keep" => Some(Command::Keep),
+            "stream" => Some(Command::Stream),
             "log" => Some(Command::Log),
             "check" => Some(Command::Check),
             _ => None,
@@ -40,6 +42,7 @@ impl Command {
     {
         let status = match self {
             Command::Keep => keep::perform(rt, program, words)?,
+            Command::Stream => stream::perform(rt, words)?,
             Command::Log => log::perform(rt, words)?,
             Command::Check => check::perform(rt, words)?,
         };

@@ -1,4 +1,4 @@
-//! Commands over a store: a house whose lines are kept, and what a store keeps.
+//! Commands over a store: a house whose lines are kept, and what a store keeps; and a stream that another engine keeps.
 #![tactic(auto)]
 
 mod check;
@@ -7,6 +7,7 @@ mod keep;
 mod log;
 mod opening;
 mod reading;
+mod stream;
 mod words;
 
 pub use command::Command;

@@ -73,7 +73,7 @@ fn write_answered<W: Sink>(
     write_answers(alloc, reader, writer, &mut scripted)
 }
 
-/// Writes what is asked for of the store.
+/// Writes the lines of the store, with their answers if these are asked for.
 fn write_asked<W: Sink>(
     rt: &HostRuntime,
     asked: LogAsked<'_>,
@@ -87,7 +87,7 @@ fn write_asked<W: Sink>(
     }
 }
 
-/// Prints what is asked for of the store, and returns the exit status.
+/// Prints the lines of the store, with their answers if these are asked for, and returns the exit status.
 pub fn perform<'a>(rt: &HostRuntime, words: &'a [String]) -> Result<u8, Fault<'a>> {
     let asked = log_asked(words)?;
     let is_gone = Cell::new(false);

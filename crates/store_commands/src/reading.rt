@@ -1,4 +1,4 @@
-//! The lines of a store, read without opening it for writing: what is read are whole batches, from the first on, also while another
+//! The lines of a store, read without opening it for writing: the reader sees whole batches, from the first on, also while another
 //! program appends.
 
 use crate::opening::lines_path;

@@ -1,0 +1,112 @@
+//! What a line of a stream asks for.
+
+ghost use Rattle.std.specs.Prelude.{◌≡◌, IfOk, IfErr, Ok, Err, false};
+ghost use Rattle.ocpi_json.specs.Faults.{Finds};
+ghost use Rattle.plain_house.specs.Replies.{is_refusal_no_memory};
+ghost use Rattle.line_streams.specs.Asked.{asked_at, asked_of, change_at, changes_at, is_change, requests_at};
+
+use cdr_checks::Request;
+use ocpi_json::ci_text::CiText;
+use ocpi_json::fields::{self, FieldFault};
+use ocpi_json::name::Name;
+use ocpi_json::objects::{FromNodeIn, FromText};
+use ocpi_json::{Node, ReadFault, Room};
+use ocpi_types::{Config, Refusal};
+use request_lines::read_request;
+use std::alloc::Global;
+
+/// The command of a change, as the member `do` names it.
+#[derive(Clone, Copy, PartialEq, Eq)]
+pub enum ChangeName {
+    Configure,
+}
+
+impl FromText for ChangeName {
+    ghost use Rattle.line_streams.specs.Asked.{change_named};
+
+    ghost of_text = { change_named };
+
+    fn from_text(text: &str) -> Option<ChangeName> {
+        match text {
+            "configure" => Some(ChangeName::Configure),
+            _ => None,
+        }
+    }
+}
+
+/// A change of the configuration, and the platform that asks for it.
+#[derive(Drop)]
+pub struct Change {
+    pub platform: CiText<36>,
+    pub config: Config,
+}
+
+/// A request, or a change of the configuration.
+#[derive(Drop)]
+pub enum Asked {
+    Request(Request),
+    Change(Change),
+}
+
+fn is_change(node: &Node) -> bool
+    ensures { result ≡ is_change node.now }
+{
+    fields::parsed::<ChangeName>(node, Name::Do).is_ok()
+}
+
+#[inline(never)]
+#[tactic(auto, unfolding(crate::specs::Asked::change_at))]
+fn read_change(alloc: Global, node: &Node) -> Result<Change, FieldFault>
+    ensures { Finds result (change_at node.now) }
+{
+    let platform = fields::ci_text(node, Name::Platform)?;
+    let config = Config::from_node_in(alloc, &fields::object(node, Name::Configuration)?)?;
+    Ok(Change { platform, config })
+}
+
+fn read_changes(alloc: Global, node: &Node) -> Result<Asked, FieldFault>
+    ensures { Finds result (changes_at node.now) }
+{
+    let change = read_change(alloc, node)?;
+    Ok(Asked::Change(change))
+}
+
+fn read_requests(alloc: Global, node: &Node) -> Result<Asked, FieldFault>
+    ensures { Finds result (requests_at node.now) }
+{
+    let request = read_request(alloc, node)?;
+    Ok(Asked::Request(request))
+}
+
+fn read_asked(alloc: Global, node: &Node) -> Result<Asked, FieldFault>
+    ensures { Finds result (asked_at node.now) }
+{
+    if is_change(node) {
+        read_changes(alloc, node)
+    } else {
+        read_requests(alloc, node)
+    }
+}
+
+/// Reads what a line asks for.
+///
+/// # Errors
+///
+/// `Syntax` if the line is no JSON, `Field` with the first member that is missing, of a wrong kind or out of bounds, `NoMemory` if an
+/// allocation fails.
+#[tactic(auto, unfolding(crate::specs::Asked::asked_of))]
+pub fn asked_of(alloc: Global, room: &mut Room, line: &[u8]) -> Result<Asked, Refusal>
+    ensures asked { IfOk result (λ asked. asked_of line.now ≡ Ok asked) }
+    ensures refusal { IfErr result (λ refusal. is_refusal_no_memory refusal ≡ false → asked_of line.now ≡ Err refusal) }
+{
+    let read = match room.read(line) {
+        Ok(read) => read,
+        Err(ReadFault::Syntax) => return Err(Refusal::Syntax),
+        Err(ReadFault::NoMemory) => return Err(Refusal::NoMemory),
+    };
+    match read_asked(alloc, &read.value()) {
+        Ok(asked) => Ok(asked),
+        Err(FieldFault::Field(name)) => Err(Refusal::Field { name }),
+        Err(FieldFault::NoMemory) => Err(Refusal::NoMemory),
+    }
+}
