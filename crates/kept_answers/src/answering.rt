@@ -15,7 +15,7 @@ use request_lines::{
     lines_join_to_bytes, read_buffer, read_into, split_line, write_all,
 };
 use sqlite_disk::Disk;
-use std::alloc::Global;
+use std::alloc::{AllocError, Global};
 
 /// Adds the answers to the whole lines of these bytes to a text.
 fn answer_lines<A: Answerer>(
@@ -38,11 +38,30 @@ fn answer_lines<A: Answerer>(
     Ok(())
 }
 
+/// Moves what comes after the first bytes to the front.
 fn drop_front(bytes: &mut Vec<u8>, count: usize)
     requires { count ≤ length bytes.old.items }
     ensures { bytes.new.items ≡ drop count bytes.old.items }
 {
-    bytes.drain(..count);
+    let len = bytes.len();
+    bytes.copy_within(count..len, 0);
+    bytes.truncate(len - count);
+}
+
+/// The batch and the text of a read call. The next call uses their memory again.
+#[derive(Drop)]
+struct Scratch {
+    batch: Batch,
+    text: Vec<u8>,
+}
+
+impl Scratch {
+    fn new(alloc: Global) -> Result<Scratch, AllocError> {
+        Ok(Scratch {
+            batch: Batch::new(alloc)?,
+            text: Vec::new(alloc),
+        })
+    }
 }
 
 /// Keeps the whole lines of the pending bytes, then answers them, and leaves the part of a line that follows them.
@@ -52,6 +71,7 @@ fn answer_pending<D: Disk, W: Sink, A: Answerer>(
     writer: &mut W,
     answerer: &mut A,
     pending: &mut Vec<u8>,
+    scratch: &mut Scratch,
 ) -> Result<(), KeepFault>
     requires settled { IsSettled D.Disk log.old }
     ensures settled { OnOk result (IsSettled D.Disk log.new) }
@@ -62,12 +82,12 @@ fn answer_pending<D: Disk, W: Sink, A: Answerer>(
         (λ _. AreAnswered A.rule answerer.old (D.Disk.may_leave log.new.disk) (IsTrue (D.Disk.is_clean log.new.disk)) (kept_in (D.Disk.seen log.old.disk)) whole sent) }
     ensures clean { D.Disk.is_clean log.new.disk ≡ D.Disk.is_clean log.old.disk }
 {
-    let mut batch = Batch::new(alloc)?;
-    let count = push_whole_lines(&mut batch, pending.as_slice())?;
-    log.append(&batch)?;
-    let mut text = Vec::new(alloc);
-    answer_lines(alloc, answerer, pending.as_slice(), &mut text)?;
-    if let Err(_sent) = write_all(writer, text.as_slice()) {
+    scratch.batch.clear();
+    let count = push_whole_lines(&mut scratch.batch, pending.as_slice())?;
+    log.append(&scratch.batch)?;
+    scratch.text.clear();
+    answer_lines(alloc, answerer, pending.as_slice(), &mut scratch.text)?;
+    if let Err(_sent) = write_all(writer, scratch.text.as_slice()) {
         return Err(KeepFault::Write);
     }
     drop_front(pending, count);
@@ -114,6 +134,7 @@ pub fn answer_new_lines<D: Disk, R: Source, W: Sink, A: Answerer>(
     ensures clean { D.Disk.is_clean log.new.disk ≡ D.Disk.is_clean log.old.disk }
 {
     let mut buffer = read_buffer(alloc, MOST_READ_BYTES)?;
+    let mut scratch = Scratch::new(alloc)?;
     let mut pending = Vec::new(alloc);
     for turn in 0..MOST_READ_CALLS {
         let count = match read_into(reader, &mut buffer) {
@@ -124,7 +145,7 @@ pub fn answer_new_lines<D: Disk, R: Source, W: Sink, A: Answerer>(
             return whole_input(pending.as_slice());
         }
         add_pending(&mut pending, &buffer, count)?;
-        answer_pending(alloc, log, writer, answerer, &mut pending)?;
+        answer_pending(alloc, log, writer, answerer, &mut pending, &mut scratch)?;
         if pending.len() > MOST_LINE_BYTES {
             return Err(KeepFault::LineTooLong);
         }

@@ -23,6 +23,21 @@ returns-in_err-buffer-clause-told g c =
       at_err _ c.from_residual.result c.from_residual.ensures.0 (nothing_sent _ _ _ _ _ _ (g.met.A.Answerer.answers_none _) (λ clean. none_lost _ _ _ c.requires.durable)),
     )
 
+pub returns-in_err-scratch-clause-told : goal.returns-in_err-scratch-clause-told
+returns-in_err-scratch-clause-told g c =
+    let found = split [] in (
+      0,
+      [],
+      found.whole,
+      found.part,
+      [],
+      omega arith,
+      g.met.R.Source.gives_none _,
+      found.are,
+      g.met.W.Sink.takes_none _,
+      at_err _ c.from_residual-in_err-scratch.result c.from_residual-in_err-scratch.ensures.0 (nothing_sent _ _ _ _ _ _ (g.met.A.Answerer.answers_none _) (λ clean. none_lost _ _ _ c.requires.durable)),
+    )
+
 pub loop-turn-init : goal.loop-turn-init
 loop-turn-init g c =
     record {

@@ -6,8 +6,8 @@ use Rattle.request_lines.specs.Lines.{AreLines, whole_lines}
 use Rattle.kept_answers.proofs.KeptLemmas.{all_kept, answers_sent, at_err, none_lost, nothing_sent, split, whole_or_none}
 use Rattle.kept_answers.proofs.answering.answer_pending.Goals as goal
 
-pub returns-in_err-batch-clause-told : goal.returns-in_err-batch-clause-told
-returns-in_err-batch-clause-told g c =
+pub returns-in_err-count-clause-told : goal.returns-in_err-count-clause-told
+returns-in_err-count-clause-told g c =
     let found = split c.args.pending.now.items in (
       found.whole,
       found.part,
@@ -17,22 +17,11 @@ returns-in_err-batch-clause-told g c =
       at_err _ c.from_residual.result c.from_residual.ensures.0 (nothing_sent _ _ _ _ _ _ (g.met.A.Answerer.answers_none _) (λ clean. none_lost _ _ _ c.requires.settled.durable)),
     )
 
-pub returns-in_err-count-clause-told : goal.returns-in_err-count-clause-told
-returns-in_err-count-clause-told g c =
-    let found = split c.args.pending.now.items in (
-      found.whole,
-      found.part,
-      [],
-      found.are,
-      g.met.W.Sink.takes_none _,
-      at_err _ c.from_residual-in_err-count.result c.from_residual-in_err-count.ensures.0 (nothing_sent _ _ _ _ _ _ (g.met.A.Answerer.answers_none _) (λ clean. none_lost _ _ _ c.requires.settled.durable)),
-    )
-
 pub returns-in_err-append-clause-told : goal.returns-in_err-append-clause-told
 returns-in_err-append-clause-told g c =
     let before = kept_in (g.D.Disk.seen c.args.log.now.disk) in
     let whole = whole_lines c.as_slice.result.now in
-    let are : lines_of c.push_whole_lines.new.batch ≡ whole = c.in_ok-count.ensures.lines ∙ ap (λ (l : List (List ℕ)). l ++ whole) c.in_ok-batch.ensures in
+    let are : lines_of c.push_whole_lines.new.batch ≡ whole = c.in_ok-count.ensures.lines ∙ ap (λ (l : List (List ℕ)). l ++ whole) c.clear.ensures in
     let part = drop c.in_ok-count.count c.as_slice.result.now in
     let lines : AreLines c.args.pending.now.items whole part = subst (λ (l : List ℕ). AreLines l whole part) c.as_slice.ensures.value c.in_ok-count.ensures.part in (
       whole,
@@ -48,7 +37,7 @@ pub returns-in_err-answer_lines-clause-told : goal.returns-in_err-answer_lines-c
 returns-in_err-answer_lines-clause-told g c =
     let before = kept_in (g.D.Disk.seen c.args.log.now.disk) in
     let whole = whole_lines c.as_slice.result.now in
-    let are : lines_of c.push_whole_lines.new.batch ≡ whole = c.in_ok-count.ensures.lines ∙ ap (λ (l : List (List ℕ)). l ++ whole) c.in_ok-batch.ensures in
+    let are : lines_of c.push_whole_lines.new.batch ≡ whole = c.in_ok-count.ensures.lines ∙ ap (λ (l : List (List ℕ)). l ++ whole) c.clear.ensures in
     let part = drop c.in_ok-count.count c.as_slice.result.now in
     let lines : AreLines c.args.pending.now.items whole part = subst (λ (l : List ℕ). AreLines l whole part) c.as_slice.ensures.value c.in_ok-count.ensures.part in (
       whole,
@@ -64,7 +53,7 @@ pub returns-in-Err-clause-told : goal.returns-in-Err-clause-told
 returns-in-Err-clause-told g c =
     let before = kept_in (g.D.Disk.seen c.args.log.now.disk) in
     let whole = whole_lines c.as_slice.result.now in
-    let are : lines_of c.push_whole_lines.new.batch ≡ whole = c.in_ok-count.ensures.lines ∙ ap (λ (l : List (List ℕ)). l ++ whole) c.in_ok-batch.ensures in
+    let are : lines_of c.push_whole_lines.new.batch ≡ whole = c.in_ok-count.ensures.lines ∙ ap (λ (l : List (List ℕ)). l ++ whole) c.clear.ensures in
     let part = drop c.in_ok-count.count c.as_slice.result.now in
     let lines : AreLines c.args.pending.now.items whole part = subst (λ (l : List ℕ). AreLines l whole part) c.as_slice.ensures.value c.in_ok-count.ensures.part in
     let text = c.as_slice-3.result.now in (
@@ -84,7 +73,7 @@ pub returns-clause-told : goal.returns-clause-told
 returns-clause-told g c =
     let before = kept_in (g.D.Disk.seen c.args.log.now.disk) in
     let whole = whole_lines c.as_slice.result.now in
-    let are : lines_of c.push_whole_lines.new.batch ≡ whole = c.in_ok-count.ensures.lines ∙ ap (λ (l : List (List ℕ)). l ++ whole) c.in_ok-batch.ensures in
+    let are : lines_of c.push_whole_lines.new.batch ≡ whole = c.in_ok-count.ensures.lines ∙ ap (λ (l : List (List ℕ)). l ++ whole) c.clear.ensures in
     let part = drop c.in_ok-count.count c.as_slice.result.now in
     let lines : AreLines c.args.pending.now.items whole part = subst (λ (l : List ℕ). AreLines l whole part) c.as_slice.ensures.value c.in_ok-count.ensures.part in
     let text = c.as_slice-3.result.now in (
