@@ -51,6 +51,10 @@ pub enum KeepFault {
     #[error("the store keeps lines; how many answers the client has was not said (--from)")]
     HasLines,
 
+    /// The gate did not open when the kept lines were answered.
+    #[error("stopped after the kept lines")]
+    Stopped,
+
     /// The store has a line that is longer than a line may be.
     #[error("a line of the store is too long")]
     StoreLineTooLong,

@@ -21,6 +21,12 @@ use std::alloc::{AllocError, Global};
 /// How many bytes a kept line may have. The record that begins a store has a configuration and some words.
 pub const MOST_KEPT_BYTES: usize = 2 * MOST_LINE_BYTES;
 
+/// Decides between the lines that a store keeps and new ones whether the stream goes on.
+pub trait Gate<A: Answerer> {
+    /// Returns whether new lines are kept, after the answerer has answered all lines of the store.
+    fn opens(&mut self, answerer: &A) -> bool;
+}
+
 /// How a kept stream ended, and its disk.
 #[derive(Drop)]
 pub struct Ended<D: Disk> {
@@ -115,9 +121,31 @@ fn answer_store<D: Disk, W: Sink, A: Answerer>(
     answer_kept_lines(alloc, recovery, had, writer, answerer)
 }
 
+/// Answers the lines of a store, and asks the gate.
+fn answer_to_gate<D: Disk, W: Sink, A: Answerer, G: Gate<A>>(
+    alloc: Global,
+    recovery: &mut Recovery<D>,
+    from: Option<u64>,
+    writer: &mut W,
+    answerer: &mut A,
+    gate: &mut G,
+) -> Result<(), KeepFault>
+    ensures told { (sent : List ℕ) × W.writing.takes writer.old sent writer.new
+        × (IsTrue (D.Disk.is_clean (disk_of recovery.new)) → IsStoreSent A.rule answerer.old (kept_in (D.Disk.seen (disk_of recovery.old))) from sent
+        × OnOk result (IsStoreAnswered A.rule answerer.old (kept_in (D.Disk.seen (disk_of recovery.old))) from sent answerer.new)) }
+    ensures reads { OnlyReads D.Disk (disk_of recovery.old) (disk_of recovery.new) }
+{
+    answer_store(alloc, recovery, from, writer, answerer)?;
+    if gate.opens(answerer) {
+        Ok(())
+    } else {
+        Err(KeepFault::Stopped)
+    }
+}
+
 /// Keeps and answers the lines of a store: sends how many it keeps and the answers to those after the first `from`, repairs the end
 /// that a crash may have left, and then keeps each batch of new lines before it answers it, until the reader ends. Without `from` the
-/// store must have no line yet.
+/// store must have no line yet. The gate is asked once, when all lines of the store are answered and before its end is repaired.
 ///
 /// The disk comes back, with how the stream ended. The store has its first record. A disk may stop at any call, so what holds at an
 /// error holds of a crash at any moment: run again over what the crash left, and with `from` as many answers as the client has, the
@@ -125,14 +153,16 @@ fn answer_store<D: Disk, W: Sink, A: Answerer>(
 ///
 /// # Errors
 ///
-/// `KeepFault`: what was sent begins the answers, and each content that a crash may leave has all lines whose answers were begun.
-pub fn keep<D: Disk, R: Source, W: Sink, A: Answerer>(
+/// `KeepFault`, `Stopped` if the gate does not open: what was sent begins the answers, and each content that a crash may leave has all
+/// lines whose answers were begun.
+pub fn keep<D: Disk, R: Source, W: Sink, A: Answerer, G: Gate<A>>(
     alloc: Global,
     disk: D,
     from: Option<u64>,
     reader: &mut R,
     writer: &mut W,
     answerer: &mut A,
+    gate: &mut G,
 ) -> Ended<D>
     requires usable { IsTrue (D.Disk.is_usable disk) }
     requires durable { Only (D.Disk.seen disk) (D.Disk.may_leave disk) }
@@ -144,7 +174,7 @@ pub fn keep<D: Disk, R: Source, W: Sink, A: Answerer>(
     ensures clean { IsTrue (D.Disk.is_clean result.disk) → IsTrue (D.Disk.is_clean disk) }
 {
     let mut recovery = Recovery::new(alloc, disk, MOST_KEPT_BYTES);
-    if let Err(fault) = answer_store(alloc, &mut recovery, from, writer, answerer) {
+    if let Err(fault) = answer_to_gate(alloc, &mut recovery, from, writer, answerer, gate) {
         return Ended {
             disk: recovery.into_disk(),
             result: Err(fault),

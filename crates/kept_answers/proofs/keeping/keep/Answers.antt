@@ -62,7 +62,7 @@ returns-in-Ok g c =
     let after = c.answer_log.ensures.told in
     let whole = after.2 in
     let sent = after.4 in
-    let answered : AreAnswered g.A.Answerer.rule c.answer_store.new.answerer (g.D.Disk.may_leave c.answer_log.result.disk) (IsTrue (g.D.Disk.is_clean c.answer_log.result.disk)) (kept_in (g.D.Disk.seen c.in-Ok.log.disk)) whole sent =
+    let answered : AreAnswered g.A.Answerer.rule c.answer_to_gate.new.answerer (g.D.Disk.may_leave c.answer_log.result.disk) (IsTrue (g.D.Disk.is_clean c.answer_log.result.disk)) (kept_in (g.D.Disk.seen c.in-Ok.log.disk)) whole sent =
     of_either c.answer_log.result.result
     (λ all. all_answered _ _ c.answer_log.new.answerer (g.D.Disk.seen c.answer_log.result.disk) _ _ (kept_in (g.D.Disk.seen c.in-Ok.log.disk)) whole sent all.2 all.3 all.4)
     after.9 in record {
@@ -81,16 +81,16 @@ returns-in-Ok g c =
             let clean_store = c.in-Ok.ensures.clean clean_log in
             let file : kept_in (g.D.Disk.seen c.in-Ok.log.disk) ≡ kept_in (g.D.Disk.seen c.args.disk) =
             c.in-Ok.ensures.lines clean_log ∙ ap kept_in (reads.seen ∙ ap (λ (d : g.row.D.Denot). g.D.Disk.seen d) c.new-recovery.ensures.disk) in
-            let store : IsStoreAnswered g.A.Answerer.rule c.args.answerer.now (kept_in (g.D.Disk.seen c.args.disk)) c.args.from before.0 c.answer_store.new.answerer =
-            subst (λ (d : g.row.D.Denot). IsStoreAnswered g.A.Answerer.rule c.args.answerer.now (kept_in (g.D.Disk.seen d)) c.args.from before.0 c.answer_store.new.answerer) c.new-recovery.ensures.disk (before.2 clean_store).1 in (
-              kept_after_store _ g.met.A.Answerer.answers_more c.args.answerer.now c.answer_store.new.answerer _ _ (kept_in (g.D.Disk.seen c.args.disk)) whole c.args.from before.0 sent store
-                  (subst (λ (l : List (List ℕ)). AreAnswered g.A.Answerer.rule c.answer_store.new.answerer (g.D.Disk.may_leave c.answer_log.result.disk) (IsTrue (g.D.Disk.is_clean c.answer_log.result.disk)) l whole sent) file answered)
+            let store : IsStoreAnswered g.A.Answerer.rule c.args.answerer.now (kept_in (g.D.Disk.seen c.args.disk)) c.args.from before.0 c.answer_to_gate.new.answerer =
+            subst (λ (d : g.row.D.Denot). IsStoreAnswered g.A.Answerer.rule c.args.answerer.now (kept_in (g.D.Disk.seen d)) c.args.from before.0 c.answer_to_gate.new.answerer) c.new-recovery.ensures.disk (before.2 clean_store).1 in (
+              kept_after_store _ g.met.A.Answerer.answers_more c.args.answerer.now c.answer_to_gate.new.answerer _ _ (kept_in (g.D.Disk.seen c.args.disk)) whole c.args.from before.0 sent store
+                  (subst (λ (l : List (List ℕ)). AreAnswered g.A.Answerer.rule c.answer_to_gate.new.answerer (g.D.Disk.may_leave c.answer_log.result.disk) (IsTrue (g.D.Disk.is_clean c.answer_log.result.disk)) l whole sent) file answered)
                   clean,
               ok_of _ c.answer_log.result.result
                   (λ all. (
                     all.0,
                     all.1,
-                    all_kept_after_store _ g.met.A.Answerer.answers_more c.args.answerer.now c.answer_store.new.answerer c.answer_log.new.answerer (g.D.Disk.seen c.answer_log.result.disk) (kept_in (g.D.Disk.seen c.args.disk)) whole c.args.from before.0 sent store all.2
+                    all_kept_after_store _ g.met.A.Answerer.answers_more c.args.answerer.now c.answer_to_gate.new.answerer c.answer_log.new.answerer (g.D.Disk.seen c.answer_log.result.disk) (kept_in (g.D.Disk.seen c.args.disk)) whole c.args.from before.0 sent store all.2
                         (all.3 clean ∙ ap (λ (l : List (List ℕ)). l ++ whole) file),
                   ))
                   after.9,
