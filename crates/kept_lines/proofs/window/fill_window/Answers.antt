@@ -2,7 +2,7 @@ use Rattle.std.proofs.Common.{◌≡◌, ℕ, ◌-◌, List, length, ap, subst, 
 use Rattle.std.specs.Prelude.{min}
 use Rattle.sqlite_disk.specs.Disk.{MoreFaults, Holds}
 use Rattle.kept_lines.proofs.Windows.{read_is}
-use Rattle.kept_lines.proofs.window.read_window.Goals as goal
+use Rattle.kept_lines.proofs.window.fill_window.Goals as goal
 
 pub returns-in-Err-clause-failed : goal.returns-in-Err-clause-failed
 returns-in-Err-clause-failed g c is =
