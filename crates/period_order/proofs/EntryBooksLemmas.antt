@@ -12,17 +12,13 @@ use Rattle.plain_house.specs.declared.entry.BookEntry.{BookEntry}
 use Rattle.plain_house.specs.declared.event.Event.{Event}
 use Rattle.plain_house.specs.declared.event.Event.TheVariants as event
 use Rattle.plain_house.specs.Entries.{account_entry, book_entry}
-use Rattle.plain_house.specs.House.{events_after}
 use Rattle.plain_house.specs.Legal.{IsGiven, IsLegal}
 use Rattle.plain_house.specs.Own.{EventsAreOfTheirCommand, IsOfCommand}
 use Rattle.plain_house.specs.Known.{known}
-use Rattle.period_order.specs.declared.decided.Decided.{Decided}
 use Rattle.period_order.specs.declared.order_entry.OrderEntry.{OrderEntry}
 use Rattle.period_order.specs.Decided.{account_length, book_length}
-use Rattle.period_order.specs.Inner.Collected.{IsReached}
 use Rattle.period_order.specs.Inner.EventParties.{account_of_event, book_of_event, operator_of_event, provider_of_event}
 use Rattle.period_order.specs.Kept.{AreDistinct, EventsAreKept, Keeps, with_added}
-use Rattle.period_order.specs.EntryBooks.{IsDecided}
 use Rattle.period_order.specs.Order.{PlainOrder, current_of}
 use Rattle.period_order.specs.Places.{operator_number, order_entry, provider_number}
 use Rattle.period_order.specs.Resolved.{entries_of_accounts, entries_of_books}
@@ -93,9 +89,3 @@ module _ (config : Config) (books : List PlainBook) (accounts : List PlainAccoun
   keeps_given have their law distinct legal now_books now_accounts now b a o =
       let kept = with_parties have their law distinct (last_given config events e legal) in
       record { legal = kept.legal; books_are = b ∙ kept.books_are; accounts_are = a ∙ kept.accounts_are; order_is = o ∙ kept.order_is }
-
--- ---- the command decided
-
-pub decided_of : (config : Config) (events : List Event) (told : Command) (decided : Decided) → IsReached config events told decided (events_after config events told)
-    → IsDecided config events told decided
-decided_of config events told decided reached = record { point_is = reached.point_is; reply_is = reached.reply_is; closes = reached.closes; states = reached.states }

@@ -1,10 +1,12 @@
 -- The laws that are said of this crate's words.
-use Rattle.std.proofs.Common.{refl}
+use Rattle.std.proofs.Common.{refl, ap, subst}
 use Rattle.cdr_checks.specs.Parties.{CommandsHaveParties}
 use Rattle.netting_positions.specs.SameSums.{OperatorsOweAlike}
-use Rattle.plain_house.specs.Legal.{CommandsKeepListsLegal}
+use Rattle.plain_house.specs.Known.{known}
+use Rattle.plain_house.specs.Legal.{CommandsKeepListsLegal, IsLegal}
 use Rattle.plain_house.specs.LegalLists.{LegalListsCanBeNetted}
 use Rattle.plain_house.specs.Own.{EventsAreOfTheirCommand}
+use Rattle.plain_house.specs.Replies.{with_event}
 use Rattle.period_order.specs.Dues.{BooksAreCollectable}
 use Rattle.period_order.specs.Kept.{EventsAreKept}
 use Rattle.period_order.specs.Places.{OrdersAreCounted}
@@ -27,7 +29,8 @@ stand_at_numbers config events = record { operator = book_at config events; prov
 
 pub are_kept : CommandsHaveParties → CommandsKeepListsLegal → EventsAreOfTheirCommand → EventsAreKept
 are_kept have keep their config books accounts order events told e in_book in_account distinct keeps admitted added lengths =
-    keeps_event config books accounts order events keeps told (have config told admitted) e in_book in_account their keep admitted added
+    keeps_event config books accounts order events keeps told (have config told admitted) e in_book in_account
+    (subst (IsLegal config) (ap (with_event events) added) (keep config events told keeps.legal admitted)) (their config (known events) told e added)
     distinct.operators distinct.providers lengths.book lengths.account
 
 pub collectable : LegalListsCanBeNetted → OperatorsOweAlike → BooksAreCollectable

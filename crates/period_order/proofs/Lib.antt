@@ -6,6 +6,8 @@ pub mod EachLemmas
 pub mod EntriesLemmas
 pub mod GivesLemmas
 pub mod HouseLemmas
+pub mod JudgedLemmas
+pub mod JudgingLemmas
 pub mod KeptLemmas
 pub mod LawLemmas
 pub mod EntryBooksLemmas

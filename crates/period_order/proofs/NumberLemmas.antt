@@ -10,7 +10,7 @@ use Rattle.ocpi_types.specs.Party.{same_party}
 use Rattle.period_order.proofs.PartyLemmas.{both_are, party_along, party_symmetric}
 
 -- the first place, or the length where there is none
-first_place : {X : Type 0} (p : X → Bool) (xs : List X) → unwrap_or (position p xs) (length xs) ≡ position_or_len p xs
+pub first_place : {X : Type 0} (p : X → Bool) (xs : List X) → unwrap_or (position p xs) (length xs) ≡ position_or_len p xs
 first_place p xs = by (ltb (position_or_len p xs) (length xs)) refl
   where
     by : (b : Bool) → ltb (position_or_len p xs) (length xs) ≡ b → unwrap_or (cond b (Some (position_or_len p xs)) None) (length xs) ≡ position_or_len p xs

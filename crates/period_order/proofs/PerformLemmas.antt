@@ -16,7 +16,7 @@ use Rattle.plain_house.specs.Entries.{account_entries, account_entry, book_entri
 use Rattle.plain_house.specs.House.{verdict}
 use Rattle.plain_house.specs.Known.{known}
 use Rattle.plain_house.specs.Legal.{CommandsKeepListsLegal, IsLegal}
-use Rattle.plain_house.specs.Own.{EventsAreOfTheirCommand, VerdictsAreOfOwnEntries, of_account, of_operator, own_account, own_book}
+use Rattle.plain_house.specs.Own.{EventsAreOfTheirCommand, IsOfCommand, of_account, of_operator, own_account, own_book}
 use Rattle.operator_book.specs.State.{PlainBook}
 use Rattle.provider_account.specs.State.{PlainAccount}
 use Rattle.period_order.specs.declared.decided.Outcome.{Outcome}
@@ -25,6 +25,7 @@ use Rattle.period_order.specs.Decided.{AreOfAccount, AreOfBook, Decides, Outcome
 use Rattle.plain_house.specs.Replies.{with_event}
 use Rattle.plain_house.specs.Verdict.{Verdict}
 use Rattle.period_order.specs.declared.order_entry.OrderEntry.{OrderEntry}
+use Rattle.period_order.specs.Judging.{JudgedByOwnEntries, MayJudge}
 use Rattle.period_order.specs.Kept.{Keeps, account_number, book_number, with_added}
 use Rattle.period_order.specs.Inner.Kept.{with_event_added}
 use Rattle.period_order.specs.Order.{PlainOrder, current_of, is_close_entry}
@@ -32,6 +33,7 @@ use Rattle.period_order.specs.Places.{operator_number, order_entry, order_of, pr
 use Rattle.period_order.specs.Resolved.{OrdersAreResolved, books_of, entries_of_accounts, entries_of_books, resolved}
 use Rattle.period_order.proofs.BooksLemmas.{account_at, book_at}
 use Rattle.period_order.proofs.HouseLemmas.{accounts_added, books_added, entry_is}
+use Rattle.period_order.proofs.JudgingLemmas.{legal_with, same_order}
 use Rattle.period_order.proofs.OrderLemmas.{current_is, order_push, point_is}
 use Rattle.period_order.proofs.OutcomeLemmas.{are_verdicts}
 
@@ -50,9 +52,8 @@ module _ (config : Config) (books : List (List BookEntry)) (accounts : List (Lis
     pub period_kept : count_by is_close_entry order ≡ period_of events
     period_kept = ap (count_by is_close_entry) keeps.order_is ∙ current_is config events
 
-    -- with the event of the command's verdict
-    pub keeps_event : (e : Event) (book account : ℕ)
-        → EventsAreOfTheirCommand → CommandsKeepListsLegal → IsAdmitted config told → (verdict config (known events) told).event ≡ Some e
+    -- with an event of the command
+    pub keeps_event : (e : Event) (book account : ℕ) → IsLegal config (events ++ e ∷ []) → IsOfCommand told e
         → all_different alike_operators config.operators ≡ true → all_different alike_providers config.providers ≡ true
         → ((operator : Party) → operator_of_command told ≡ Some operator → book ≡ length (own_book operator (book_entries events)))
         → ((provider : Party) → provider_of_command told ≡ Some provider → account ≡ length (own_account provider events))
@@ -61,20 +62,18 @@ module _ (config : Config) (books : List (List BookEntry)) (accounts : List (Lis
         (with_added accounts (account_number config told) (account_entry e (count_by is_close_entry order)))
         (order ++ order_entry config book account e ∷ [])
         (events ++ e ∷ [])
-    keeps_event e book account their laws admitted added operators providers in_book in_account =
-        let own = their config (known events) told e added in
-        record {
-          legal = subst (IsLegal config) (ap (with_event events) added) (laws config events told keeps.legal admitted);
-          books_are =
-              ap₂ (λ b n. with_added b (book_number config told) (book_entry e n)) keeps.books_are period_kept
-              ∙ books_added config events told parties operators e own;
-          accounts_are =
-              ap₂ (λ a n. with_added a (account_number config told) (account_entry e n)) keeps.accounts_are period_kept
-              ∙ accounts_added config events told parties providers e own;
-          order_is =
-              ap₂ (λ o x. o ++ x ∷ []) keeps.order_is (entry_is config events told parties book account e own in_book in_account)
-              ∙ sym (order_push config events e);
-        }
+    keeps_event e book account legal own operators providers in_book in_account = record {
+      legal = legal;
+      books_are =
+          ap₂ (λ b n. with_added b (book_number config told) (book_entry e n)) keeps.books_are period_kept
+          ∙ books_added config events told parties operators e own;
+      accounts_are =
+          ap₂ (λ a n. with_added a (account_number config told) (account_entry e n)) keeps.accounts_are period_kept
+          ∙ accounts_added config events told parties providers e own;
+      order_is =
+          ap₂ (λ o x. o ++ x ∷ []) keeps.order_is (entry_is config events told parties book account e own in_book in_account)
+          ∙ sym (order_push config events e);
+    }
 
 -- ---- the event of an outcome
 
@@ -134,19 +133,20 @@ module _ (config : Config) (books : List PlainBook) (accounts : List PlainAccoun
           subst (λ (o : Option PlainAccount). AreOfAccount o (own_account provider events)) (sym given.1) given.2
 
   -- the verdict on what is known of the book and the account is that of the outcome
-  given_verdict : OutcomesAreVerdicts → (outcome : Outcome) (entries : List BookEntry) (others : List AccountEntry) → outcome ≡ outcome_of told (verdict config (seen entries others order) told)
-      → verdict config (seen entries others order) told ≡ verdict_with config entries outcome
-  given_verdict law outcome entries others is = sym (ap (verdict_with config entries) is ∙ law config (seen entries others order) told)
+  given_verdict : OutcomesAreVerdicts → (judge : Config) (outcome : Outcome) (entries : List BookEntry) (others : List AccountEntry)
+      → outcome ≡ outcome_of told (verdict judge (seen entries others order) told)
+      → verdict judge (seen entries others order) told ≡ verdict_with judge entries outcome
+  given_verdict law judge outcome entries others is = sym (ap (verdict_with judge entries) is ∙ law judge (seen entries others order) told)
 
-  -- the verdict on the list is that of what is given
-  pub verdict_is : VerdictsAreOfOwnEntries → (outcome : Outcome) → Decides config the_book the_account order told outcome
-      → verdict config (known events) told ≡ verdict_with config (of_operator (operator_of_command told) (book_entries events)) outcome
-  verdict_is laws outcome decides =
-      sym (laws config events told keeps.legal)
-      ∙ ap₂ (λ (point period : ℕ). verdict config (record { book = of_operator (operator_of_command told) (book_entries events); account = of_account (provider_of_command told) (account_entries events); point = point; period = period }) told)
+  -- the verdict on the list, under the configuration that decided, is that of what is given
+  pub verdict_is : JudgedByOwnEntries → (judge : Config) (outcome : Outcome) → Decides judge the_book the_account order told outcome
+      → verdict judge (known events) told ≡ verdict_with judge (of_operator (operator_of_command told) (book_entries events)) outcome
+  verdict_is laws judge outcome decides =
+      sym (laws judge config events told keeps.legal)
+      ∙ ap₂ (λ (point period : ℕ). verdict judge (record { book = of_operator (operator_of_command told) (book_entries events); account = of_account (provider_of_command told) (account_entries events); point = point; period = period }) told)
       (sym (point_kept config (entries_of_books books) (entries_of_accounts accounts) order.entries events keeps told parties))
       (sym (period_kept config (entries_of_books books) (entries_of_accounts accounts) order.entries events keeps told parties))
-      ∙ given_verdict are_verdicts outcome (of_operator (operator_of_command told) (book_entries events)) (of_account (provider_of_command told) (account_entries events))
+      ∙ given_verdict are_verdicts judge outcome (of_operator (operator_of_command told) (book_entries events)) (of_account (provider_of_command told) (account_entries events))
       (decides.outcome_is (of_operator (operator_of_command told) (book_entries events)) (of_account (provider_of_command told) (account_entries events)) are_of_book are_of_account)
 
   -- ---- how many entries stand at the command's numbers
@@ -165,25 +165,26 @@ module _ (config : Config) (books : List PlainBook) (accounts : List PlainAccoun
 
   -- ---- once it is put
 
-  module _ (outcome : Outcome) (decides : Decides config the_book the_account order told outcome) (laws : VerdictsAreOfOwnEntries) where
-    abbrev verdict_reached : verdict config (known events) told ≡ verdict_with config (of_operator (operator_of_command told) (book_entries events)) outcome
-    verdict_reached = verdict_is laws outcome decides
+  module _ (judge : Config) (outcome : Outcome) (decides : Decides judge the_book the_account order told outcome) (laws : JudgedByOwnEntries) where
+    abbrev verdict_reached : verdict judge (known events) told ≡ verdict_with judge (of_operator (operator_of_command told) (book_entries events)) outcome
+    verdict_reached = verdict_is laws judge outcome decides
 
-    pub event_reached : (verdict config (known events) told).event ≡ event_of outcome
-    event_reached = ap (λ (v : Verdict). v.event) verdict_reached ∙ event_is config (of_operator (operator_of_command told) (book_entries events)) outcome
+    pub event_reached : (verdict judge (known events) told).event ≡ event_of outcome
+    event_reached = ap (λ (v : Verdict). v.event) verdict_reached ∙ event_is judge (of_operator (operator_of_command told) (book_entries events)) outcome
 
-    pub keeps_put : (now_books : List (List BookEntry)) (now_accounts : List (List AccountEntry)) (now : PlainOrder)
-        → EventsAreOfTheirCommand → CommandsKeepListsLegal → IsAdmitted config told
+    pub keeps_put : (now_books : List (List BookEntry)) (now_accounts : List (List AccountEntry)) (now : PlainOrder) → MayJudge judge config
+        → EventsAreOfTheirCommand → CommandsKeepListsLegal → IsAdmitted judge told
         → all_different alike_operators config.operators ≡ true → all_different alike_providers config.providers ≡ true
         → now_books ≡ with_event_added (entries_of_books books) (option_map (operator_number config) (operator_of_command told)) (λ e. book_entry e (current_of order)) (event_of outcome)
         → now_accounts ≡ with_event_added (entries_of_accounts accounts) (option_map (provider_number config) (provider_of_command told)) (λ e. account_entry e (current_of order)) (event_of outcome)
-        → now ≡ order_with config the_book the_account order outcome
+        → now ≡ order_with judge the_book the_account order outcome
         → Keeps config now_books now_accounts now.entries (with_event events (event_of outcome))
-    keeps_put now_books now_accounts now their legal admitted operators providers b a o =
+    keeps_put now_books now_accounts now judges their legal admitted operators providers b a o =
         subst (λ x. Keeps config x now_accounts now.entries (with_event events (event_of outcome))) (sym b)
         (subst (λ x. Keeps config (with_event_added (entries_of_books books) (option_map (operator_number config) (operator_of_command told)) (λ e. book_entry e (current_of order)) (event_of outcome)) x now.entries (with_event events (event_of outcome))) (sym a)
         (subst (λ (x : PlainOrder). Keeps config (with_event_added (entries_of_books books) (option_map (operator_number config) (operator_of_command told)) (λ e. book_entry e (current_of order)) (event_of outcome))
-        (with_event_added (entries_of_accounts accounts) (option_map (provider_number config) (provider_of_command told)) (λ e. account_entry e (current_of order)) (event_of outcome)) x.entries (with_event events (event_of outcome))) (sym o)
+        (with_event_added (entries_of_accounts accounts) (option_map (provider_number config) (provider_of_command told)) (λ e. account_entry e (current_of order)) (event_of outcome)) x.entries (with_event events (event_of outcome)))
+        (sym (o ∙ same_order judge config judges the_book the_account order outcome))
         (by (event_of outcome) refl)))
       where
         by : (x : Option Event) → event_of outcome ≡ x
@@ -193,7 +194,9 @@ module _ (config : Config) (books : List PlainBook) (accounts : List PlainAccoun
         by None e = keeps
         by (Some added) e =
             keeps_event config (entries_of_books books) (entries_of_accounts accounts) order.entries events keeps told parties added
-            (book_length the_book) (account_length the_account) their legal admitted (event_reached ∙ e) operators providers book_size_is account_size_is
+            (book_length the_book) (account_length the_account)
+            (legal_with judge config judges legal events added keeps.legal (told, admitted, event_reached ∙ e)) (their judge (known events) told added (event_reached ∙ e))
+            operators providers book_size_is account_size_is
 
 -- ---- what is seen as before
 
@@ -215,7 +218,7 @@ some_copied (Some x) = refl
 
 -- ---- what is given, in other words
 
-module _ (config : Config) (books : List PlainBook) (accounts : List PlainAccount) (order : PlainOrder) (told : Command) where
+module _ (config judge : Config) (books : List PlainBook) (accounts : List PlainAccount) (order : PlainOrder) (told : Command) where
   abbrev book_of : Option PlainBook
   book_of = option_and_then (slice_get books) (option_map (operator_number config) (operator_of_command told))
 
@@ -223,13 +226,13 @@ module _ (config : Config) (books : List PlainBook) (accounts : List PlainAccoun
   account_of = option_and_then (slice_get accounts) (option_map (provider_number config) (provider_of_command told))
 
   pub decides_given : (book : Option PlainBook) (account : Option PlainAccount) (outcome given : Outcome) → book ≡ book_of → account ≡ account_of → outcome ≡ given
-      → Decides config book account order told outcome → Decides config book_of account_of order told given
+      → Decides judge book account order told outcome → Decides judge book_of account_of order told given
   decides_given book account outcome given b a o h =
-      subst (λ x. Decides config book_of account_of order told x) o
-      (subst (λ x. Decides config book_of x order told outcome) a
-      (subst (λ x. Decides config x account order told outcome) b h))
+      subst (λ x. Decides judge book_of account_of order told x) o
+      (subst (λ x. Decides judge book_of x order told outcome) a
+      (subst (λ x. Decides judge x account order told outcome) b h))
 
   pub ordered_given : (book : Option PlainBook) (account : Option PlainAccount) (outcome given : Outcome) (now : PlainOrder) → book ≡ book_of → account ≡ account_of → outcome ≡ given
-      → now ≡ order_with config book account order outcome → now ≡ order_with config book_of account_of order given
+      → now ≡ order_with judge book account order outcome → now ≡ order_with judge book_of account_of order given
   ordered_given book account outcome given now b a o h =
-      h ∙ ap₂ (λ x y. order_with config x y order outcome) b a ∙ ap (order_with config book_of account_of order) o
+      h ∙ ap₂ (λ x y. order_with judge x y order outcome) b a ∙ ap (order_with judge book_of account_of order) o

@@ -20,7 +20,7 @@ use Rattle.plain_house.specs.Entries.{EntriesAreDated, account_entries, book_ent
 use Rattle.plain_house.specs.House.{events_after, verdict}
 use Rattle.plain_house.specs.Known.{known}
 use Rattle.plain_house.specs.Obligations.{obligations}
-use Rattle.plain_house.specs.Own.{VerdictsAreOfOwnEntries, of_account, of_operator}
+use Rattle.plain_house.specs.Own.{of_account, of_operator}
 use Rattle.plain_house.specs.Replies.{with_event}
 use Rattle.plain_house.specs.Verdict.{Verdict, replies, unless}
 use Rattle.period_order.specs.declared.decided.Decided.{Decided}
@@ -28,11 +28,13 @@ use Rattle.period_order.specs.declared.decided.Outcome.{Outcome}
 use Rattle.period_order.specs.declared.decided.Outcome.TheVariants as outcome
 use Rattle.period_order.specs.declared.decided.Outcome.TheVariants.{Stated as StatedOutcome}
 use Rattle.period_order.specs.Decided.{Collects, Decides, closed_by, event_of, is_close_command, is_statement_command, outcome_of, seen, stated_by, verdict_with}
+use Rattle.period_order.specs.Judging.{JudgedByOwnEntries, MayJudge}
 use Rattle.period_order.specs.Kept.{Keeps}
 use Rattle.period_order.specs.Order.{PlainOrder}
 use Rattle.period_order.specs.Inner.Collected.{IsReached, IsTableFor, table_of, without_event}
 use Rattle.period_order.specs.Inner.Kept.{AreAsBefore, AreKept, IsKept, kept_events}
 use Rattle.period_order.specs.Resolved.{OrdersAreResolved, entries_of_accounts, entries_of_books}
+use Rattle.period_order.proofs.JudgingLemmas.{same_verdict}
 use Rattle.period_order.proofs.PerformLemmas.{are_of_account, are_of_book, event_is, kept_is, kept_still, point_kept, the_account, the_book, verdict_is}
 
 -- a close and a statement look into no book alone
@@ -148,34 +150,35 @@ closed_where_given config events ask given h = by (nat_lt ask.period (period_of 
 -- the command is reached
 module _ (config : Config) (books : List PlainBook) (accounts : List PlainAccount) (order : PlainOrder) (events : List Event)
     (keeps : Keeps config (entries_of_books books) (entries_of_accounts accounts) order.entries events) (told : Command) (parties_of : HasParties config told)
-    (outcome : Outcome) (decides : Decides config (the_book config books accounts order events keeps told parties_of) (the_account config books accounts order events keeps told parties_of) order told outcome)
-    (laws : VerdictsAreOfOwnEntries) where
-  judged : verdict config (known events) told ≡ verdict_with config (of_operator (operator_of_command told) (book_entries events)) outcome
-  judged = verdict_is config books accounts order events keeps told parties_of laws outcome decides
+    (judge : Config) (outcome : Outcome) (decides : Decides judge (the_book config books accounts order events keeps told parties_of) (the_account config books accounts order events keeps told parties_of) order told outcome)
+    (laws : JudgedByOwnEntries) where
+  judged : verdict judge (known events) told ≡ verdict_with judge (of_operator (operator_of_command told) (book_entries events)) outcome
+  judged = verdict_is config books accounts order events keeps told parties_of laws judge outcome decides
 
-  pub reached : EntriesAreDated → (decided : Decided) (now : List Event) → decided.point ≡ length order.entries → decided.outcome ≡ without_event outcome
-      → now ≡ with_event events (event_of outcome) → IsReached config events told decided now
-  reached dated decided now at left is =
+  pub reached : MayJudge judge config → EntriesAreDated → (decided : Decided) (now : List Event) → decided.point ≡ length order.entries → decided.outcome ≡ without_event outcome
+      → now ≡ with_event events (event_of outcome) → IsReached judge config events told decided now
+  reached judges dated decided now at left is =
       record {
         point_is = at ∙ point_kept config (entries_of_books books) (entries_of_accounts accounts) order.entries events keeps told parties_of;
         reply_is =
-            ap (λ (v : Verdict). v.reply) judged ∙ reply_left dated config told events outcome decides.collects
+            ap (λ (v : Verdict). v.reply) (judged ∙ same_verdict judge config judges (of_operator (operator_of_command told) (book_entries events)) outcome)
+            ∙ reply_left dated config told events outcome decides.collects
             ∙ ap₂ (λ (l : List Event) (o : Outcome). (verdict_with config (book_entries l) o).reply) (sym is) (sym left);
         now_is =
             is ∙ ap (with_event events)
-            (sym (ap (λ (v : Verdict). v.event) judged ∙ event_is config (of_operator (operator_of_command told) (book_entries events)) outcome));
+            (sym (ap (λ (v : Verdict). v.event) judged ∙ event_is judge (of_operator (operator_of_command told) (book_entries events)) outcome));
         table_is =
             subst (λ (o : Outcome). IsTableFor config o (table_of config told)) (sym left)
             (table_for config told _ outcome
             (decides.outcome_is (of_operator (operator_of_command told) (book_entries events)) (of_account (provider_of_command told) (account_entries events))
             (are_of_book config books accounts order events keeps told parties_of) (are_of_account config books accounts order events keeps told parties_of)));
         closes = λ period closed.
-            ap (λ (v : Verdict). v.event) judged ∙ event_is config (of_operator (operator_of_command told) (book_entries events)) outcome
+            ap (λ (v : Verdict). v.event) judged ∙ event_is judge (of_operator (operator_of_command told) (book_entries events)) outcome
             ∙ ap event_of (left_closed outcome period (sym left ∙ closed));
         states = λ ask stated. (asked ask stated, by ask (asked ask stated) (given ask stated));
       }
     where
-      reached_by : outcome ≡ outcome_of told (verdict config (seen (of_operator (operator_of_command told) (book_entries events)) (of_account (provider_of_command told) (account_entries events)) order) told)
+      reached_by : outcome ≡ outcome_of told (verdict judge (seen (of_operator (operator_of_command told) (book_entries events)) (of_account (provider_of_command told) (account_entries events)) order) told)
       reached_by =
           decides.outcome_is (of_operator (operator_of_command told) (book_entries events)) (of_account (provider_of_command told) (account_entries events))
           (are_of_book config books accounts order events keeps told parties_of) (are_of_account config books accounts order events keeps told parties_of)
@@ -184,16 +187,16 @@ module _ (config : Config) (books : List PlainBook) (accounts : List PlainAccoun
       asked ask stated = statement_of told _ ask (sym reached_by ∙ left_stated outcome ask (sym left ∙ stated))
 
       given : (ask : StatementOf) → decided.outcome ≡ StatedOutcome ask
-          → (verdict config (known events) told).reply ≡ Ok (answer.Statement (statement_rows ask.party (obligations ask.period (of_operator (operator_of_command told) (book_entries events)))))
+          → (verdict judge (known events) told).reply ≡ Ok (answer.Statement (statement_rows ask.party (obligations ask.period (of_operator (operator_of_command told) (book_entries events)))))
       given ask stated =
           ap (λ (v : Verdict). v.reply) judged
-          ∙ ap (λ (o : Outcome). (verdict_with config (of_operator (operator_of_command told) (book_entries events)) o).reply) (left_stated outcome ask (sym left ∙ stated))
+          ∙ ap (λ (o : Outcome). (verdict_with judge (of_operator (operator_of_command told) (book_entries events)) o).reply) (left_stated outcome ask (sym left ∙ stated))
 
-      by : (ask : StatementOf) → told ≡ command.Statement ask → {rows : Answer} → (verdict config (known events) told).reply ≡ Ok rows → ask.period < period_of events
-      by ask same {rows} reply = closed_where_given config events ask rows (subst (λ (c : Command). (verdict config (known events) c).reply ≡ Ok rows) same reply)
+      by : (ask : StatementOf) → told ≡ command.Statement ask → {rows : Answer} → (verdict judge (known events) told).reply ≡ Ok rows → ask.period < period_of events
+      by ask same {rows} reply = closed_where_given judge events ask rows (subst (λ (c : Command). (verdict judge (known events) c).reply ≡ Ok rows) same reply)
 
 -- a house is kept, whether the command was reached or memory was refused
-module _ (config : Config) (books now_books : List PlainBook) (accounts now_accounts : List PlainAccount) (order now_order : PlainOrder) (told : Command)
+module _ (judge config : Config) (books now_books : List PlainBook) (accounts now_accounts : List PlainAccount) (order now_order : PlainOrder) (told : Command)
     (laws : OrdersAreResolved) (was : IsKept config books accounts order) where
   resolves : (events : List Event) → AreKept config now_books now_accounts now_order events → kept_events now_books now_accounts now_order ≡ events
   resolves events kept = kept_is config (entries_of_books now_books) (entries_of_accounts now_accounts) now_order.entries events laws kept
@@ -202,10 +205,10 @@ module _ (config : Config) (books now_books : List PlainBook) (accounts now_acco
   still err = kept_still config _ _ _ _ _ _ _ was err.books_are err.accounts_are err.order_is
 
   abbrev KeepsOn : Decided → Type 0
-  KeepsOn decided = (events : List Event) → AreKept config books accounts order events → AreKept config now_books now_accounts now_order (events_after config events told)
+  KeepsOn decided = (events : List Event) → AreKept config books accounts order events → AreKept config now_books now_accounts now_order (events_after judge events told)
 
   abbrev ReachesOn : Decided → Type 0
-  ReachesOn decided = (events : List Event) → AreKept config books accounts order events → IsReached config events told decided (events_after config events told)
+  ReachesOn decided = (events : List Event) → AreKept config books accounts order events → IsReached judge config events told decided (events_after judge events told)
 
   pub house_kept : {E : Type 0} (result : Result Decided E) → IfOk result KeepsOn → OnErr result (AreAsBefore books now_books accounts now_accounts order now_order)
       → IsKept config now_books now_accounts now_order
@@ -215,9 +218,9 @@ module _ (config : Config) (books now_books : List PlainBook) (accounts now_acco
   house_kept (Err e) kept err = subst (AreKept config now_books now_accounts now_order) (sym (resolves _ (still err))) (still err)
 
   pub house_reached : {E : Type 0} (result : Result Decided E) → IfOk result ReachesOn → IfOk result KeepsOn
-      → IfOk result (λ decided. IsReached config (kept_events books accounts order) told decided (kept_events now_books now_accounts now_order))
+      → IfOk result (λ decided. IsReached judge config (kept_events books accounts order) told decided (kept_events now_books now_accounts now_order))
   house_reached (Ok decided) reaches kept =
-      subst (IsReached config (kept_events books accounts order) told decided) (sym (resolves _ (kept (kept_events books accounts order) was)))
+      subst (IsReached judge config (kept_events books accounts order) told decided) (sym (resolves _ (kept (kept_events books accounts order) was)))
       (reaches (kept_events books accounts order) was)
   house_reached (Err e) reaches kept = tt
 

@@ -3,6 +3,7 @@ pub mod Dues
 pub mod Inner
 pub mod Kept
 pub mod EntryBooks
+pub mod Judging
 pub mod Order
 pub mod Places
 pub mod Resolved

@@ -1,9 +1,15 @@
 //! A house of books and accounts.
 
 ghost use Rattle.std.specs.Prelude.{◌≡◌, ◌↔◌, ◌-◌, true, [], length, slice_get, IfOk, Some};
+ghost use Rattle.cdr_checks.specs.Admission.{IsAdmitted};
+ghost use Rattle.plain_house.specs.House.{Does};
+ghost use Rattle.period_order.specs.Judging.{MayJudge};
 
 use super::last::is_last;
-use super::laws::{orders_are_counted, orders_resolve, resolving_is_unique, resolving_is_whole};
+use super::laws::{
+    configurations_judge_for_themselves, orders_are_counted, orders_resolve, resolving_is_unique,
+    resolving_is_whole,
+};
 use super::order::Order;
 use super::resolved::{ResolveFault, named, resolve};
 use cdr_checks::Command;
@@ -71,6 +77,13 @@ impl BookHouse {
         })
     }
 
+    /// The house's own configuration.
+    pub fn config(&self) -> &Config
+        ensures { result.now ≡ self.now.config }
+    {
+        &self.config
+    }
+
     /// The events so far, the first one first, as the order names them in books and accounts.
     pub fn events(&self, alloc: Global) -> Result<Vec<Event>, AllocError>
         ensures { IfOk result (λ events. events.items ≡ self.now.events) }
@@ -114,6 +127,29 @@ impl BookHouse {
         let (books, accounts) = (self.books.as_slice(), self.accounts.as_slice());
         is_last(books, accounts, &self.order, event)
     }
+
+    /// Replies to a command as the plain list does under `config`, and adds its event. The house keeps its own configuration, and
+    /// its list stays legal under that one. Where memory runs out, the house is as it was.
+    pub fn do_command_under(
+        &mut self,
+        config: &Config,
+        command: Command,
+    ) -> Result<Replied, Refused>
+        requires admitted { IsAdmitted config.now command }
+        requires judges { MayJudge config.now self.old.config }
+        ensures base { self.new.config ≡ self.old.config }
+        ensures does { Does config.now self.old.events command result self.new.events }
+    {
+        perform::perform(
+            *self.books.allocator(),
+            config,
+            &self.config,
+            &mut self.books,
+            &mut self.accounts,
+            &mut self.order,
+            command,
+        )
+    }
 }
 
 impl Sequential for BookHouse {
@@ -122,8 +158,10 @@ impl Sequential for BookHouse {
     ghost config = { λ house. house.config };
 
     fn do_command(&mut self, command: Command) -> Result<Replied, Refused> {
+        configurations_judge_for_themselves();
         perform::perform(
             *self.books.allocator(),
+            &self.config,
             &self.config,
             &mut self.books,
             &mut self.accounts,

@@ -11,6 +11,7 @@ use super::book_house::books;
 use super::book_house::keep::keep;
 use super::decided::Decided;
 use super::last::is_last;
+use super::laws::configurations_judge_for_themselves;
 use super::order::Order;
 use cdr_checks::Command;
 use ocpi_types::Config;
@@ -117,8 +118,10 @@ impl EntryBooks {
         ensures decided { IfOk result (λ decided. (events : List Event) → Keep self.old events → IsDecided self.old.config events command decided) }
         ensures kept { IfOk result (λ decided. (events : List Event) → Keep self.old events → Keep self.new (events_after self.old.config events command)) }
     {
+        configurations_judge_for_themselves();
+        let config = &self.config;
         let (books, accounts) = (&mut self.books, &mut self.accounts);
-        keep(&self.config, books, accounts, &mut self.order, command)
+        keep(config, config, books, accounts, &mut self.order, command)
     }
 
     /// The event is the last one.

@@ -2,6 +2,7 @@
 
 ghost use Rattle.period_order.specs.Decided.{OutcomesAreVerdicts};
 ghost use Rattle.period_order.specs.Dues.{BooksAreCollectable, CollectedOwesAlike, DuesAreOfOwnBooks};
+ghost use Rattle.period_order.specs.Judging.{ConfigurationsJudgeForThemselves, JudgedByOwnEntries};
 ghost use Rattle.period_order.specs.Kept.{EventsAreKept};
 ghost use Rattle.period_order.specs.Places.{OrdersAreCounted};
 ghost use Rattle.period_order.specs.Resolved.{OrdersAreResolved, PartiesStandAtTheirNumbers};
@@ -11,8 +12,9 @@ use cdr_checks::commands_have_parties;
 use netting_positions::{joined_lists_owe_alike, operators_owe_alike};
 use operator_book::sums_owe_alike;
 use plain_house::{
-    commands_keep_lists_legal, events_are_of_configured, events_are_of_their_command,
-    legal_lists_can_be_netted,
+    accounts_are_of_own_entries, books_are_of_own_entries, commands_keep_lists_legal,
+    events_are_of_configured, events_are_of_their_command, exposure_is_of_own_entries,
+    exposure_with_charge_is_of_own_entries, legal_lists_can_be_netted,
 };
 
 /// The order of a legal list, resolved in its books and accounts, is the list.
@@ -63,6 +65,21 @@ pub fn events_are_kept()
     commands_have_parties();
     commands_keep_lists_legal();
     events_are_of_their_command();
+}
+
+/// A configuration may judge the commands of a house of its own.
+pub fn configurations_judge_for_themselves()
+    ensures { ConfigurationsJudgeForThemselves }
+{}
+
+/// On a legal list a verdict under any configuration is decided by the entries of the command's own operator and provider.
+pub(crate) fn judged_by_own_entries()
+    ensures { JudgedByOwnEntries }
+{
+    accounts_are_of_own_entries();
+    books_are_of_own_entries();
+    exposure_is_of_own_entries();
+    exposure_with_charge_is_of_own_entries();
 }
 
 /// What the operators of a legal list are owed of a period can be collected book by book, and they owe alike with what the list

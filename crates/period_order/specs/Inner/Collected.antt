@@ -82,12 +82,13 @@ without_event (outcome.Replied reply event) = outcome.Replied reply None
 without_event (outcome.Closed period) = outcome.Closed period
 without_event (outcome.Stated ask) = outcome.Stated ask
 
--- the command has its place in the order and the list has its event; with what is left to be collected its reply is the verdict's
-pub record IsReached (config : Config) (events : List Event) (command : Command) (decided : Decided) (now : List Event) : Type 0 where
+-- the command has its place in the order and the list has its event; with what is left to be collected under `base`, its reply is
+-- that of the verdict under `config`
+pub record IsReached (config base : Config) (events : List Event) (command : Command) (decided : Decided) (now : List Event) : Type 0 where
   pub point_is : decided.point ≡ length events
-  pub reply_is : (verdict config (known events) command).reply ≡ (verdict_with config (book_entries now) decided.outcome).reply
+  pub reply_is : (verdict config (known events) command).reply ≡ (verdict_with base (book_entries now) decided.outcome).reply
   pub now_is : now ≡ with_event events (verdict config (known events) command).event
-  pub table_is : IsTableFor config decided.outcome (table_of config command)
+  pub table_is : IsTableFor base decided.outcome (table_of base command)
   -- net positions are left where the current period is closed, and rows where a statement of a closed one is given
   pub closes : (period : ℕ) → decided.outcome ≡ outcome.Closed period → (verdict config (known events) command).event ≡ Some (event.Closed period)
   pub states : (ask : StatementOf) → decided.outcome ≡ outcome.Stated ask → (command ≡ StatementCommand ask) × (ask.period < period_of events)

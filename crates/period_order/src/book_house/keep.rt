@@ -7,6 +7,7 @@ ghost use Rattle.plain_house.specs.Entries.{account_entry, book_entry};
 ghost use Rattle.plain_house.specs.House.{events_after};
 ghost use Rattle.period_order.specs.Decided.{event_of};
 ghost use Rattle.period_order.specs.Inner.Collected.{IsReached, without_event};
+ghost use Rattle.period_order.specs.Judging.{MayJudge};
 ghost use Rattle.period_order.specs.Kept.{account_number, book_number, with_added};
 ghost use Rattle.period_order.specs.Inner.Kept.{AccountHasRoom, AccountTakesAt, AreAsBefore, AreKept, BookHasRoom, BookTakesAt, OneEach, with_event_added};
 ghost use Rattle.period_order.specs.Resolved.{entries_of_accounts, entries_of_books};
@@ -14,6 +15,7 @@ ghost use Rattle.period_order.specs.Resolved.{entries_of_accounts, entries_of_bo
 use super::books::{account_at, book_at, reserve_account, reserve_book};
 use crate::decided::{Decided, Outcome};
 use crate::decision::decide;
+use crate::laws::judged_by_own_entries;
 use crate::numbers::{operator_number, provider_number};
 use crate::order::Order;
 use crate::puts::{put_in_account, put_in_book};
@@ -22,7 +24,6 @@ use ocpi_types::Config;
 use operator_book::Book;
 use plain_house::{
     Event, commands_keep_lists_legal, entries_are_dated, events_are_of_their_command,
-    verdicts_are_of_own_entries,
 };
 use provider_account::Account;
 use std::alloc::AllocError;
@@ -129,32 +130,34 @@ fn parted(outcome: Outcome) -> (Outcome, Option<Event>)
     }
 }
 
-/// Gives the command its place in the order and puts its event, where there is memory for it: behind each legal list that
-/// books, accounts and order keep.
+/// Decides the command by `config`, gives it its place in the order and puts its event, where there is memory for it: behind each
+/// list that is legal under `base` and that books, accounts and order keep.
 pub fn keep(
     config: &Config,
+    base: &Config,
     books: &mut Vec<Book>,
     accounts: &mut Vec<Account>,
     order: &mut Order,
     command: Command,
 ) -> Result<Decided, AllocError>
     requires admitted { IsAdmitted config.now command }
-    requires each { OneEach config.now (entries_of_books books.old.items) (entries_of_accounts accounts.old.items) }
-    ensures each { OneEach config.now (entries_of_books books.new.items) (entries_of_accounts accounts.new.items) }
-    ensures ok { IfOk result (λ decided. (events : List Event) → AreKept config.now books.old.items accounts.old.items order.old events →
-        IsReached config.now events command decided (events_after config.now events command)) }
-    ensures kept { IfOk result (λ decided. (events : List Event) → AreKept config.now books.old.items accounts.old.items order.old events →
-        AreKept config.now books.new.items accounts.new.items order.new (events_after config.now events command)) }
+    requires judges { MayJudge config.now base.now }
+    requires each { OneEach base.now (entries_of_books books.old.items) (entries_of_accounts accounts.old.items) }
+    ensures each { OneEach base.now (entries_of_books books.new.items) (entries_of_accounts accounts.new.items) }
+    ensures ok { IfOk result (λ decided. (events : List Event) → AreKept base.now books.old.items accounts.old.items order.old events →
+        IsReached config.now base.now events command decided (events_after config.now events command)) }
+    ensures kept { IfOk result (λ decided. (events : List Event) → AreKept base.now books.old.items accounts.old.items order.old events →
+        AreKept base.now books.new.items accounts.new.items order.new (events_after config.now events command)) }
     ensures err { OnErr result (AreAsBefore books.old.items books.new.items accounts.old.items accounts.new.items order.old order.new) }
 {
     commands_have_parties();
     commands_keep_lists_legal();
     entries_are_dated();
     events_are_of_their_command();
-    verdicts_are_of_own_entries();
-    config.has_distinct_parts();
-    let book = book_number(config, &command);
-    let account = account_number(config, &command);
+    judged_by_own_entries();
+    base.has_distinct_parts();
+    let book = book_number(base, &command);
+    let account = account_number(base, &command);
     reserve(books, book, accounts, account, order)?;
     let given_book = book_at(books.as_slice(), book);
     let given_account = account_at(accounts.as_slice(), account);

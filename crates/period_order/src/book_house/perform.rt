@@ -5,6 +5,7 @@ ghost use Rattle.cdr_checks.specs.Admission.{IsAdmitted};
 ghost use Rattle.plain_house.specs.House.{Does};
 ghost use Rattle.period_order.specs.Inner.Collected.{IsReached};
 ghost use Rattle.period_order.specs.Inner.Kept.{IsKept, kept_events};
+ghost use Rattle.period_order.specs.Judging.{MayJudge};
 
 use super::collect::collected_reply;
 use super::collectable::kept_books_are_collectable;
@@ -24,47 +25,52 @@ use std::alloc::{AllocError, Global};
 // Gives the command its place behind the events of the house.
 fn reach(
     config: &Config,
+    base: &Config,
     books: &mut Vec<Book>,
     accounts: &mut Vec<Account>,
     order: &mut Order,
     command: Command,
 ) -> Result<Decided, AllocError>
     requires admitted { IsAdmitted config.now command }
-    requires kept { IsKept config.now books.old.items accounts.old.items order.old }
-    ensures kept { IsKept config.now books.new.items accounts.new.items order.new }
-    ensures ok { IfOk result (λ decided. IsReached config.now (kept_events books.old.items accounts.old.items order.old) command decided
+    requires judges { MayJudge config.now base.now }
+    requires kept { IsKept base.now books.old.items accounts.old.items order.old }
+    ensures kept { IsKept base.now books.new.items accounts.new.items order.new }
+    ensures ok { IfOk result (λ decided. IsReached config.now base.now (kept_events books.old.items accounts.old.items order.old) command decided
         (kept_events books.new.items accounts.new.items order.new)) }
     ensures err { OnErr result (kept_events books.new.items accounts.new.items order.new ≡ kept_events books.old.items accounts.old.items order.old) }
 {
     orders_are_resolved();
-    keep(config, books, accounts, order, command)
+    keep(config, base, books, accounts, order, command)
 }
 
-/// Replies to a command and adds its event. All memory is taken before the command has its place in the order.
+/// Replies to a command by `config` and adds its event, in a house whose list is legal under `base`. All memory is taken before
+/// the command has its place in the order.
 pub fn perform(
     alloc: Global,
     config: &Config,
+    base: &Config,
     books: &mut Vec<Book>,
     accounts: &mut Vec<Account>,
     order: &mut Order,
     command: Command,
 ) -> Result<Replied, Refused>
     requires admitted { IsAdmitted config.now command }
-    requires kept { IsKept config.now books.old.items accounts.old.items order.old }
-    ensures kept { IsKept config.now books.new.items accounts.new.items order.new }
+    requires judges { MayJudge config.now base.now }
+    requires kept { IsKept base.now books.old.items accounts.old.items order.old }
+    ensures kept { IsKept base.now books.new.items accounts.new.items order.new }
     ensures does { Does config.now (kept_events books.old.items accounts.old.items order.old) command result
         (kept_events books.new.items accounts.new.items order.new) }
 {
     sums_decide_net_positions();
     sums_decide_statements();
     verdicts_are_told();
-    let Ok(table) = Table::new(alloc, config, &command) else {
+    let Ok(table) = Table::new(alloc, base, &command) else {
         return Err(out_of_memory());
     };
-    let Ok(decided) = reach(config, books, accounts, order, command) else {
+    let Ok(decided) = reach(config, base, books, accounts, order, command) else {
         return Err(out_of_memory());
     };
-    kept_books_are_collectable(config, books.as_slice(), accounts.as_slice(), order);
-    let reply = collected_reply(config, books.as_slice(), table, decided.outcome);
+    kept_books_are_collectable(base, books.as_slice(), accounts.as_slice(), order);
+    let reply = collected_reply(base, books.as_slice(), table, decided.outcome);
     stamped(decided.point, reply)
 }

@@ -13,6 +13,7 @@ use Rattle.period_order.specs.Order.{current_of}
 use Rattle.period_order.specs.Inner.Kept.{AccountTakesAt, AreKept, BookTakesAt, with_event_added}
 use Rattle.period_order.specs.Resolved.{entries_of_accounts, entries_of_books}
 use Rattle.period_order.proofs.EachLemmas.{account_within, book_within, is_given_account, is_given_book, length_event_added}
+use Rattle.period_order.proofs.JudgingLemmas.{has_parties}
 use Rattle.period_order.proofs.PerformLemmas.{decides_given, event_reached, keeps_put, kept_still, ordered_given, some_copied}
 use Rattle.period_order.proofs.ReachedLemmas.{reached}
 use Rattle.period_order.proofs.book_house.keep.keep.Goals as goal
@@ -20,41 +21,41 @@ use Rattle.period_order.proofs.book_house.keep.keep.Goals.{After-put}
 
 pub reserve-requires-clause-book : goal.reserve-requires-clause-book
 reserve-requires-clause-book c =
-    let parties = c.commands_have_parties.ensures c.args.config.now c.args.command c.requires.admitted in
+    let parties = has_parties c.args.config.now c.args.base.now c.requires.judges c.args.command (c.commands_have_parties.ensures c.args.config.now c.args.command c.requires.admitted) in
     subst (λ (o : Option ℕ). IfSome o (λ n. n < length c.args.books.now.items)) (sym c.book_number-book.ensures)
-    (book_within c.args.config.now c.args.command parties c.args.books.now.items c.requires.each.of_operators)
+    (book_within c.args.base.now c.args.command parties c.args.books.now.items c.requires.each.of_operators)
 
 pub reserve-requires-clause-account : goal.reserve-requires-clause-account
 reserve-requires-clause-account c =
-    let parties = c.commands_have_parties.ensures c.args.config.now c.args.command c.requires.admitted in
+    let parties = has_parties c.args.config.now c.args.base.now c.requires.judges c.args.command (c.commands_have_parties.ensures c.args.config.now c.args.command c.requires.admitted) in
     subst (λ (o : Option ℕ). IfSome o (λ n. n < length c.args.accounts.now.items)) (sym c.account_number-account.ensures)
-    (account_within c.args.config.now c.args.command parties c.args.accounts.now.items c.requires.each.of_providers)
+    (account_within c.args.base.now c.args.command parties c.args.accounts.now.items c.requires.each.of_providers)
 
 pub decide-point-requires-clause-book : goal.decide-point-requires-clause-book
 decide-point-requires-clause-book c =
-    let parties = c.commands_have_parties.ensures c.args.config.now c.args.command c.requires.admitted in
+    let parties = has_parties c.args.config.now c.args.base.now c.requires.judges c.args.command (c.commands_have_parties.ensures c.args.config.now c.args.command c.requires.admitted) in
     some_copied c.book_at-given_book.result
     ∙ ap is_some (c.book_at-given_book.ensures ∙ ap₂ (λ l (o : Option ℕ). option_and_then (slice_get l) o) c.as_slice.ensures.value c.book_number-book.ensures)
-    ∙ is_given_book c.args.config.now c.args.command parties c.reserve.new.books.items (ap length c.reserve.ensures.books ∙ c.requires.each.of_operators)
+    ∙ is_given_book c.args.base.now c.args.command parties c.reserve.new.books.items (ap length c.reserve.ensures.books ∙ c.requires.each.of_operators)
 
 pub decide-point-requires-clause-account : goal.decide-point-requires-clause-account
 decide-point-requires-clause-account c =
-    let parties = c.commands_have_parties.ensures c.args.config.now c.args.command c.requires.admitted in
+    let parties = has_parties c.args.config.now c.args.base.now c.requires.judges c.args.command (c.commands_have_parties.ensures c.args.config.now c.args.command c.requires.admitted) in
     some_copied c.account_at-given_account.result
     ∙ ap is_some (c.account_at-given_account.ensures ∙ ap₂ (λ l (o : Option ℕ). option_and_then (slice_get l) o) c.as_slice-2.ensures.value c.account_number-account.ensures)
-    ∙ is_given_account c.args.config.now c.args.command parties c.reserve.new.accounts.items (ap length c.reserve.ensures.accounts ∙ c.requires.each.of_providers)
+    ∙ is_given_account c.args.base.now c.args.command parties c.reserve.new.accounts.items (ap length c.reserve.ensures.accounts ∙ c.requires.each.of_providers)
 
 pub put-requires-clause-book : goal.put-requires-clause-book
 put-requires-clause-book c =
-    let parties = c.commands_have_parties.ensures c.args.config.now c.args.command c.requires.admitted in
+    let parties = has_parties c.args.config.now c.args.base.now c.requires.judges c.args.command (c.commands_have_parties.ensures c.args.config.now c.args.command c.requires.admitted) in
     subst (λ (o : Option ℕ). IfSome o (λ n. n < length c.reserve.new.books.items)) (sym c.book_number-book.ensures)
-    (book_within c.args.config.now c.args.command parties c.reserve.new.books.items (ap length c.reserve.ensures.books ∙ c.requires.each.of_operators))
+    (book_within c.args.base.now c.args.command parties c.reserve.new.books.items (ap length c.reserve.ensures.books ∙ c.requires.each.of_operators))
 
 pub put-requires-clause-account : goal.put-requires-clause-account
 put-requires-clause-account c =
-    let parties = c.commands_have_parties.ensures c.args.config.now c.args.command c.requires.admitted in
+    let parties = has_parties c.args.config.now c.args.base.now c.requires.judges c.args.command (c.commands_have_parties.ensures c.args.config.now c.args.command c.requires.admitted) in
     subst (λ (o : Option ℕ). IfSome o (λ n. n < length c.reserve.new.accounts.items)) (sym c.account_number-account.ensures)
-    (account_within c.args.config.now c.args.command parties c.reserve.new.accounts.items (ap length c.reserve.ensures.accounts ∙ c.requires.each.of_providers))
+    (account_within c.args.base.now c.args.command parties c.reserve.new.accounts.items (ap length c.reserve.ensures.accounts ∙ c.requires.each.of_providers))
 
 pub returns-clause-each : goal.returns-clause-each
 returns-clause-each c = record {
@@ -70,45 +71,46 @@ returns-clause-each c = record {
 
 -- the events that are kept before the command has its place in the order
 abbrev Before : (c : After-put) → List Event → Type 0
-Before c events = AreKept c.args.config.now c.args.books.now.items c.args.accounts.now.items c.args.order.now events
+Before c events = AreKept c.args.base.now c.args.books.now.items c.args.accounts.now.items c.args.order.now events
 
 abbrev before : (c : After-put) (events : List Event) → Before c events
-    → Keeps c.args.config.now (entries_of_books c.reserve.new.books.items) (entries_of_accounts c.reserve.new.accounts.items) c.reserve.new.order.entries events
-before c events keeps = kept_still c.args.config.now _ _ _ _ _ _ _ keeps c.reserve.ensures.books c.reserve.ensures.accounts c.reserve.ensures.order
+    → Keeps c.args.base.now (entries_of_books c.reserve.new.books.items) (entries_of_accounts c.reserve.new.accounts.items) c.reserve.new.order.entries events
+before c events keeps = kept_still c.args.base.now _ _ _ _ _ _ _ keeps c.reserve.ensures.books c.reserve.ensures.accounts c.reserve.ensures.order
 
-parties : (c : After-put) → HasParties c.args.config.now c.args.command
-parties c = c.commands_have_parties.ensures c.args.config.now c.args.command c.requires.admitted
+parties : (c : After-put) → HasParties c.args.base.now c.args.command
+parties c = has_parties c.args.config.now c.args.base.now c.requires.judges c.args.command (c.commands_have_parties.ensures c.args.config.now c.args.command c.requires.admitted)
 
-book_is : (c : After-put) → option_copied c.book_at-given_book.result ≡ option_and_then (slice_get c.reserve.new.books.items) (book_number c.args.config.now c.args.command)
+book_is : (c : After-put) → option_copied c.book_at-given_book.result ≡ option_and_then (slice_get c.reserve.new.books.items) (book_number c.args.base.now c.args.command)
 book_is c = c.book_at-given_book.ensures ∙ ap₂ (λ l (o : Option ℕ). option_and_then (slice_get l) o) c.as_slice.ensures.value c.book_number-book.ensures
 
-account_is : (c : After-put) → option_copied c.account_at-given_account.result ≡ option_and_then (slice_get c.reserve.new.accounts.items) (account_number c.args.config.now c.args.command)
+account_is : (c : After-put) → option_copied c.account_at-given_account.result ≡ option_and_then (slice_get c.reserve.new.accounts.items) (account_number c.args.base.now c.args.command)
 account_is c = c.account_at-given_account.ensures ∙ ap₂ (λ l (o : Option ℕ). option_and_then (slice_get l) o) c.as_slice-2.ensures.value c.account_number-account.ensures
 
-decides : (c : After-put) → Decides c.args.config.now (option_and_then (slice_get c.reserve.new.books.items) (book_number c.args.config.now c.args.command))
-    (option_and_then (slice_get c.reserve.new.accounts.items) (account_number c.args.config.now c.args.command)) c.reserve.new.order c.args.command c.decide-point.result.outcome
+decides : (c : After-put) → Decides c.args.config.now (option_and_then (slice_get c.reserve.new.books.items) (book_number c.args.base.now c.args.command))
+    (option_and_then (slice_get c.reserve.new.accounts.items) (account_number c.args.base.now c.args.command)) c.reserve.new.order c.args.command c.decide-point.result.outcome
 decides c =
-    decides_given c.args.config.now c.reserve.new.books.items c.reserve.new.accounts.items c.reserve.new.order c.args.command _ _ c.decide-point.result.outcome c.decide-point.result.outcome (book_is c) (account_is c) refl c.decide-point.ensures.outcome
+    decides_given c.args.base.now c.args.config.now c.reserve.new.books.items c.reserve.new.accounts.items c.reserve.new.order c.args.command _ _ c.decide-point.result.outcome c.decide-point.result.outcome (book_is c) (account_is c) refl c.decide-point.ensures.outcome
 
 -- and behind it
 after : (c : After-put) (events : List Event) → Before c events
-    → Keeps c.args.config.now (entries_of_books c.put.new.books.items) (entries_of_accounts c.put.new.accounts.items) c.decide-point.new.order.entries
+    → Keeps c.args.base.now (entries_of_books c.put.new.books.items) (entries_of_accounts c.put.new.accounts.items) c.decide-point.new.order.entries
     (with_event events (event_of c.decide-point.result.outcome))
 after c events keeps =
-    let config = c.args.config.now in
+    let judge = c.args.config.now in
+    let config = c.args.base.now in
     let books = c.reserve.new.books.items in
     let accounts = c.reserve.new.accounts.items in
     let order = c.reserve.new.order in
     let told = c.args.command in
     let reached = c.decide-point.result.outcome in
-    let ordered = ordered_given config books accounts order told _ _ reached reached _ (book_is c) (account_is c) refl c.decide-point.ensures.order in
+    let ordered = ordered_given config judge books accounts order told _ _ reached reached _ (book_is c) (account_is c) refl c.decide-point.ensures.order in
     let now_books = c.put.ensures.books
     ∙ ap₂ (λ (o : Option ℕ) n. with_event_added (entries_of_books books) o (λ e. book_entry e n) c.parted-outcome.result.1) c.book_number-book.ensures c.decide-point.ensures.period
     ∙ ap (with_event_added (entries_of_books books) (book_number config told) (λ e. book_entry e (current_of order))) c.parted-outcome.ensures.event in
     let now_accounts = c.put.ensures.accounts
     ∙ ap₂ (λ (o : Option ℕ) n. with_event_added (entries_of_accounts accounts) o (λ e. account_entry e n) c.parted-outcome.result.1) c.account_number-account.ensures c.decide-point.ensures.period
     ∙ ap (with_event_added (entries_of_accounts accounts) (account_number config told) (λ e. account_entry e (current_of order))) c.parted-outcome.ensures.event in
-    keeps_put config books accounts order events (before c events keeps) told (parties c) reached (decides c) c.verdicts_are_of_own_entries.ensures _ _ _
+    keeps_put config books accounts order events (before c events keeps) told (parties c) judge reached (decides c) c.judged_by_own_entries.ensures _ _ _ c.requires.judges
     c.events_are_of_their_command.ensures c.commands_keep_lists_legal.ensures c.requires.admitted c.has_distinct_parts.ensures.operators c.has_distinct_parts.ensures.providers now_books now_accounts ordered
 
 -- the event is that of the verdict
@@ -116,18 +118,18 @@ now_is : (c : After-put) (events : List Event) → Before c events
     → events_after c.args.config.now events c.args.command ≡ with_event events (event_of c.decide-point.result.outcome)
 now_is c events keeps =
     ap (with_event events)
-    (event_reached c.args.config.now c.reserve.new.books.items c.reserve.new.accounts.items c.reserve.new.order events (before c events keeps) c.args.command (parties c)
-    c.decide-point.result.outcome (decides c) c.verdicts_are_of_own_entries.ensures)
+    (event_reached c.args.base.now c.reserve.new.books.items c.reserve.new.accounts.items c.reserve.new.order events (before c events keeps) c.args.command (parties c)
+    c.args.config.now c.decide-point.result.outcome (decides c) c.judged_by_own_entries.ensures)
 
 pub returns-clause-kept : goal.returns-clause-kept
 returns-clause-kept c = λ events keeps.
-    subst (Keeps c.args.config.now (entries_of_books c.put.new.books.items) (entries_of_accounts c.put.new.accounts.items) c.decide-point.new.order.entries)
+    subst (Keeps c.args.base.now (entries_of_books c.put.new.books.items) (entries_of_accounts c.put.new.accounts.items) c.decide-point.new.order.entries)
     (sym (now_is c events keeps)) (after c events keeps)
 
 pub returns-clause-ok : goal.returns-clause-ok
 returns-clause-ok c = λ events keeps.
-    reached c.args.config.now c.reserve.new.books.items c.reserve.new.accounts.items c.reserve.new.order events (before c events keeps) c.args.command (parties c) c.decide-point.result.outcome (decides c)
-    c.verdicts_are_of_own_entries.ensures c.entries_are_dated.ensures
+    reached c.args.base.now c.reserve.new.books.items c.reserve.new.accounts.items c.reserve.new.order events (before c events keeps) c.args.command (parties c) c.args.config.now c.decide-point.result.outcome (decides c)
+    c.judged_by_own_entries.ensures c.requires.judges c.entries_are_dated.ensures
     (record { point = c.decide-point.result.point; period = c.decide-point.result.period; outcome = c.parted-outcome.result.0 }) _
     c.decide-point.ensures.point c.parted-outcome.ensures.left (now_is c events keeps)
 
