@@ -1,7 +1,7 @@
 //! Why a store is not opened, or a kept house ended before its reader did.
 
 ghost use Rattle.std.specs.Prelude.{◌≡◌};
-ghost use Rattle.kept_house.specs.declared.fault.StoreFault.TheVariants.{Keep};
+ghost use Rattle.kept_house.specs.declared.fault.StoreFault.TheVariants.{Config, Keep};
 ghost use Rattle.kept_answers.specs.declared.fault.KeepFault.TheVariants.{NoMemory};
 ghost use Rattle.kept_answers.specs.Faults.{of_disk};
 
@@ -22,7 +22,7 @@ pub enum StoreFault {
     #[error("{0}")]
     Config(ConfigFault),
 
-    /// The store began under another configuration: this is the first member that differs.
+    /// Another configuration than the given one is in force after the kept lines: this is the first member that differs.
     #[error("another configuration: {}", .0.key())]
     OtherConfig(Name),
 
@@ -48,6 +48,14 @@ impl From<KeepError> for StoreFault {
 
     fn from(error: KeepError) -> Self {
         StoreFault::Keep(KeepFault::from(error))
+    }
+}
+
+impl From<ConfigFault> for StoreFault {
+    ghost from_gives = { λ cause fault. fault ≡ Config cause };
+
+    fn from(cause: ConfigFault) -> Self {
+        StoreFault::Config(cause)
     }
 }
 

@@ -3,23 +3,24 @@
 ghost use Rattle.std.specs.Prelude.{◌≡◌, ◌≤◌, ◌^◌, [], ℕ, List, IsTrue, IfOk, OnOk, Ok};
 ghost use Rattle.sqlite_disk.specs.Disk.{Only};
 ghost use Rattle.kept_lines.specs.File.{IsLine, kept_in};
+ghost use Rattle.ocpi_types.specs.declared.config.Config.{Config as ConfigValue};
 ghost use Rattle.ocpi_types.specs.ConfigText.{config_of};
 ghost use Rattle.request_lines.specs.Lines.{AreLines};
-ghost use Rattle.request_lines.specs.Script.{script_rule};
+ghost use Rattle.line_streams.specs.State.{empty_under, state_of};
+ghost use Rattle.line_streams.specs.Stream.{stream_rule};
 ghost use Rattle.kept_answers.specs.Keeping.{IsAllKept, IsKept};
-ghost use Rattle.kept_house.specs.Keeping.{IsHouseAllKept, IsHouseKept, IsScriptAllKept, IsScriptKept};
+ghost use Rattle.kept_house.specs.Keeping.{IsHouseAllKept, IsHouseKept, IsStreamAllKept, IsStreamKept};
 
 use crate::beginning::{Begun, begin};
-use crate::config_members::first_difference;
+use crate::differences::first_difference;
 use crate::fault::StoreFault;
-use kept_answers::{Ended, keep};
-use ocpi_json::Room;
-use ocpi_types::{Config, TryCopy};
-use period_order::BookHouse;
-use plain_house::Sequential;
-use request_lines::{Once, Scripted, Sink, Source};
+use kept_answers::{Ended, Gate, KeepFault, keep};
+use line_streams::Stream;
+use ocpi_json::name::Name;
+use ocpi_types::Config;
+use request_lines::{Sink, Source};
 use sqlite_disk::Disk;
-use std::alloc::{AllocError, Global};
+use std::alloc::Global;
 use std::mem;
 
 /// How a kept house ended, and its disk.
@@ -29,49 +30,69 @@ pub struct Kept<D: Disk> {
     pub result: Result<(), StoreFault>,
 }
 
-/// Keeps and answers the lines of a store that has begun, as `kept_answers::keep` does, by a house: its answers are those of a script.
-pub fn keep_script<D: Disk, R: Source, W: Sink, S: Sequential>(
+/// A gate that opens if the configuration in force is the given one.
+#[derive(Drop)]
+struct SameConfig<'a> {
+    given: &'a Config,
+    /// The first member that differs.
+    difference: Option<Name>,
+}
+
+impl<'a> Gate<Stream> for SameConfig<'a> {
+    fn opens(&mut self, stream: &Stream) -> bool {
+        self.difference = first_difference(self.given, stream.config());
+        self.difference.is_none()
+    }
+}
+
+/// Returns why the stream ended: if the gate did not open, the member that differs.
+fn fault_of(fault: KeepFault, difference: Option<Name>) -> StoreFault {
+    match (fault, difference) {
+        (KeepFault::Stopped, Some(name)) => StoreFault::OtherConfig(name),
+        (fault, _) => StoreFault::Keep(fault),
+    }
+}
+
+/// Keeps and answers the lines of a store that has begun, as `kept_answers::keep` does, by a stream.
+fn keep_stream<D: Disk, R: Source, W: Sink, G: Gate<Stream>>(
     alloc: Global,
     disk: D,
     from: Option<u64>,
     reader: &mut R,
     writer: &mut W,
-    config: &Config,
-    house: &mut S,
+    stream: &mut Stream,
+    gate: &mut G,
 ) -> Ended<D>
     requires usable { IsTrue (D.Disk.is_usable disk) }
     requires durable { Only (D.Disk.seen disk) (D.Disk.may_leave disk) }
-    requires same { S.config house.old ≡ config.now }
     ensures told { (calls : ℕ) × (bytes : List ℕ) × (whole : List (List ℕ)) × (part : List ℕ) × (sent : List ℕ) × (calls ≤ 2 ^ 40)
         × R.reading.gives reader.old calls bytes reader.new × AreLines bytes whole part × W.writing.takes writer.old sent writer.new
-        × (IsTrue (D.Disk.is_clean result.disk) → IsKept (script_rule config.now) (S.events house.old) (D.Disk.may_leave result.disk) (kept_in (D.Disk.seen disk)) whole from sent
+        × (IsTrue (D.Disk.is_clean result.disk) → IsKept stream_rule (state_of stream.old) (D.Disk.may_leave result.disk) (kept_in (D.Disk.seen disk)) whole from sent
         × OnOk result.result ((part ≡ []) × R.reading.at_end reader.new
-        × IsAllKept (script_rule config.now) (S.events house.old) (D.Disk.seen result.disk) (kept_in (D.Disk.seen disk)) whole from sent (S.events house.new))) }
+        × IsAllKept stream_rule (state_of stream.old) (D.Disk.seen result.disk) (kept_in (D.Disk.seen disk)) whole from sent (state_of stream.new))) }
     ensures clean { IsTrue (D.Disk.is_clean result.disk) → IsTrue (D.Disk.is_clean disk) }
 {
-    let mut room = Room::new(alloc);
-    let mut scripted = Scripted {
-        config,
-        house,
-        room: &mut room,
-        way: &Once,
-    };
-    keep(alloc, disk, from, reader, writer, &mut scripted)
+    keep(alloc, disk, from, reader, writer, stream, gate)
 }
 
-/// An empty house of books under a configuration.
-pub fn new_house(alloc: Global, config: &Config) -> Result<BookHouse, AllocError>
-    ensures config { IfOk result (λ house. house.config ≡ config.now) }
-    ensures events { IfOk result (λ house. house.events ≡ []) }
+/// Returns an empty stream under the configuration of this text.
+///
+/// # Errors
+///
+/// `Config` if the text does not read, and `Keep` if an allocation fails.
+pub fn stream_under(alloc: Global, text: &[u8]) -> Result<Stream, StoreFault>
+    ensures { IfOk result (λ stream. (config : ConfigValue) × (config_of text.now ≡ Ok config) × (state_of stream ≡ empty_under config)) }
 {
-    BookHouse::new(alloc, config.copy(alloc)?)
+    let config = Config::read(alloc, text)?;
+    Ok(Stream::new(alloc, config)?)
 }
 
-/// Keeps and answers lines by an empty house under the configuration of this text.
+/// Keeps and answers lines by an empty stream under the configuration of this text, if the given one is in force after the kept lines.
 fn keep_under<D: Disk, R: Source, W: Sink>(
     alloc: Global,
     disk: D,
     text: &[u8],
+    given: &Config,
     from: Option<u64>,
     reader: &mut R,
     writer: &mut W,
@@ -80,34 +101,35 @@ fn keep_under<D: Disk, R: Source, W: Sink>(
     requires durable { Only (D.Disk.seen disk) (D.Disk.may_leave disk) }
     ensures told { (calls : ℕ) × (bytes : List ℕ) × (whole : List (List ℕ)) × (part : List ℕ) × (sent : List ℕ) × (calls ≤ 2 ^ 40)
         × R.reading.gives reader.old calls bytes reader.new × AreLines bytes whole part × W.writing.takes writer.old sent writer.new
-        × (IsTrue (D.Disk.is_clean result.disk) → IsScriptKept text.now (D.Disk.may_leave result.disk) (kept_in (D.Disk.seen disk)) whole from sent
+        × (IsTrue (D.Disk.is_clean result.disk) → IsStreamKept text.now (D.Disk.may_leave result.disk) (kept_in (D.Disk.seen disk)) whole from sent
         × OnOk result.result ((part ≡ []) × R.reading.at_end reader.new
-        × IsScriptAllKept text.now (D.Disk.seen result.disk) (kept_in (D.Disk.seen disk)) whole from sent)) }
+        × IsStreamAllKept text.now (D.Disk.seen result.disk) (kept_in (D.Disk.seen disk)) whole from sent)) }
     ensures clean { IsTrue (D.Disk.is_clean result.disk) → IsTrue (D.Disk.is_clean disk) }
 {
-    let config = match Config::read(alloc, text) {
-        Ok(config) => config,
-        Err(cause) => {
+    let mut stream = match stream_under(alloc, text) {
+        Ok(stream) => stream,
+        Err(fault) => {
             return Kept {
                 disk,
-                result: Err(StoreFault::Config(cause)),
+                result: Err(fault),
             };
         }
     };
-    let mut house = match new_house(alloc, &config) {
-        Ok(house) => house,
-        Err(error) => {
-            return Kept {
-                disk,
-                result: Err(StoreFault::from(error)),
-            };
-        }
+    let mut gate = SameConfig {
+        given,
+        difference: None,
     };
-    let Ended { disk, result } = keep_script(
-        alloc, disk, from, reader, writer, &config, &mut house,
+    let Ended { disk, result } = keep_stream(
+        alloc,
+        disk,
+        from,
+        reader,
+        writer,
+        &mut stream,
+        &mut gate,
     );
     // The process ends now, and the system takes its memory back at once.
-    mem::forget(house);
+    mem::forget(stream);
     match result {
         Ok(()) => Kept {
             disk,
@@ -115,27 +137,20 @@ fn keep_under<D: Disk, R: Source, W: Sink>(
         },
         Err(fault) => Kept {
             disk,
-            result: Err(StoreFault::from(fault)),
+            result: Err(fault_of(fault, gate.difference)),
         },
     }
 }
 
-/// Refuses a given configuration that does not read, or of which a member differs from the store's.
-fn same_config(alloc: Global, stored: &[u8], given: &[u8]) -> Result<(), StoreFault> {
-    match first_difference(alloc, stored, given)? {
-        None => Ok(()),
-        Some(name) => Err(StoreFault::OtherConfig(name)),
-    }
-}
-
-/// Keeps and answers lines in a store, by an empty house under the store's configuration; an empty store begins with the given one.
+/// Keeps and answers lines in a store, by a house of which lines may change the configuration. An empty store begins with the given
+/// configuration. Another store answers the lines that it keeps under its own, and goes on if the given configuration is then in force.
 /// What is kept and sent is as `kept_answers::keep` has it, after the record that begins the store.
 ///
 /// # Errors
 ///
-/// `Config` if the given configuration does not read, `OtherConfig` if the store has another one, `LaterFormat`, `NoStore`, and the
-/// errors of `kept_answers::keep`. What was sent begins the answers, and each content that a crash may leave has all lines whose
-/// answers were begun.
+/// `Config` if the given configuration does not read, `OtherConfig` if another one is in force after the kept lines, `LaterFormat`,
+/// `NoStore`, and the errors of `kept_answers::keep`. What was sent begins the answers, and each content that a crash may leave has all
+/// lines whose answers were begun.
 pub fn keep_house<D: Disk, R: Source, W: Sink>(
     alloc: Global,
     disk: D,
@@ -154,27 +169,21 @@ pub fn keep_house<D: Disk, R: Source, W: Sink>(
         × OnOk result.result ((part ≡ []) × R.reading.at_end reader.new
         × IsHouseAllKept program.now given.now (D.Disk.seen result.disk) (kept_in (D.Disk.seen disk)) whole from sent)) }
 {
-    if let Err(cause) = Config::read(alloc, given) {
-        return Kept {
-            disk,
-            result: Err(StoreFault::Config(cause)),
-        };
-    }
-    let Begun { disk, result } = begin(alloc, disk, program, given);
-    let text = match result {
-        Ok(text) => text,
-        Err(fault) => {
+    let ours = match Config::read(alloc, given) {
+        Ok(config) => config,
+        Err(cause) => {
             return Kept {
                 disk,
-                result: Err(fault),
+                result: Err(StoreFault::Config(cause)),
             };
         }
     };
-    if let Err(fault) = same_config(alloc, text.as_slice(), given) {
-        return Kept {
+    let Begun { disk, result } = begin(alloc, disk, program, given);
+    match result {
+        Ok(text) => keep_under(alloc, disk, text.as_slice(), &ours, from, reader, writer),
+        Err(fault) => Kept {
             disk,
             result: Err(fault),
-        };
+        },
     }
-    keep_under(alloc, disk, text.as_slice(), from, reader, writer)
 }

@@ -2,13 +2,16 @@
 #![tactic(auto)]
 
 mod beginning;
-mod config_members;
+mod clocks;
+mod differences;
 mod fault;
 mod keeping;
+mod laws;
 mod record;
 
 pub use beginning::{Begun, begin};
-pub use config_members::first_difference;
+pub use differences::first_difference;
 pub use fault::StoreFault;
-pub use keeping::{Kept, keep_house, keep_script, new_house};
-pub use record::{config_in, first_record};
+pub use keeping::{Kept, keep_house, stream_under};
+pub use laws::{streams_are_answered_one_way, streams_run_as_one};
+pub use record::{config_in, first_record, on_one_line};

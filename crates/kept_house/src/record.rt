@@ -20,8 +20,8 @@ fn in_line(byte: &u8) -> u8
     if *byte == b'\n' { b' ' } else { *byte }
 }
 
-/// A text without its newlines.
-pub(crate) fn on_one_line(alloc: Global, text: &[u8]) -> Result<Vec<u8>, AllocError>
+/// Returns a text with a space in the place of each newline.
+pub fn on_one_line(alloc: Global, text: &[u8]) -> Result<Vec<u8>, AllocError>
     ensures { IfOk result (λ copy. copy.items ≡ on_one_line text.now) }
 {
     text.iter().map(in_line).collect::<Vec<u8>>(alloc)

@@ -10,18 +10,13 @@ returns-in-Err g c = record {
   told = (0, [], [], [], [], omega arith, g.met.R.Source.gives_none _, no_lines, g.met.W.Sink.takes_none _, λ clean. (inl (refl, λ file left. inl (ap kept_in (c.requires.durable file left))), tt));
 }
 
-pub returns-in-Err-result : goal.returns-in-Err-result
-returns-in-Err-result g c = record {
-  told = (0, [], [], [], [], omega arith, g.met.R.Source.gives_none _, no_lines, g.met.W.Sink.takes_none _, λ clean. (inl (refl, c.begin-disk.ensures.any_moment clean), tt));
-}
-
-pub returns-in-Err-same_config : goal.returns-in-Err-same_config
-returns-in-Err-same_config g c = record {
-  told = (0, [], [], [], [], omega arith, g.met.R.Source.gives_none _, no_lines, g.met.W.Sink.takes_none _, λ clean. (inl (refl, c.begin-disk.ensures.any_moment clean), tt));
-}
-
 pub returns : goal.returns
-returns g c =
+returns g c = record {
+  told = (0, [], [], [], [], omega arith, g.met.R.Source.gives_none _, no_lines, g.met.W.Sink.takes_none _, λ clean. (inl (refl, c.begin-disk.ensures.any_moment clean), tt));
+}
+
+pub returns-in-Ok-result : goal.returns-in-Ok-result
+returns-in-Ok-result g c =
     let told = c.keep_under.ensures.told in record {
       told = (
         told.0,
@@ -35,10 +30,10 @@ returns g c =
         told.8,
         λ clean.
             let both = told.9 clean in
-            let text : List ℕ = c.as_slice-2.result.now in
+            let text : List ℕ = c.as_slice.result.now in
             let begun : HasBegun c.args.program.now c.args.given.now (kept_in (g.D.Disk.seen c.args.disk)) (kept_in (g.D.Disk.seen c.begin-disk.result.disk)) text =
-            subst (HasBegun c.args.program.now c.args.given.now (kept_in (g.D.Disk.seen c.args.disk)) (kept_in (g.D.Disk.seen c.begin-disk.result.disk))) (sym c.as_slice-2.ensures.value)
-            (IfOk-at_ok _ c.in-Ok.is c.begin-disk.ensures.ok (c.keep_under.ensures.clean clean)) in (
+            subst (HasBegun c.args.program.now c.args.given.now (kept_in (g.D.Disk.seen c.args.disk)) (kept_in (g.D.Disk.seen c.begin-disk.result.disk))) (sym c.as_slice.ensures.value)
+            (IfOk-at_ok _ c.in-Ok-result.is c.begin-disk.ensures.ok (c.keep_under.ensures.clean clean)) in (
               inr (_, text, begun, both.0),
               on_ok_then c.keep_under.result.result both.1 (λ all. (all.0, all.1, (_, text, begun, all.2))),
             ),

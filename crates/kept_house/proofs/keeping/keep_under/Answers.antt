@@ -8,9 +8,3 @@ returns-in-Err g c = record {
   told = (0, [], [], [], [], omega arith, g.met.R.Source.gives_none _, no_lines, g.met.W.Sink.takes_none _, λ clean. (inl (refl, λ file left. ap kept_in (c.requires.durable file left)), tt));
   clean = λ clean. clean;
 }
-
-pub returns-in-Err-new_house : goal.returns-in-Err-new_house
-returns-in-Err-new_house g c = record {
-  told = (0, [], [], [], [], omega arith, g.met.R.Source.gives_none _, no_lines, g.met.W.Sink.takes_none _, λ clean. (inl (refl, λ file left. ap kept_in (c.requires.durable file left)), tt));
-  clean = λ clean. clean;
-}

@@ -1,0 +1,22 @@
+//! What follows from the definitions.
+
+ghost use Rattle.kept_answers.specs.Runs.{IsDetermined};
+ghost use Rattle.line_streams.specs.Stream.{stream_rule};
+ghost use Rattle.kept_house.specs.Law.{StreamsRunAsOne};
+
+use line_streams::streams_are_determined;
+
+/// A stream answers lines in one way, and lines in turn.
+pub fn streams_are_answered_one_way()
+    ensures { IsDetermined stream_rule }
+{
+    streams_are_determined();
+}
+
+/// Over all runs of a stream, each after the crash that ended the one before, the client receives the answers to the kept lines: each
+/// once, in order, and of a line that the last crash left.
+pub fn streams_run_as_one()
+    ensures { StreamsRunAsOne }
+{
+    streams_are_answered_one_way();
+}
