@@ -2,7 +2,7 @@
 
 ghost use Rattle.kept_lines.specs.File.{IsLine};
 
-use crate::{check, keep, log, stream};
+use crate::{check, configure, keep, log, stream};
 use command_line::Fault;
 use std::process::ExitCode;
 
@@ -11,6 +11,7 @@ use std::process::ExitCode;
 pub enum Command {
     Keep,
     Stream,
+    Configure,
     Log,
     Check,
 }
@@ -21,6 +22,7 @@ impl Command {
         match name {
             "keep" => Some(Command::Keep),
             "stream" => Some(Command::Stream),
+            "configure" => Some(Command::Configure),
             "log" => Some(Command::Log),
             "check" => Some(Command::Check),
             _ => None,
@@ -43,6 +45,7 @@ impl Command {
         let status = match self {
             Command::Keep => keep::perform(rt, program, words)?,
             Command::Stream => stream::perform(rt, words)?,
+            Command::Configure => configure::perform(rt, words)?,
             Command::Log => log::perform(rt, words)?,
             Command::Check => check::perform(rt, words)?,
         };

@@ -43,10 +43,12 @@ fn tell_ended(rt: &HostRuntime, is_gone: &Cell<bool>, store: &str, fault: StoreF
             | KeepFault::Unended,
         )
         | StoreFault::Config(_) => eprintln!(rt; "clear: {fault}"),
-        StoreFault::Keep(_)
-        | StoreFault::OtherConfig(_)
-        | StoreFault::LaterFormat
-        | StoreFault::NoStore => eprintln!(rt; "clear: {store}: {fault}"),
+        StoreFault::OtherConfig(_) => eprintln!(rt;
+            "clear: {store}: {fault}; clear configure prints the line that changes it"
+        ),
+        StoreFault::Keep(_) | StoreFault::LaterFormat | StoreFault::NoStore => {
+            eprintln!(rt; "clear: {store}: {fault}")
+        }
     };
     1
 }

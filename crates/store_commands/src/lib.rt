@@ -1,8 +1,10 @@
-//! Commands over a store: a house whose lines are kept, and what a store keeps; and a stream that another engine keeps.
+//! Commands over a store: a house whose lines are kept, and what a store keeps; a stream that another engine keeps, and
+//! the line that changes a configuration.
 #![tactic(auto)]
 
 mod check;
 mod command;
+mod configure;
 mod keep;
 mod log;
 mod opening;

@@ -3,10 +3,8 @@
 use crate::reading::{MOST_LINES, ReadingFault, StoreReader, open_begun, tell_unread};
 use crate::words::{LogAsked, log_asked};
 use command_line::{Fault, Output};
-use kept_house::{StoreFault, new_house};
-use ocpi_json::Room;
-use ocpi_types::Config;
-use request_lines::{Answerer, Device, Once, Scripted, Sink, write_all};
+use kept_house::{StoreFault, stream_under};
+use request_lines::{Answerer, Device, Sink, write_all};
 use std::alloc::Global;
 use std::cell::Cell;
 
@@ -51,26 +49,15 @@ fn write_answers<W: Sink, A: Answerer>(
     Err(ReadingFault::Store(StoreFault::NoStore))
 }
 
-/// Writes each line and its answer by a house under the store's configuration.
+/// Writes each line and its answer by a stream that begins under the store's configuration.
 fn write_answered<W: Sink>(
     alloc: Global,
     reader: &mut StoreReader,
     text: &[u8],
     writer: &mut W,
 ) -> Result<(), ReadingFault> {
-    let config = match Config::read(alloc, text) {
-        Ok(config) => config,
-        Err(cause) => return Err(ReadingFault::Store(StoreFault::Config(cause))),
-    };
-    let mut house = new_house(alloc, &config)?;
-    let mut room = Room::new(alloc);
-    let mut scripted = Scripted {
-        config: &config,
-        house: &mut house,
-        room: &mut room,
-        way: &Once,
-    };
-    write_answers(alloc, reader, writer, &mut scripted)
+    let mut stream = stream_under(alloc, text)?;
+    write_answers(alloc, reader, writer, &mut stream)
 }
 
 /// Writes the lines of the store, with their answers if these are asked for.

@@ -46,6 +46,28 @@ pub fn keep_asked(words: &[String]) -> Result<KeepAsked<'_>, Fault<'static>>
     })
 }
 
+/// What `configure` is asked.
+#[derive(Clone, Copy)]
+pub struct ConfigureAsked<'a> {
+    /// The path of the new configuration.
+    pub config: &'a str,
+    /// The name of the platform that asks for it.
+    pub platform: &'a str,
+}
+
+/// What `configure` is asked; the command's name is the first of the words.
+pub fn configure_asked(words: &[String]) -> Result<ConfigureAsked<'_>, Fault<'static>>
+    ensures { IfErr result (λ fault. fault ≡ Fault.Usage) }
+{
+    let [_, config, platform] = words else {
+        return Err(Fault::Usage);
+    };
+    Ok(ConfigureAsked {
+        config: config.as_str(),
+        platform: platform.as_str(),
+    })
+}
+
 /// What `log` is asked.
 #[derive(Clone, Copy)]
 pub struct LogAsked<'a> {
