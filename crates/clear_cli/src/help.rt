@@ -53,6 +53,11 @@ const FILES: Argument = Argument::Given {
     help: "The paths of 1 to 128 files of request lines",
 };
 
+const PLATFORM: Argument = Argument::Given {
+    name: "PLATFORM",
+    help: "The name of the platform that asks for the change, a hub",
+};
+
 const TABLE: Argument = Argument::Option {
     name: "table",
     help: "Prints a table for a terminal; -table does so, too",
@@ -178,6 +183,13 @@ const STREAM: Entry = Entry {
     arguments: [Some(CONFIG), None, None],
 };
 
+const CONFIGURE: Entry = Entry {
+    name: "configure",
+    form: "clear configure CONFIG PLATFORM",
+    about: "Prints the line by which a hub changes the configuration to that of a file",
+    arguments: [Some(CONFIG), Some(PLATFORM), None],
+};
+
 const LOG: Entry = Entry {
     name: "log",
     form: "clear log STORE [--answers]",
@@ -193,12 +205,13 @@ const CHECK: Entry = Entry {
 };
 
 /// All commands, in the order of the help.
-const ENTRIES: [Entry; 14] = [
+const ENTRIES: [Entry; 15] = [
     SCRIPT,
     SCHEDULE,
     RUN,
     KEEP,
     STREAM,
+    CONFIGURE,
     LOG,
     CHECK,
     CHECK_CONFIG,
@@ -219,6 +232,7 @@ fn entry_of(name: &str) -> Option<Entry>
         "run" => Some(RUN),
         "keep" => Some(KEEP),
         "stream" => Some(STREAM),
+        "configure" => Some(CONFIGURE),
         "log" => Some(LOG),
         "check" => Some(CHECK),
         "check_config" => Some(CHECK_CONFIG),

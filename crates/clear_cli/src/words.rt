@@ -239,6 +239,7 @@ fn is_report(name: &str) -> bool
             | "re_rate"
             | "keep"
             | "stream"
+            | "configure"
             | "log"
             | "check"
     )
