@@ -77,7 +77,7 @@ const FROM: Argument = Argument::Value {
 const FROM_STORE: Argument = Argument::Value {
     name: "store",
     value: "STORE",
-    help: "Takes the lines that this store keeps, and not those of standard input",
+    help: "Takes the configuration and the lines of this store, in place of CONFIG and standard input",
 };
 
 const ANSWERS: Argument = Argument::Option {
@@ -129,21 +129,21 @@ const CHECK_CONFIG: Entry = Entry {
 
 const EXPLAIN_LINES: Entry = Entry {
     name: "explain_lines",
-    form: "clear explain_lines CONFIG [--store STORE] < LINES",
+    form: "clear explain_lines CONFIG < LINES",
     about: "Prints where and why request lines are refused, as CSV",
-    arguments: [Some(CONFIG), Some(FROM_STORE), None],
+    arguments: [Some(CONFIG), None, None],
 };
 
 const STATEMENTS: Entry = Entry {
     name: "statements",
-    form: "clear statements CONFIG [--store STORE] < LINES",
+    form: "clear statements CONFIG < LINES, or clear statements --store STORE",
     about: "Prints the order of events and the statements of closed periods, as CSV",
     arguments: [Some(CONFIG), Some(FROM_STORE), None],
 };
 
 const BALANCES: Entry = Entry {
     name: "balances",
-    form: "clear balances CONFIG [--table] [--store STORE] < LINES",
+    form: "clear balances CONFIG [--table] < LINES, or clear balances [--table] --store STORE",
     about: "Prints what is owed, settled and open, as CSV or as a table",
     arguments: [Some(CONFIG), Some(TABLE), Some(FROM_STORE)],
 };

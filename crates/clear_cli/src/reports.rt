@@ -3,6 +3,7 @@
 
 use crate::help::VERSION;
 use command_line::{Fault, only_word};
+use house_reports::Lines;
 use input_reports::{Records, print_amount, print_explanation, tell_config};
 use ocpi_types::Zone;
 use re_rating::re_rate;
@@ -80,6 +81,23 @@ fn tell_costs(
     }
 }
 
+// Reports of the house of the store at this path.
+fn report_store<'a>(
+    rt: &HostRuntime,
+    command: house_reports::Command,
+    options: &[String],
+    store: &'a str,
+) -> Result<ExitCode, Fault<'a>> {
+    match StoreText::open(rt, store) {
+        Ok((text, config)) => {
+            let config = config.as_slice();
+            let lines = Lines::Stream { config };
+            command.done(rt, options, lines, &mut Device::new(text))
+        }
+        Err(fault) => Ok(ExitCode::from(tell_unread(rt, false, store, fault))),
+    }
+}
+
 // Reports of a house after the lines of standard input, or of the store that the last two words name.
 fn report_house<'a>(
     rt: &HostRuntime,
@@ -87,13 +105,15 @@ fn report_house<'a>(
     words: &'a [String],
 ) -> Result<ExitCode, Fault<'a>> {
     match words {
-        [first @ .., option, store] if option.as_str() == "--store" => {
-            match StoreText::open(rt, store.as_str()) {
-                Ok(text) => command.done(rt, first, &mut Device::new(text)),
-                Err(fault) => Ok(ExitCode::from(tell_unread(rt, false, store.as_str(), fault))),
-            }
+        [_, options @ .., option, store] if option.as_str() == "--store" => {
+            report_store(rt, command, options, store.as_str())
         }
-        _ => command.done(rt, words, &mut Device::new(rt.stdin())),
+        [_, config, options @ ..] => {
+            let config = config.as_str();
+            let lines = Lines::Script { config };
+            command.done(rt, options, lines, &mut Device::new(rt.stdin()))
+        }
+        _ => Err(Fault::Usage),
     }
 }
 

@@ -12,9 +12,10 @@ mod printed;
 mod row;
 mod terminal_text;
 
+use crate::command::Lines;
 use crate::ended_house::{EndedHouse, house_of, tell_refused};
 use command_line::{Fault, Output};
-use form::{Form, asked_of};
+use form::{Form, form_of};
 use printed::print;
 use request_lines::{Device, Source};
 use std::cell::Cell;
@@ -35,11 +36,12 @@ fn print_house(
 pub fn perform<'a, R: Source>(
     rt: &HostRuntime,
     is_gone: &Cell<bool>,
-    words: &'a [String],
+    options: &[String],
+    lines: Lines<'a, '_>,
     reader: &mut R,
 ) -> Result<u8, Fault<'a>> {
-    let asked = asked_of(words)?;
-    let ended = house_of(rt, asked.path, reader)?;
-    print_house(rt, is_gone, &ended, asked.form)?;
+    let form = form_of(options)?;
+    let ended = house_of(rt, lines, reader)?;
+    print_house(rt, is_gone, &ended, form)?;
     Ok(0)
 }

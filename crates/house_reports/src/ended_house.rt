@@ -4,17 +4,23 @@ mod counted;
 mod ended;
 mod writing;
 
+use crate::command::Lines;
 use command_line::{Fault, read_config};
 pub use ended::EndedHouse;
 use request_lines::Source;
 pub use writing::{tell_refused, write_text};
 
-/// A house of the configuration at this path, after the lines of a reader.
+/// Returns the house after the lines of the reader.
 pub fn house_of<'a, R: Source>(
     rt: &HostRuntime,
-    path: &'a str,
+    lines: Lines<'a, '_>,
     reader: &mut R,
 ) -> Result<EndedHouse, Fault<'a>> {
-    let file = read_config(rt, path)?;
-    Ok(EndedHouse::of_file(rt.alloc(), file.as_slice(), reader)?)
+    match lines {
+        Lines::Script { config } => {
+            let file = read_config(rt, config)?;
+            Ok(EndedHouse::of_file(rt.alloc(), file.as_slice(), reader)?)
+        }
+        Lines::Stream { config } => Ok(EndedHouse::of_stream(rt.alloc(), config, reader)?),
+    }
 }

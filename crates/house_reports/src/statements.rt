@@ -2,8 +2,9 @@
 
 mod printed;
 
+use crate::command::Lines;
 use crate::ended_house::{EndedHouse, house_of, tell_refused};
-use command_line::{Fault, Output, only_word};
+use command_line::{Fault, Output};
 use printed::print;
 use request_lines::{Device, Source};
 use std::cell::Cell;
@@ -23,10 +24,14 @@ fn print_house(
 pub fn perform<'a, R: Source>(
     rt: &HostRuntime,
     is_gone: &Cell<bool>,
-    words: &'a [String],
+    options: &[String],
+    lines: Lines<'a, '_>,
     reader: &mut R,
 ) -> Result<u8, Fault<'a>> {
-    let ended = house_of(rt, only_word(words)?, reader)?;
+    if !options.is_empty() {
+        return Err(Fault::Usage);
+    }
+    let ended = house_of(rt, lines, reader)?;
     print_house(rt, is_gone, &ended)?;
     Ok(0)
 }

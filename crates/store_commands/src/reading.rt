@@ -65,11 +65,11 @@ pub struct StoreText {
 }
 
 impl StoreText {
-    /// Opens the store at this path, before its first line.
-    pub fn open(rt: &HostRuntime, store: &str) -> Result<StoreText, ReadingFault> {
-        let (mut reader, _) = open_begun(rt, store)?;
+    /// Opens the store at this path, and returns it before its first line, with the text of its configuration.
+    pub fn open(rt: &HostRuntime, store: &str) -> Result<(StoreText, Vec<u8>), ReadingFault> {
+        let (mut reader, config) = open_begun(rt, store)?;
         reader.text.clear();
-        Ok(StoreText { reader, given: 0 })
+        Ok((StoreText { reader, given: 0 }, config))
     }
 }
 

@@ -1,8 +1,11 @@
 ghost use Rattle.std.specs.Prelude.{◌≡◌, ◌≢◌, [], IfErr, IfOk};
-ghost use Rattle.house_reports.specs.ended_house.Ended.{HasRead, IsStopped};
+ghost use Rattle.plain_house.specs.Legal.{IsLegal};
+ghost use Rattle.line_streams.specs.State.{house_in, state_of};
+ghost use Rattle.house_reports.specs.ended_house.Ended.{HasRead, HasStreamed, IsStopped, IsStreamStopped};
 
 use super::counted::CountedHouse;
 use command_line::Fault;
+use line_streams::{Stream, run_stream, streams_stay_legal};
 use ocpi_types::{Config, TryCopy};
 use period_order::BookHouse;
 use plain_house::{Event, empty_lists_are_legal};
@@ -74,11 +77,47 @@ fn left_by<R: Source>(alloc: Global, config: &Config, reader: &mut R) -> Result<
     answer_lines(alloc, config, reader, &mut counted)
 }
 
+/// Returns the house of a stream as it is now.
+fn house_of(alloc: Global, stream: &Stream) -> Result<EndedHouse, AllocError>
+    requires { let house = house_in (state_of stream.now) in IsLegal house.config house.events }
+    ensures { IfOk result (λ ended. ended ≡ house_in (state_of stream.now)) }
+{
+    let config = stream.config().copy(alloc)?;
+    let events = stream.events(alloc)?;
+    Ok(EndedHouse {
+        config,
+        events,
+        refused: stream.refused(),
+    })
+}
+
+fn streamed<R: Source>(
+    alloc: Global,
+    config: Config,
+    reader: &mut R,
+) -> Result<EndedHouse, ScriptFault>
+    ensures house { IfOk result (λ ended. HasStreamed R.reading reader.old reader.new config ended) }
+    ensures fault { IfErr result (λ fault. fault ≢ ScriptFault.NoMemory → IsStreamStopped R.reading reader.old reader.new config fault) }
+{
+    empty_lists_are_legal();
+    streams_stay_legal();
+    let Ok(mut stream) = Stream::new(alloc, config) else {
+        return Err(ScriptFault::NoMemory);
+    };
+    let mut writer = Device::new(io::sink());
+    let count = run_stream(alloc, reader, &mut writer, &mut stream)?;
+    let _lines = count.lines;
+    match house_of(alloc, &stream) {
+        Ok(ended) => Ok(ended),
+        Err(AllocError) => Err(ScriptFault::NoMemory),
+    }
+}
+
 impl EndedHouse {
-    ghost use Rattle.std.specs.Prelude.{◌≡◌, ◌≢◌, Ok, IfErr, IfOk};
+    ghost use Rattle.std.specs.Prelude.{◌≡◌, ◌≢◌, Ok, IfErr, IfOk, IsOkAnd};
     ghost use Rattle.ocpi_types.specs.ConfigText.{config_of};
     ghost use Rattle.plain_house.specs.Legal.{IsLegal};
-    ghost use Rattle.house_reports.specs.ended_house.Ended.{HasRead, IsFaultOf, IsStopped};
+    ghost use Rattle.house_reports.specs.ended_house.Ended.{HasRead, HasStreamed, IsFaultOf, IsStopped, IsStreamStopped};
 
     /// A house of this configuration, after the lines of the reader. Their answers are not written.
     pub fn of_lines<R: Source>(
@@ -108,10 +147,28 @@ impl EndedHouse {
     ) -> Result<EndedHouse, Fault<'static>>
         ensures config { IfOk result (λ ended. config_of file.now ≡ Ok ended.config) }
         ensures events { IfOk result (λ ended. HasRead R.reading reader.old reader.new ended.config ended.events) }
-        ensures fault { IfErr result (λ fault. fault ≢ Fault.NoMemory → IsFaultOf R.reading reader.old reader.new (config_of file.now) fault) }
+        ensures fault { IfErr result (λ fault. fault ≢ Fault.NoMemory → IsFaultOf (IsStopped R.reading reader.old reader.new) (config_of file.now) fault) }
     {
         let config = Config::read(alloc, file)?;
         Ok(EndedHouse::of_lines(alloc, config, reader)?)
+    }
+
+    /// Returns the house of a stream after the lines of the reader. The stream begins under the configuration in this text. The answers
+    /// are not written.
+    ///
+    /// # Errors
+    ///
+    /// Why the text is no configuration, or the first error of the stream.
+    pub fn of_stream<R: Source>(
+        alloc: Global,
+        text: &[u8],
+        reader: &mut R,
+    ) -> Result<EndedHouse, Fault<'static>>
+        ensures house { IfOk result (λ ended. IsOkAnd (config_of text.now) (λ config. HasStreamed R.reading reader.old reader.new config ended)) }
+        ensures fault { IfErr result (λ fault. fault ≢ Fault.NoMemory → IsFaultOf (IsStreamStopped R.reading reader.old reader.new) (config_of text.now) fault) }
+    {
+        let config = Config::read(alloc, text)?;
+        Ok(streamed(alloc, config, reader)?)
     }
 
     pub fn config(&self) -> &Config
