@@ -88,13 +88,16 @@ fn report_store<'a>(
     options: &[String],
     store: &'a str,
 ) -> Result<ExitCode, Fault<'a>> {
-    match StoreText::open(rt, store) {
-        Ok((text, config)) => {
-            let config = config.as_slice();
-            let lines = Lines::Stream { config };
-            command.done(rt, options, lines, &mut Device::new(text))
-        }
-        Err(fault) => Ok(ExitCode::from(tell_unread(rt, false, store, fault))),
+    let (text, config) = match StoreText::open(rt, store) {
+        Ok(opened) => opened,
+        Err(fault) => return Ok(ExitCode::from(tell_unread(rt, false, store, fault))),
+    };
+    let config = config.as_slice();
+    let mut reader = Device::new(text);
+    let done = command.done(rt, options, Lines::Stream { config }, &mut reader);
+    match reader.inner.unread() {
+        Some(fault) => Ok(ExitCode::from(tell_unread(rt, false, store, fault))),
+        None => done,
     }
 }
 

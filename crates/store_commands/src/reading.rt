@@ -62,6 +62,8 @@ pub struct StoreText {
     reader: StoreReader,
     /// How many bytes of the line that was read last are given.
     given: usize,
+    /// Why a read failed, if one did.
+    cause: Option<io::Error>,
 }
 
 impl StoreText {
@@ -69,12 +71,20 @@ impl StoreText {
     pub fn open(rt: &HostRuntime, store: &str) -> Result<(StoreText, Vec<u8>), ReadingFault> {
         let (mut reader, config) = open_begun(rt, store)?;
         reader.text.clear();
-        Ok((StoreText { reader, given: 0 }, config))
+        let text = StoreText {
+            reader,
+            given: 0,
+            cause: None,
+        };
+        Ok((text, config))
     }
-}
 
-impl Read for StoreText {
-    fn read(&mut self, buffer: &mut [u8]) -> io::Result<usize> {
+    /// Returns why the lines are not read on, if a read failed.
+    pub fn unread(&self) -> Option<ReadingFault> {
+        Some(ReadingFault::Read(self.cause?))
+    }
+
+    fn next_bytes(&mut self, buffer: &mut [u8]) -> io::Result<usize> {
         if self.given >= self.reader.text.len() {
             if !self.reader.next_line()? {
                 self.reader.text.clear();
@@ -88,6 +98,16 @@ impl Read for StoreText {
         buffer[..count].copy_from_slice(&rest[..count]);
         self.given = start + count;
         Ok(count)
+    }
+}
+
+impl Read for StoreText {
+    fn read(&mut self, buffer: &mut [u8]) -> io::Result<usize> {
+        let read = self.next_bytes(buffer);
+        if let Err(cause) = &read {
+            self.cause = Some(*cause);
+        }
+        read
     }
 }
 
@@ -110,7 +130,7 @@ impl From<io::Error> for ReadingFault {
 
 impl From<AllocError> for ReadingFault {
     fn from(error: AllocError) -> Self {
-        ReadingFault::Store(StoreFault::from(error))
+        ReadingFault::Read(io::Error::from(error))
     }
 }
 
