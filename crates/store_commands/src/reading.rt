@@ -83,14 +83,22 @@ impl StoreText {
     pub fn unread(&self) -> Option<ReadingFault> {
         Some(ReadingFault::Read(self.cause?))
     }
+}
 
-    fn next_bytes(&mut self, buffer: &mut [u8]) -> io::Result<usize> {
+impl Read for StoreText {
+    fn read(&mut self, buffer: &mut [u8]) -> io::Result<usize> {
         if self.given >= self.reader.text.len() {
-            if !self.reader.next_line()? {
-                self.reader.text.clear();
-                return Ok(0);
+            match self.reader.next_line() {
+                Ok(true) => self.given = 1,
+                Ok(false) => {
+                    self.reader.text.clear();
+                    return Ok(0);
+                }
+                Err(cause) => {
+                    self.cause = Some(cause);
+                    return Err(cause);
+                }
             }
-            self.given = 1;
         }
         let start = self.given.min(self.reader.text.len());
         let rest = &self.reader.text[start..];
@@ -98,16 +106,6 @@ impl StoreText {
         buffer[..count].copy_from_slice(&rest[..count]);
         self.given = start + count;
         Ok(count)
-    }
-}
-
-impl Read for StoreText {
-    fn read(&mut self, buffer: &mut [u8]) -> io::Result<usize> {
-        let read = self.next_bytes(buffer);
-        if let Err(cause) = &read {
-            self.cause = Some(*cause);
-        }
-        read
     }
 }
 
