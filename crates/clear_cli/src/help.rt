@@ -80,6 +80,12 @@ const FROM_STORE: Argument = Argument::Value {
     help: "Takes the configuration and the lines of this store, in place of CONFIG and standard input",
 };
 
+const CHANGED_STORE: Argument = Argument::Value {
+    name: "store",
+    value: "STORE",
+    help: "Prints also whether the hub of this store could change to the configuration",
+};
+
 const ANSWERS: Argument = Argument::Option {
     name: "answers",
     help: "Prints the answer to each line after it",
@@ -122,9 +128,9 @@ const RUN: Entry = Entry {
 
 const CHECK_CONFIG: Entry = Entry {
     name: "check_config",
-    form: "clear check_config CONFIG",
+    form: "clear check_config CONFIG [--store STORE]",
     about: "Prints what is in force in a configuration, and what of it is passed over",
-    arguments: [Some(CONFIG), None, None],
+    arguments: [Some(CONFIG), Some(CHANGED_STORE), None],
 };
 
 const EXPLAIN_LINES: Entry = Entry {

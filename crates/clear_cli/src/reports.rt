@@ -11,7 +11,7 @@ use request_lines::Device;
 use std::io::{self, ErrorKind};
 use std::process::ExitCode;
 use std::thread::Threads;
-use store_commands::{StoreText, tell_unread};
+use store_commands::{StoreText, check_change, tell_unread};
 
 // The reports on CDRs.
 #[derive(Clone, Copy)]
@@ -120,6 +120,24 @@ fn report_house<'a>(
     }
 }
 
+// Reports of the configuration at this path, and whether the hub of a store could change to it, if the last two words name one.
+fn report_config<'a>(rt: &HostRuntime, words: &'a [String]) -> Result<ExitCode, Fault<'a>> {
+    let [first @ .., option, store] = words else {
+        return tell_config(rt, words);
+    };
+    if option.as_str() != "--store" {
+        return tell_config(rt, words);
+    }
+    let told = tell_config(rt, first)?;
+    if told == ExitCode::from(1) {
+        return Ok(told);
+    }
+    match check_change(rt, only_word(first)?, store.as_str())? {
+        0 => Ok(told),
+        status => Ok(ExitCode::from(status)),
+    }
+}
+
 // Reports the error, unless the reader of the output has gone, and returns the exit status.
 fn told(rt: &HostRuntime, done: io::Result<u8>) -> ExitCode {
     let fault = match done {
@@ -145,7 +163,7 @@ pub fn perform<'a>(
     words: &'a [String],
 ) -> Result<ExitCode, Fault<'a>> {
     match words.first().and_then(|name| Report::of(name.as_str())) {
-        Some(Report::CheckConfig) => tell_config(rt, words),
+        Some(Report::CheckConfig) => report_config(rt, words),
         Some(Report::House(command)) => report_house(rt, command, words),
         Some(Report::Store(command)) => command.done(rt, VERSION, words),
         Some(Report::Costs(costs)) => match only_word(words).ok().and_then(Zone::read) {

@@ -2,6 +2,7 @@
 //! the line that changes a configuration.
 #![tactic(auto)]
 
+mod change_check;
 mod check;
 mod command;
 mod configure;
@@ -12,5 +13,6 @@ mod reading;
 mod stream;
 mod words;
 
+pub use change_check::check_change;
 pub use command::Command;
 pub use reading::{ReadingFault, StoreText, tell_unread};

@@ -1,0 +1,171 @@
+//! Whether the hub of a store could change to another configuration.
+
+ghost use Rattle.std.specs.Prelude.{◌≡◌, ◌<◌, length, slice_get, string_bytes, IfOk, Some};
+ghost use Rattle.plain_house.specs.declared.event.Event.{Event as EventValue};
+ghost use Rattle.store_commands.specs.ChangeCheck.{IsReported, forbidden_text, held_text, taken_text};
+
+use crate::reading::{StoreText, tell_unread};
+use command_line::{Fault, Output, read_config};
+use exact_money::Amount;
+use house_statements::event_name;
+use line_streams::{Stream, run_stream};
+use new_configuration::{TakeOverFault, house_of};
+use ocpi_types::Config;
+use plain_house::Event;
+use request_lines::{Device, write_all};
+use std::alloc::{AllocError, Global};
+use std::cell::Cell;
+use std::io;
+
+/// What is reported of a change, and the exit status.
+#[derive(Drop)]
+struct Report {
+    text: String,
+    status: u8,
+}
+
+/// Returns in words what an event holds.
+#[tactic(auto, unfolding(crate::specs::ChangeCheck::held_text))]
+fn held(alloc: Global, event: &Event) -> Result<String, AllocError>
+    ensures { IfOk result (λ text. string_bytes text ≡ held_text event.now) }
+{
+    match event {
+        Event::Tariff(tariff) => {
+            format!(in alloc; "tariff {} of {}", tariff.id.as_str(), tariff.operator)
+        }
+        Event::Token(token) => {
+            format!(in alloc; "token {} of {}", token.uid.as_str(), token.provider)
+        }
+        Event::Authorised(hold) => {
+            let amount = Amount::from_ten_thousandths(hold.amount.get() as i64);
+            format!(in alloc;
+                "hold {} of {} was {amount} {}",
+                hold.reference.as_str(),
+                hold.provider,
+                hold.currency.as_str()
+            )
+        }
+        Event::Released(release) => {
+            format!(in alloc;
+                "hold {} of {}",
+                release.reference.as_str(),
+                release.provider
+            )
+        }
+        Event::Cdr { cdr, cost } => {
+            let amount = Amount::from_ten_thousandths(cost.get() as i64);
+            format!(in alloc;
+                "CDR {} of {} cost {amount} {}",
+                cdr.id.as_str(),
+                cdr.operator,
+                cdr.currency.as_str()
+            )
+        }
+        Event::Credit { cdr, .. } => {
+            format!(in alloc; "Credit CDR {} of {}", cdr.id.as_str(), cdr.operator)
+        }
+        Event::Settled(settlement) => {
+            format!(in alloc;
+                "period {} of {} in {}",
+                settlement.period,
+                settlement.provider,
+                settlement.currency.as_str()
+            )
+        }
+        Event::Closed { period } => format!(in alloc; "period {period}"),
+    }
+}
+
+fn taken_line(alloc: Global, events: usize) -> Result<String, AllocError>
+    ensures { IfOk result (λ text. string_bytes text ≡ taken_text events) }
+{
+    format!(in alloc; "the change would be taken; events: {events}\n")
+}
+
+fn forbidden_line(alloc: Global, number: u64, event: &Event) -> Result<String, AllocError>
+    ensures { IfOk result (λ text. string_bytes text ≡ forbidden_text number event.now) }
+{
+    let name = event_name(event);
+    let held = held(alloc, event)?;
+    let held = held.as_str();
+    format!(in alloc; "the change would be refused; event {number} {name}: {held}\n")
+}
+
+/// Reports that all of these events come out again.
+fn taken(alloc: Global, events: &[Event]) -> Result<Report, AllocError>
+    ensures { IfOk result (λ report. (string_bytes report.text ≡ taken_text (length events.now)) × (report.status ≡ 0)) }
+{
+    let text = taken_line(alloc, events.len())?;
+    Ok(Report { text, status: 0 })
+}
+
+/// Reports of the event of this number that it forbids the change.
+fn forbidden(alloc: Global, number: u64, events: &[Event]) -> Result<Report, AllocError>
+    requires { number < length events.now }
+    ensures { (event : EventValue) → slice_get events.now number ≡ Some event →
+        IfOk result (λ report. (string_bytes report.text ≡ forbidden_text number event) × (report.status ≡ 3)) }
+{
+    let text = forbidden_line(alloc, number, &events[number as usize])?;
+    Ok(Report { text, status: 3 })
+}
+
+/// Reports whether a house of the configuration could have these events.
+fn report_of(alloc: Global, config: Config, events: &[Event]) -> Result<Report, AllocError>
+    ensures { IfOk result (λ report. IsReported config events.now (string_bytes report.text) report.status) }
+{
+    match house_of(alloc, config, events) {
+        Ok(house) => {
+            drop(house);
+            taken(alloc, events)
+        }
+        Err(TakeOverFault::Otherwise { event }) => forbidden(alloc, event, events),
+        Err(TakeOverFault::NoMemory) => Err(AllocError),
+    }
+}
+
+/// Returns the stream after the lines of a store.
+fn stream_of(
+    alloc: Global,
+    config: &[u8],
+    reader: &mut Device<StoreText>,
+) -> Result<Stream, Fault<'static>> {
+    let mut stream = Stream::new(alloc, Config::read(alloc, config)?)?;
+    let mut writer = Device::new(io::sink());
+    run_stream(alloc, reader, &mut writer, &mut stream)?;
+    Ok(stream)
+}
+
+fn print(rt: &HostRuntime, report: &Report) -> Result<u8, Fault<'static>> {
+    let is_gone = Cell::new(false);
+    let mut writer = Device::new(Output::new(rt.stdout(), &is_gone));
+    match write_all(&mut writer, report.text.as_bytes()) {
+        Ok(()) => Ok(report.status),
+        Err(_) if is_gone.get() => Ok(1),
+        Err(_) => Err(Fault::CannotWrite),
+    }
+}
+
+/// Prints whether the hub of the store could change to the configuration of this path, and returns the exit status: 3 if an event
+/// forbids it, and 1 if the store is not read, which is told on standard error.
+///
+/// # Errors
+///
+/// The fault that ends the command before it prints anything, and `CannotWrite`.
+pub fn check_change<'a>(rt: &HostRuntime, config: &'a str, store: &str) -> Result<u8, Fault<'a>> {
+    let alloc = rt.alloc();
+    let file = read_config(rt, config)?;
+    let new = Config::read(alloc, file.as_slice())?;
+    let (lines, first) = match StoreText::open(rt, store) {
+        Ok(opened) => opened,
+        Err(fault) => return Ok(tell_unread(rt, false, store, fault)),
+    };
+    let mut reader = Device::new(lines);
+    let read = stream_of(alloc, first.as_slice(), &mut reader);
+    if let Some(fault) = reader.inner.unread() {
+        return Ok(tell_unread(rt, false, store, fault));
+    }
+    let stream = read?;
+    let events = stream.events(alloc)?;
+    let report = report_of(alloc, new, events.as_slice())?;
+    Ok(print(rt, &report)?)
+}
