@@ -140,11 +140,10 @@ impl BookHouse {
         ensures base { self.new.config ≡ self.old.config }
         ensures does { Does config.now self.old.events command result self.new.events }
     {
-        let base = &self.config;
         perform::perform(
             *self.books.allocator(),
             config,
-            base,
+            &self.config,
             &mut self.books,
             &mut self.accounts,
             &mut self.order,
