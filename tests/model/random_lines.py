@@ -246,8 +246,12 @@ class Script:
         for number in range(count):
             first = ('put_tariff', 'put_token')[number % 2] if number < 10 else None
             request = getattr(self, first or self.rng.choices(list(weights), list(weights.values()))[0])()
-            line = self.bad(request) if self.rng.random() < 0.1 else dumped(request)
+            line = self.sent(self.bad(request) if self.rng.random() < 0.1 else dumped(request))
             yield line, self.house.answer(line)
+
+    def sent(self, line):
+        """The line as it is sent."""
+        return line
 
 
 def dumped(value):

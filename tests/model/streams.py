@@ -1,11 +1,11 @@
-"""A plain reading of streams: the rules of a script, and lines that change the configuration (docs/RULES.md). A change is tried by asking
-for each event of the house once more, by every platform and, for a hold, by every token."""
+"""A plain reading of streams: the rules of a script, lines that change the configuration, and request ids (docs/RULES.md). A change is tried
+by asking for each event of the house once more, by every platform and, for a hold, by every token."""
 import copy
 import json
 from collections.abc import Iterator
 
 from random_lines import Script, dumped
-from rules import House, Number, Refused, ci, compact, fold, member, no_number
+from rules import House, Number, Refused, ci, compact, fold, member, no_number, request_of
 
 DONE = {'Tariff': 'put_tariff', 'Token': 'put_token', 'Authorised': 'authorize', 'Released': 'release', 'Cdr': 'post', 'Credit': 'post',
         'Settled': 'settle', 'Closed': 'close'}
@@ -52,17 +52,65 @@ def first_otherwise(house, events):
     return next((i for i, event in enumerate(events) if not comes_out(house, event, i)), None)
 
 
+def loosened(config):
+    """The configuration with nothing but parties, currencies, zones and holds."""
+    loose = copy.deepcopy(config)
+    for name in ('pair_limits', 'credit_window', 'limits'):
+        loose.pop(name, None)
+    for provider in loose['providers']:
+        for row in provider.get('limits', []):
+            row['limit'] = 10**15
+    parties = [x['party'] for x in loose['operators'] + loose['providers']]
+    return loose | {'tolerance': 10**12, 'platforms': [{'name': 'hub', 'parties': parties, 'hub': True}]}
+
+
+def refused(name, number, status, values=None):
+    return compact({'status_code': status, 'refusal': name, 'number': number} | (values or {}))
+
+
+def early(refusal):
+    """The answer to a line that asks for nothing, or whose platform may not ask."""
+    number, status = {'Syntax': (1, 2001), 'Field': (2, 2001), 'NotYours': (4, 2000)}[refusal.name]
+    return refused(refusal.name, number, status, refusal.values)
+
+
+def request_id_of(value):
+    """The request id of a line, or None."""
+    given = value.get('request_id') if type(value) is dict else None
+    if given is None:
+        return None
+    if type(given) is not str or not 1 <= len(given.encode()) <= 64:
+        raise Refused('Field', field='request_id')
+    return given
+
+
 class Stream(House):
     """A house that answers the lines of a stream."""
+
+    def __init__(self, config):
+        super().__init__(config)
+        self.remembered = {}
 
     def answer(self, line):
         try:
             value = json.loads(line, parse_int=Number, parse_float=Number, parse_constant=no_number)
         except ValueError:
             return super().answer(line)
-        if type(value) is dict and value.get('do') == 'configure':
-            return self.configure(value)
-        return super().answer(line)
+        is_change = type(value) is dict and value.get('do') == 'configure'
+        try:
+            given = request_id_of(value)
+            platform = (self.change_of(value) if is_change else request_of(line))['platform']
+        except Refused as refusal:
+            return early(refusal)
+        key = given and (platform, given)
+        if key in self.remembered:
+            first, answer = self.remembered[key]
+            return answer if first == line else refused('RequestIdUsed', 30, 2000)
+        is_known = any(fold(p['name']) == platform for p in self.config['platforms'])
+        answer = self.configure(value) if is_change else super().answer(line)
+        if key and is_known:
+            self.remembered[key] = line, answer
+        return answer
 
     def authorize(self, r):
         name, values = super().authorize(r)
@@ -71,32 +119,40 @@ class Stream(House):
             self.events[-1]['written'] = values['authorization_reference']
         return name, values
 
+    def change_of(self, value):
+        platform = fold(member(ci(36), 'platform', value))
+        config = member(lambda v: v if type(v) is dict else None, 'configuration', value)
+        member(lambda v: v if type(v) is Number else None, 'version', config)
+        if not any(p.get('hub') for p in config['platforms']):
+            raise Refused('Field', field='platforms')
+        return {'platform': platform, 'config': config}
+
     def configure(self, value):
-        try:
-            platform = fold(member(ci(36), 'platform', value))
-            config = member(lambda v: v if type(v) is dict else None, 'configuration', value)
-            member(lambda v: v if type(v) is Number else None, 'version', config)
-            if not any(fold(p['name']) == platform and p.get('hub') for p in self.config['platforms']):
-                raise Refused('NotYours')
-        except Refused as refusal:
-            number = {'Field': 2, 'NotYours': 4}[refusal.name]
-            status = {'Field': 2001, 'NotYours': 2000}[refusal.name]
-            return compact({'status_code': status, 'refusal': refusal.name, 'number': number} | refusal.values)
+        change = self.change_of(value)
+        platform, config = change['platform'], change['config']
+        if not any(fold(p['name']) == platform and p.get('hub') for p in self.config['platforms']):
+            return early(Refused('NotYours'))
         at, new = len(self.events), Stream(json.loads(dumped(config)))
-        event = first_otherwise(new, copy.deepcopy(self.events))
-        if event is not None:
-            return compact({'status_code': 2000, 'refusal': 'ComesOutOtherwise', 'number': 29, 'at': at, 'event': event,
-                            'kind': self.events[event]['kind']})
+        outside = first_otherwise(new, copy.deepcopy(self.events))
+        past, events = {}, new.events
+        if outside is not None:
+            past = {'event': outside, 'kind': self.events[outside]['kind']}
+            loose = Stream(loosened(new.config))
+            forbids = first_otherwise(loose, copy.deepcopy(self.events))
+            if forbids is not None:
+                return refused('ComesOutOtherwise', 29, 2000, {'at': at, 'event': forbids, 'kind': self.events[forbids]['kind']})
+            events = loose.events
         House.__init__(self, new.config)
-        self.events = new.events
-        return compact({'status_code': 1000, 'answer': 'Configured', 'at': at})
+        self.events = events
+        return compact({'status_code': 1000, 'answer': 'Configured', 'at': at} | past)
 
 
 class StreamScript(Script):
-    """A random script with lines that change the configuration."""
+    """A random script with lines that change the configuration, request ids, and lines that come again."""
 
     def __init__(self, seed: int) -> None:
         super().__init__(seed, Stream)
+        self.with_ids: list[str] = []
 
     def config_text(self) -> str:
         return dumped(self.house.config)
@@ -107,13 +163,28 @@ class StreamScript(Script):
             change(rng, config)
         return {'platform': self.cased(rng.choice(['hub'] * 6 + ['both', 'cpo'])), 'do': 'configure', 'configuration': consistent(config)}
 
+    def sent(self, line: str) -> str:
+        if self.rng.random() < 0.5 or not line.endswith('}'):
+            return line
+        given = self.rng.choice(IDS) if self.rng.random() < 0.1 else f'{self.rng.choice("abAB")}{self.rng.randint(0, 60)}'
+        sent = f'{line[:-1]},"request_id":{json.dumps(given)}}}'
+        self.with_ids.append(sent)
+        return sent
+
     def lines(self, count: int = 60) -> Iterator[tuple[str, str]]:
         for line, answer in super().lines(count):
             yield line, answer
             if self.rng.random() < 0.15:
                 request = self.configure()
-                change = self.bad(request) if self.rng.random() < 0.1 else dumped(request)
+                change = self.sent(self.bad(request) if self.rng.random() < 0.1 else dumped(request))
                 yield change, self.house.answer(change)
+            if self.with_ids and self.rng.random() < 0.3:
+                again = self.rng.choice(self.with_ids)
+                yield again, self.house.answer(again)
+
+
+# Request ids that are none, or that differ from others by their letters' case or beyond ASCII.
+IDS = ('', 'x' * 64, 'x' * 65, 7, None, True, 'É', 'é', 'é' * 33)
 
 
 # ---- Changes of a configuration: of each kind some that events forbid, and some that none forbids ----
@@ -174,6 +245,7 @@ def provider_renamed(rng, config):
 
 
 def added(rng, config):
+    config['platforms'] = [p for p in config['platforms'] if p['name'] != 'new']
     if not any(fold(o['party']) == 'be/new' for o in config['operators']):
         config['operators'].append({'party': 'BE/NEW', 'zone': 'CET-1CEST,M3.5.0,M10.5.0/3'})
         config['platforms'].append({'name': 'new', 'parties': ['BE/NEW']})

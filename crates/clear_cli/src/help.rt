@@ -177,7 +177,7 @@ const RE_RATE: Entry = Entry {
 
 const KEEP: Entry = Entry {
     name: "keep",
-    form: "clear keep CONFIG STORE [--from N] < LINES",
+    form: "clear keep [CONFIG] STORE [--from N] < LINES",
     about: "Answers the request lines of standard input, each after it is on the disk",
     arguments: [Some(CONFIG), Some(STORE), Some(FROM)],
 };

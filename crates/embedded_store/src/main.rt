@@ -29,6 +29,7 @@ fn main(rt: HostRuntime) -> anyhow::Result<()> {
         disk,
         "example",
         CONFIG.as_bytes(),
+        true,
         None,
         &mut requests,
         &mut answers,

@@ -30,17 +30,20 @@ pub struct Kept<D: Disk> {
     pub result: Result<(), StoreFault>,
 }
 
-/// A gate that opens if the configuration in force is the given one.
+/// A gate that opens if the configuration in force is the given one, or none is given.
 #[derive(Drop)]
 struct SameConfig<'a> {
-    given: &'a Config,
+    given: Option<&'a Config>,
     /// The first member that differs.
     difference: Option<Name>,
 }
 
 impl<'a> Gate<Stream> for SameConfig<'a> {
     fn opens(&mut self, stream: &Stream) -> bool {
-        self.difference = first_difference(self.given, stream.config());
+        let Some(given) = self.given else {
+            return true;
+        };
+        self.difference = first_difference(given, stream.config());
         self.difference.is_none()
     }
 }
@@ -87,12 +90,13 @@ pub fn stream_under(alloc: Global, text: &[u8]) -> Result<Stream, StoreFault>
     Ok(Stream::new(alloc, config)?)
 }
 
-/// Keeps and answers lines by an empty stream under the configuration of this text, if the given one is in force after the kept lines.
+/// Keeps and answers lines by an empty stream under the configuration of this text, if the given one, if any, is in force after the kept
+/// lines.
 fn keep_under<D: Disk, R: Source, W: Sink>(
     alloc: Global,
     disk: D,
     text: &[u8],
-    given: &Config,
+    given: Option<&Config>,
     from: Option<u64>,
     reader: &mut R,
     writer: &mut W,
@@ -143,8 +147,8 @@ fn keep_under<D: Disk, R: Source, W: Sink>(
 }
 
 /// Keeps and answers lines in a store, by a house of which lines may change the configuration. An empty store begins with the given
-/// configuration. Another store answers the lines that it keeps under its own, and goes on if the given configuration is then in force.
-/// What is kept and sent is as `kept_answers::keep` has it, after the record that begins the store.
+/// configuration. Another store answers the lines that it keeps under its own, and goes on if the given configuration is then in force,
+/// or in any case if that need not be. What is kept and sent is as `kept_answers::keep` has it, after the record that begins the store.
 ///
 /// # Errors
 ///
@@ -156,6 +160,7 @@ pub fn keep_house<D: Disk, R: Source, W: Sink>(
     disk: D,
     program: &str,
     given: &[u8],
+    must_be_in_force: bool,
     from: Option<u64>,
     reader: &mut R,
     writer: &mut W,
@@ -178,9 +183,10 @@ pub fn keep_house<D: Disk, R: Source, W: Sink>(
             };
         }
     };
+    let in_force = if must_be_in_force { Some(&ours) } else { None };
     let Begun { disk, result } = begin(alloc, disk, program, given);
     match result {
-        Ok(text) => keep_under(alloc, disk, text.as_slice(), &ours, from, reader, writer),
+        Ok(text) => keep_under(alloc, disk, text.as_slice(), in_force, from, reader, writer),
         Err(fault) => Kept {
             disk,
             result: Err(fault),

@@ -1,1 +1,3 @@
+pub mod AnsweredLemmas
+pub mod RequestIdLemmas
 pub mod StreamLemmas

@@ -14,102 +14,136 @@ use Rattle.cdr_checks.specs.declared.request.Command.{Command}
 use Rattle.cdr_checks.specs.declared.request.Request.{Request}
 use Rattle.plain_house.specs.declared.event.Event.{Event}
 use Rattle.plain_house.specs.Legal.{CommandsKeepListsLegal, IsLegal}
-use Rattle.plain_house.specs.State.{State}
+use Rattle.plain_house.specs.House.{events_after, verdict}
+use Rattle.plain_house.specs.Known.{known}
+use Rattle.plain_house.specs.Replies.{with_event}
+use Rattle.period_order.specs.Judging.{ConfigurationsJudgeForThemselves}
+use Rattle.new_configuration.specs.Loosened.{LoosenedJudgesWider, loosened}
 use Rattle.house_statements.specs.Order.{event_name}
 use Rattle.request_lines.specs.AnswerText.{answer_text}
 use Rattle.request_lines.specs.RequestText.{request_at, request_in, request_of}
 use Rattle.request_lines.specs.RequestText as lines
 use Rattle.request_lines.specs.Script.{admitted, after, answer_of, command_in, list_after, list_with, reply_in, reply_to}
 use Rattle.new_configuration.specs.TakenOver.{FirstOtherwiseIsUnique, IsFirstOtherwise, TakenOverIsWhole}
-use Rattle.line_streams.specs.Asked.{asked_in, asked_of, changes_at, is_change_in, is_change_line, or_field, requests_at}
-use Rattle.line_streams.specs.Law.{StreamsAreDetermined, StreamsStayLegal, UnchangedIsAScript}
-use Rattle.line_streams.specs.Stream.{AreAnswered, ByHub, IsAnsweredAs, IsChanged, IsReplied, otherwise_text}
+use Rattle.line_streams.specs.Asked.{asked_at, asked_of, changes_at, is_change_in, line_in, or_field, requests_at}
+use Rattle.line_streams.specs.Change.{ByHub, IsChanged, IsConfigured, IsDone, IsKeptAsItIs, IsLowered, StreamHouse, lowered_text, otherwise_text}
+use Rattle.line_streams.specs.Law.{HasNoRequestId, IsOfScript, IsSound, StreamsAreDetermined, StreamsStaySound, UnchangedIsAScript}
+use Rattle.line_streams.specs.State.{Remembered, RememberedLines, RequestKey, StreamState}
+use Rattle.line_streams.specs.Stream.{AreAnswered, IsAnswered, IsAnsweredAs, IsDoneOnce, found_under, key_of, remembered_under}
 use Rattle.line_streams.specs.declared.asked.Asked.{Asked}
 use Rattle.line_streams.specs.declared.asked.Asked.TheVariants as asked
+use Rattle.line_streams.specs.declared.asked.AskedLine.{AskedLine}
+
+-- ---- states
+
+same_stream : (a b : StreamState) → a.house ≡ b.house → a.remembered ≡ b.remembered → a ≡ b
+same_stream a b houses lines = ap₂ (λ (h : StreamHouse) (l : RememberedLines). record { house = h; remembered = l }) houses lines
 
 -- ---- lines of a script
 
-abbrev as_request : Result Request Refusal → Result Asked Refusal
-as_request (Ok request) = Ok (asked.Request request)
-as_request (Err why) = Err why
+abbrev as_line : Result Request Refusal → Result AskedLine Refusal
+as_line (Ok request) = Ok (record { id = None; asked = asked.Request request })
+as_line (Err why) = Err why
 
-or_same : (found : Result Request Name) → or_field (found >>= (λ request. Ok (asked.Request request))) ≡ as_request (lines.or_field found)
+abbrev as_asked : Option (List ℕ) → Result Request Name → Result AskedLine Name
+as_asked id found = found >>= (λ request. Ok (asked.Request request)) >>= (λ asked. Ok (record { id = id; asked = asked }))
+
+or_same : (found : Result Request Name) → or_field (as_asked None found) ≡ as_line (lines.or_field found)
 or_same (Ok request) = refl
 or_same (Err called) = refl
 
-asks_in : (d : Option Data) → is_change_in d ≡ false → asked_in d ≡ as_request (request_in d)
-asks_in None none = refl
-asks_in (Some node) none = ap (λ (b : Bool). or_field (cond b (changes_at node) (requests_at node))) none ∙ or_same (request_at node)
+asks_in : (d : Option Data) → is_change_in d ≡ false → HasNoRequestId d → line_in d ≡ as_line (request_in d)
+asks_in None none no_id = refl
+asks_in (Some node) none no_id =
+    ap (λ (m : Result (Option (List ℕ)) Name). or_field (m >>= (λ id. asked_at node >>= (λ asked. Ok (record { id = id; asked = asked }))))) no_id
+    ∙ ap (λ (b : Bool). or_field (cond b (changes_at node) (requests_at node) >>= (λ asked. Ok (record { id = None; asked = asked })))) none
+    ∙ or_same (request_at node)
 
-asks_request : (line : List ℕ) → is_change_line line ≡ false → asked_of line ≡ as_request (request_of line)
+asks_request : (line : List ℕ) → IsOfScript line → asked_of line ≡ as_line (request_of line)
 unfolding asked_of request_of
-asks_request line none = asks_in (data_of line) none
+asks_request line of = asks_in (data_of line) of.0 of.1
 
-scripted : State → List (List ℕ) → State
-scripted state lines = record { config = state.config; events = list_after state.config state.events lines }
+abbrev HouseAfter : StreamState → List Event → StreamState
+HouseAfter state events = record { house = record { base = state.house.base; config = state.house.config; events = events }; remembered = state.remembered }
 
-as_script : (state now : State) (text : List ℕ) (m : Result Request Refusal) → IsAnsweredAs state (as_request m) text now
-    → (text ≡ answer_text state.config (reply_to state.config state.events (admitted state.config m)))
-    × (now ≡ record { config = state.config; events = list_with state.config state.events (admitted state.config m) })
-as_script state now text (Ok request) answered = (answered.text_is, answered.now_is)
-as_script state now text (Err why) answered = (answered.0, answered.1)
+as_script : (state now : StreamState) (line text : List ℕ) (m : Result Request Refusal) → IsAnsweredAs state (as_line m) line text now
+    → (text ≡ answer_text state.house.config (reply_to state.house.config state.house.events (admitted state.house.config m)))
+    × (now ≡ HouseAfter state (list_with state.house.config state.house.events (admitted state.house.config m)))
+as_script state now line text (Ok request) answered =
+    (answered.done.text_is, same_stream now (HouseAfter state _) answered.done.now_is (answered.remembered_is ∙ append-nil state.remembered))
+as_script state now line text (Err why) answered = (answered.0, answered.1)
 
-one_as_script : (state now : State) (line text : List ℕ) → is_change_line line ≡ false → IsAnsweredAs state (asked_of line) text now
-    → (text ≡ answer_of state.config state.events line) × (now ≡ record { config = state.config; events = after state.config state.events line })
+one_as_script : (state now : StreamState) (line text : List ℕ) → IsOfScript line → IsAnsweredAs state (asked_of line) line text now
+    → (text ≡ answer_of state.house.config state.house.events line) × (now ≡ HouseAfter state (after state.house.config state.house.events line))
 unfolding answer_of after reply_in command_in
-one_as_script state now line text none answered =
-    as_script state now text (request_of line) (subst (λ (m : Result Asked Refusal). IsAnsweredAs state m text now) (asks_request line none) answered)
+one_as_script state now line text of answered =
+    as_script state now line text (request_of line) (subst (λ (m : Result AskedLine Refusal). IsAnsweredAs state m line text now) (asks_request line of) answered)
 
 pub script : UnchangedIsAScript
 script state [] text now none answered = (answered.0, answered.1)
 script state (line ∷ lines) text now none answered =
     let first = one_as_script state answered.middle line answered.one none.0 answered.first in
-    let then : State = record { config = state.config; events = after state.config state.events line } in
-    let rest = script then lines answered.others now none.1 (subst (λ (s : State). AreAnswered s lines answered.others now) first.1 answered.rest) in
+    let then : StreamState = HouseAfter state (after state.house.config state.house.events line) in
+    let rest = script then lines answered.others now none.1 (subst (λ (s : StreamState). AreAnswered s lines answered.others now) first.1 answered.rest) in
     (answered.text_is ∙ ap₂ (λ (a b : List ℕ). a ++ b) first.0 rest.0, rest.1)
 
 -- ---- legal lists
-
-IsLegalState : State → Type 0
-IsLegalState state = IsLegal state.config state.events
 
 is_admitted : (config : Config) (request : Request) (told : Command) → admission config request ≡ Ok told → IsAdmitted config told
 unfolding IsAdmitted
 is_admitted config request told admits = (request, admits)
 
-legal_with : CommandsKeepListsLegal → (config : Config) (events : List Event) (request : Request) (m : Result Command Refusal) → admission config request ≡ m
-    → IsLegal config events → IsLegal config (list_with config events m)
-legal_with law config events request (Ok told) admits legal = law config events told legal (is_admitted config request told admits)
-legal_with law config events request (Err why) admits legal = legal
+-- what a command adds under the configuration in force is legal under the base
+legal_after : CommandsKeepListsLegal → (house : StreamHouse) (told : Command) → IsSound house → IsAdmitted house.config told → IsLegal house.base (events_after house.config house.events told)
+legal_after law house told sound admitted = go (verdict house.config (known house.events) told).event refl
+  where
+    go : (added : Option Event) → (verdict house.config (known house.events) told).event ≡ added → IsLegal house.base (events_after house.config house.events told)
+    go None is = subst (λ (o : Option Event). IsLegal house.base (with_event house.events o)) (sym is) sound.legal
+    go (Some event) is =
+        let given = sound.judges.adds (known house.events) event (told, admitted, is) in
+        subst (λ (o : Option Event). IsLegal house.base (with_event house.events o)) (given.2 ∙ sym is) (law house.base house.events given.0 sound.legal given.1)
 
-legal_changed : (state now : State) (config : Config) (text : List ℕ) → IsChanged state config text now → IsLegal state.config state.events → IsLegal now.config now.events
-legal_changed state now config text changed legal = ⊎_elim
-    (λ taken. subst (λ (c : Config). IsLegal c now.events) (sym taken.0.configured) (subst (IsLegal config) (sym taken.0.same) taken.0.legal))
-    (λ stays. subst (λ (s : State). IsLegal s.config s.events) (sym stays.2) legal)
-    changed
+legal_with : CommandsKeepListsLegal → (house : StreamHouse) (request : Request) (m : Result Command Refusal) → admission house.config request ≡ m
+    → IsSound house → IsLegal house.base (list_with house.config house.events m)
+legal_with law house request (Ok told) admits sound = legal_after law house told sound (is_admitted house.config request told admits)
+legal_with law house request (Err why) admits sound = sound.legal
 
-legal_by : (hub : Bool) (state now : State) (config : Config) (text : List ℕ) → ByHub hub state config text now → IsLegal state.config state.events → IsLegal now.config now.events
-legal_by true state now config text by legal = legal_changed state now config text by legal
-legal_by false state now config text by legal = subst (λ (s : State). IsLegal s.config s.events) (sym by.1) legal
+module _ (law : CommandsKeepListsLegal) (itself : ConfigurationsJudgeForThemselves) (wider : LoosenedJudgesWider) where
+  sound_changed : (house now : StreamHouse) (config : Config) (text : List ℕ) → IsChanged house config text now → IsSound house → IsSound now
+  sound_changed house now config text changed sound = ⊎_elim
+      (λ configured. subst IsSound (sym configured.now_is) (record { legal = configured.legal; judges = itself config }))
+      (⊎_elim
+      (λ lowered. subst IsSound (sym lowered.now_is) (record { legal = lowered.legal; judges = wider config }))
+      (λ kept. subst IsSound (sym kept.now_is) sound))
+      changed
 
-legal_one : CommandsKeepListsLegal → (state now : State) (m : Result Asked Refusal) (text : List ℕ) → IsAnsweredAs state m text now → IsLegal state.config state.events → IsLegal now.config now.events
-legal_one law state now (Err why) text answered legal = subst (λ (s : State). IsLegal s.config s.events) (sym answered.1) legal
-legal_one law state now (Ok (asked.Request request)) text answered legal =
-    subst (λ (s : State). IsLegal s.config s.events) (sym answered.now_is) (legal_with law state.config state.events request (admission state.config request) refl legal)
-legal_one law state now (Ok (asked.Change change)) text answered legal = legal_by (is_hub state.config change.platform) state now change.config text answered legal
+  sound_by : (hub : Bool) (house now : StreamHouse) (config : Config) (text : List ℕ) → ByHub hub house config text now → IsSound house → IsSound now
+  sound_by true house now config text by sound = sound_changed house now config text by sound
+  sound_by false house now config text by sound = subst IsSound (sym by.1) sound
 
-pub stays_legal : CommandsKeepListsLegal → StreamsStayLegal
-stays_legal law state [] text now legal answered = subst (λ (s : State). IsLegal s.config s.events) (sym answered.1) legal
-stays_legal law state (line ∷ lines) text now legal answered =
-    stays_legal law answered.middle lines answered.others now (legal_one law state answered.middle (asked_of line) answered.one answered.first legal) answered.rest
+  sound_done : (house now : StreamHouse) (asks : Asked) (text : List ℕ) → IsDone house asks text now → IsSound house → IsSound now
+  sound_done house now (asked.Request request) text done sound =
+      subst IsSound (sym done.now_is) (record { legal = legal_with law house request (admission house.config request) refl sound; judges = sound.judges })
+  sound_done house now (asked.Change change) text done sound = sound_by (is_hub house.config change.platform) house now change.config text done sound
+
+  sound_once : (state now : StreamState) (key : Option RequestKey) (asks : Asked) (found : Option Remembered) (line text : List ℕ)
+      → IsDoneOnce state key asks found line text now → IsSound state.house → IsSound now.house
+  sound_once state now key asks None line text done sound = sound_done state.house now.house asks text done.done sound
+  sound_once state now key asks (Some found) line text done sound = subst (λ (s : StreamState). IsSound s.house) (sym done.1) sound
+
+  sound_one : (state now : StreamState) (m : Result AskedLine Refusal) (line text : List ℕ) → IsAnsweredAs state m line text now → IsSound state.house → IsSound now.house
+  sound_one state now (Err why) line text answered sound = subst (λ (s : StreamState). IsSound s.house) (sym answered.1) sound
+  sound_one state now (Ok asks) line text answered sound = sound_once state now (key_of asks) asks.asked (found_under state.remembered (key_of asks)) line text answered sound
+
+  pub stays_sound : StreamsStaySound
+  stays_sound state [] text now sound answered = subst (λ (s : StreamState). IsSound s.house) (sym answered.1) sound
+  stays_sound state (line ∷ lines) text now sound answered =
+      stays_sound answered.middle lines answered.others now (sound_one state answered.middle (asked_of line) line answered.one answered.first sound) answered.rest
 
 -- ---- one way
 
-abbrev AreOne : List ℕ → List ℕ → State → State → Type 0
+abbrev AreOne : {A : Type 0} → List ℕ → List ℕ → A → A → Type 0
 AreOne one other now then = (one ≡ other) × (now ≡ then)
-
-same_state : (a b : State) → a.config ≡ b.config → a.events ≡ b.events → a ≡ b
-same_state a b configs events = ap₂ (λ (c : Config) (e : List Event). record { config = c; events = e }) configs events
 
 -- the event of a number is the one after the events before it
 pub at_split : (before : List Event) (event : Event) (later : List Event) → slice_get (before ++ event ∷ later) (length before) ≡ Some event
@@ -123,45 +157,86 @@ event_at events config number first =
 unwrapped : (one other : Event) → Some one ≡ Some other → one ≡ other
 unwrapped one other same = ap (λ (o : Option Event). unwrap_or o one) same
 
-same_otherwise : FirstOtherwiseIsUnique → (config : Config) (events : List Event) (one other : ℕ) (first : IsFirstOtherwise config events one) (second : IsFirstOtherwise config events other)
-    → otherwise_text (length events) one (event_name first.event) ≡ otherwise_text (length events) other (event_name second.event)
-same_otherwise unique config events one other first second =
+-- a text that names the first event that would come out otherwise
+same_naming : FirstOtherwiseIsUnique → (text : ℕ → List ℕ → List ℕ) (config : Config) (events : List Event) (one other : ℕ)
+    (first : IsFirstOtherwise config events one) (second : IsFirstOtherwise config events other) → text one (event_name first.event) ≡ text other (event_name second.event)
+same_naming unique text config events one other first second =
     let number : one ≡ other = unique config events one other first second in
     let event : first.event ≡ second.event =
     unwrapped first.event second.event (sym (event_at events config one first) ∙ ap (λ (n : ℕ). slice_get events n) number ∙ event_at events config other second) in
-    ap₂ (λ (n : ℕ) (e : Event). otherwise_text (length events) n (event_name e)) number event
+    ap₂ (λ (n : ℕ) (e : Event). text n (event_name e)) number event
 
-one_change : TakenOverIsWhole → FirstOtherwiseIsUnique → (state now then : State) (config : Config) (one other : List ℕ)
-    → IsChanged state config one now → IsChanged state config other then → AreOne one other now then
-one_change whole unique state now then config one other first second = ⊎_elim
-    (λ taken. ⊎_elim
-    (λ again. (taken.1 ∙ sym again.1, same_state now then (taken.0.configured ∙ sym again.0.configured) (taken.0.same ∙ sym again.0.same)))
-    (λ stays. absurd (whole config state.events stays.0 taken.0.legal stays.1))
-    second)
-    (λ stays. ⊎_elim
-    (λ taken. absurd (whole config state.events stays.0 taken.0.legal stays.1))
-    (λ again. (stays.3 ∙ same_otherwise unique config state.events stays.0 again.0 stays.1 again.1 ∙ sym again.3, stays.2 ∙ sym again.2))
-    second)
-    first
+-- what is legal under a configuration is legal under the loosened one
+loosely_legal : LoosenedJudgesWider → (config : Config) (events : List Event) → IsLegal config events → IsLegal (loosened config) events
+unfolding IsLegal
+loosely_legal wider config events legal = λ before event later split. (wider config).adds (known before) event (legal before event later split)
 
-one_by : TakenOverIsWhole → FirstOtherwiseIsUnique → (hub : Bool) (state now then : State) (config : Config) (one other : List ℕ)
-    → ByHub hub state config one now → ByHub hub state config other then → AreOne one other now then
-one_by whole unique true state now then config one other first second = one_change whole unique state now then config one other first second
-one_by whole unique false state now then config one other first second = (first.0 ∙ sym second.0, first.1 ∙ sym second.1)
+module _ (wider : LoosenedJudgesWider) (whole : TakenOverIsWhole) (unique : FirstOtherwiseIsUnique) where
+  one_configured : (house now then : StreamHouse) (config : Config) (one other : List ℕ) → IsConfigured house config one now → IsChanged house config other then → AreOne one other now then
+  one_configured house now then config one other first second = ⊎_elim
+      (λ again. (first.text_is ∙ sym again.text_is, first.now_is ∙ sym again.now_is))
+      (⊎_elim
+      (λ lowered. absurd (whole config house.events lowered.number first.legal lowered.first))
+      (λ kept. absurd (whole (loosened config) house.events kept.number (loosely_legal wider config house.events first.legal) kept.first)))
+      second
 
-one_line : TakenOverIsWhole → FirstOtherwiseIsUnique → (state now then : State) (m : Result Asked Refusal) (one other : List ℕ)
-    → IsAnsweredAs state m one now → IsAnsweredAs state m other then → AreOne one other now then
-one_line whole unique state now then (Err why) one other first second = (first.0 ∙ sym second.0, first.1 ∙ sym second.1)
-one_line whole unique state now then (Ok (asked.Request request)) one other first second = (first.text_is ∙ sym second.text_is, first.now_is ∙ sym second.now_is)
-one_line whole unique state now then (Ok (asked.Change change)) one other first second =
-    one_by whole unique (is_hub state.config change.platform) state now then change.config one other first second
+  one_lowered : (house now then : StreamHouse) (config : Config) (one other : List ℕ) → IsLowered house config one now → IsChanged house config other then → AreOne one other now then
+  one_lowered house now then config one other first second = ⊎_elim
+      (λ configured. absurd (whole config house.events first.number configured.legal first.first))
+      (⊎_elim
+      (λ again. (
+        first.text_is ∙ same_naming unique (lowered_text (length house.events)) config house.events first.number again.number first.first again.first ∙ sym again.text_is,
+        first.now_is ∙ sym again.now_is,
+      ))
+      (λ kept. absurd (whole (loosened config) house.events kept.number first.legal kept.first)))
+      second
 
-pub determined : TakenOverIsWhole → FirstOtherwiseIsUnique → StreamsAreDetermined
-determined whole unique state [] one other now then first second = (first.0 ∙ sym second.0, first.1 ∙ sym second.1)
-determined whole unique state (line ∷ lines) one other now then first second =
-    let same = one_line whole unique state first.middle second.middle (asked_of line) first.one second.one first.first second.first in
-    let rest = determined whole unique second.middle lines first.others second.others now then (subst (λ (s : State). AreAnswered s lines first.others now) same.1 first.rest) second.rest in
-    (first.text_is ∙ ap₂ (λ (a b : List ℕ). a ++ b) same.0 rest.0 ∙ sym second.text_is, rest.1)
+  one_kept : (house now then : StreamHouse) (config : Config) (one other : List ℕ) → IsKeptAsItIs house config one now → IsChanged house config other then → AreOne one other now then
+  one_kept house now then config one other first second = ⊎_elim
+      (λ configured. absurd (whole (loosened config) house.events first.number (loosely_legal wider config house.events configured.legal) first.first))
+      (⊎_elim
+      (λ lowered. absurd (whole (loosened config) house.events first.number lowered.legal first.first))
+      (λ again. (
+        first.text_is ∙ same_naming unique (otherwise_text (length house.events)) (loosened config) house.events first.number again.number first.first again.first ∙ sym again.text_is,
+        first.now_is ∙ sym again.now_is,
+      )))
+      second
+
+  one_change : (house now then : StreamHouse) (config : Config) (one other : List ℕ) → IsChanged house config one now → IsChanged house config other then → AreOne one other now then
+  one_change house now then config one other first second = ⊎_elim
+      (λ configured. one_configured house now then config one other configured second)
+      (⊎_elim (λ lowered. one_lowered house now then config one other lowered second) (λ kept. one_kept house now then config one other kept second))
+      first
+
+  one_by : (hub : Bool) (house now then : StreamHouse) (config : Config) (one other : List ℕ) → ByHub hub house config one now → ByHub hub house config other then → AreOne one other now then
+  one_by true house now then config one other first second = one_change house now then config one other first second
+  one_by false house now then config one other first second = (first.0 ∙ sym second.0, first.1 ∙ sym second.1)
+
+  one_done : (house now then : StreamHouse) (asks : Asked) (one other : List ℕ) → IsDone house asks one now → IsDone house asks other then → AreOne one other now then
+  one_done house now then (asked.Request request) one other first second = (first.text_is ∙ sym second.text_is, first.now_is ∙ sym second.now_is)
+  one_done house now then (asked.Change change) one other first second = one_by (is_hub house.config change.platform) house now then change.config one other first second
+
+  one_once : (state now then : StreamState) (key : Option RequestKey) (asks : Asked) (found : Option Remembered) (line one other : List ℕ)
+      → IsDoneOnce state key asks found line one now → IsDoneOnce state key asks found line other then → AreOne one other now then
+  one_once state now then key asks None line one other first second =
+      let done = one_done state.house now.house then.house asks one other first.done second.done in (
+        done.0,
+        same_stream now then done.1
+            (first.remembered_is ∙ ap (λ (text : List ℕ). state.remembered ++ remembered_under state.house.config key line text) done.0 ∙ sym second.remembered_is),
+      )
+  one_once state now then key asks (Some found) line one other first second = (first.0 ∙ sym second.0, first.1 ∙ sym second.1)
+
+  one_line : (state now then : StreamState) (m : Result AskedLine Refusal) (line one other : List ℕ) → IsAnsweredAs state m line one now → IsAnsweredAs state m line other then → AreOne one other now then
+  one_line state now then (Err why) line one other first second = (first.0 ∙ sym second.0, first.1 ∙ sym second.1)
+  one_line state now then (Ok asks) line one other first second =
+      one_once state now then (key_of asks) asks.asked (found_under state.remembered (key_of asks)) line one other first second
+
+  pub determined : StreamsAreDetermined
+  determined state [] one other now then first second = (first.0 ∙ sym second.0, first.1 ∙ sym second.1)
+  determined state (line ∷ lines) one other now then first second =
+      let same = one_line state first.middle second.middle (asked_of line) line first.one second.one first.first second.first in
+      let rest = determined second.middle lines first.others second.others now then (subst (λ (s : StreamState). AreAnswered s lines first.others now) same.1 first.rest) second.rest in
+      (first.text_is ∙ ap₂ (λ (a b : List ℕ). a ++ b) same.0 rest.0 ∙ sym second.text_is, rest.1)
 
 -- ---- the bodies
 
@@ -176,9 +251,5 @@ first_at events events' config config' number same same' first =
     subst (λ (c : Config). IsFirstOtherwise c events' number) same' (subst (λ (l : List Event). IsFirstOtherwise config l number) same first)
 
 -- one line alone
-pub one_answer : (state now : State) (line text : List ℕ) → IsAnsweredAs state (asked_of line) text now → AreAnswered state (line ∷ []) text now
+pub one_answer : (state now : StreamState) (line text : List ℕ) → IsAnswered state line text now → AreAnswered state (line ∷ []) text now
 one_answer state now line text answered = record { one = text; others = []; middle = now; text_is = sym (append-nil text); first = answered; rest = (refl, refl) }
-
-pub one_reply : (state now : State) (line text : List ℕ) (request : Request) → asked_of line ≡ Ok (asked.Request request) → IsReplied state request text now → AreAnswered state (line ∷ []) text now
-one_reply state now line text request asks replied =
-    one_answer state now line text (subst (λ (m : Result Asked Refusal). IsAnsweredAs state m text now) (sym asks) replied)

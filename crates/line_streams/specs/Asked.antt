@@ -1,18 +1,21 @@
--- What a line of a stream asks for: a request, as a line of a script does, or another configuration.
-use Rattle.std.specs.Prelude.{ℕ, Bool, false, List, Option, Some, None, Result, Ok, Err, codes, is_ok, if◌then◌else◌}
+-- What a line of a stream asks for: a request, as a line of a script does, or another configuration; and its request id.
+use Rattle.std.specs.Prelude.{ℕ, Bool, false, ◌&&◌, List, length, nat_le, Option, Some, None, Result, Ok, Err, codes, is_ok, if◌then◌else◌}
+use Rattle.std.specs.List.{list_any}
 use Rattle.std.specs.Str.{bytes_eq}
 use Rattle.json.specs.Json.{Json as Data}
-use Rattle.ocpi_json.specs.Fields.{required, as_ci_text, as_object_node, as_parsed}
+use Rattle.ocpi_json.specs.Fields.{required, optional, as_ci_text, as_object_node, as_parsed}
 use Rattle.ocpi_json.specs.Members.{◌>>=◌}
 use Rattle.ocpi_json.specs.Reading.{data_of}
 use Rattle.ocpi_json.specs.declared.name.Name.{Name}
 use Rattle.ocpi_json.specs.declared.name.Name.TheVariants as name
 use Rattle.ocpi_types.specs.declared.refusal.Refusal.{Refusal}
 use Rattle.ocpi_types.specs.declared.refusal.Refusal.TheVariants as refusal
+use Rattle.ocpi_types.specs.declared.config.Config.{Config}
 use Rattle.ocpi_types.specs.ConfigText.{config_at}
 use Rattle.request_lines.specs.RequestText.{request_at}
 use Rattle.line_streams.specs.declared.asked.Asked.{Asked}
 use Rattle.line_streams.specs.declared.asked.Asked.TheVariants as asked
+use Rattle.line_streams.specs.declared.asked.AskedLine.{AskedLine}
 use Rattle.line_streams.specs.declared.asked.Change.{Change}
 use Rattle.line_streams.specs.declared.asked.ChangeName.{ChangeName}
 use Rattle.line_streams.specs.declared.asked.ChangeName.TheVariants.{Configure}
@@ -32,13 +35,17 @@ is_change_in (Some node) = is_change node
 abbrev pub is_change_line : List ℕ → Bool
 is_change_line line = is_change_in (data_of line)
 
+-- the configuration has a hub: without one nobody could change it again
+abbrev pub has_hub : Config → Bool
+has_hub config = list_any (λ platform. platform.hub) config.platforms
+
 -- who asks, and for which configuration
 unfoldable pub change_at : Data → Result Change Name
 change_at node = do
   platform ← required (as_ci_text 36) name.Platform node
   object ← required as_object_node name.Configuration node
   config ← config_at object
-  Ok (record { platform = platform; config = config })
+  if has_hub config then Ok (record { platform = platform; config = config }) else Err name.Platforms
 
 abbrev pub changes_at : Data → Result Asked Name
 changes_at node = do
@@ -53,14 +60,31 @@ requests_at node = do
 abbrev pub asked_at : Data → Result Asked Name
 asked_at node = if is_change node then changes_at node else requests_at node
 
-abbrev pub or_field : Result Asked Name → Result Asked Refusal
+-- ---- request ids
+
+-- a request id: a text of 1 to 64 bytes
+abbrev pub request_id_of : List ℕ → Option (List ℕ)
+request_id_of text = if nat_le 1 (length text) && nat_le (length text) 64 then Some text else None
+
+abbrev pub request_id_at : Data → Result (Option (List ℕ)) Name
+request_id_at node = optional (as_parsed request_id_of) name.RequestId node
+
+-- ---- lines
+
+abbrev pub line_at : Data → Result AskedLine Name
+line_at node = do
+  id ← request_id_at node
+  asked ← asked_at node
+  Ok (record { id = id; asked = asked })
+
+abbrev pub or_field : Result AskedLine Name → Result AskedLine Refusal
 or_field (Ok found) = Ok found
 or_field (Err called) = Err (refusal.Field called)
 
-abbrev pub asked_in : Option Data → Result Asked Refusal
-asked_in None = Err refusal.Syntax
-asked_in (Some node) = or_field (asked_at node)
+abbrev pub line_in : Option Data → Result AskedLine Refusal
+line_in None = Err refusal.Syntax
+line_in (Some node) = or_field (line_at node)
 
 -- what a line asks for, or why it asks for nothing
-unfoldable pub asked_of : List ℕ → Result Asked Refusal
-asked_of line = asked_in (data_of line)
+unfoldable pub asked_of : List ℕ → Result AskedLine Refusal
+asked_of line = line_in (data_of line)

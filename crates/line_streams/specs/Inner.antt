@@ -1,2 +1,4 @@
 -- Words that only private contracts and proofs use.
+pub mod Base
+pub mod Seen
 pub mod Turns

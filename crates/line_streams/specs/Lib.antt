@@ -1,4 +1,5 @@
 pub mod Asked
+pub mod Change
 pub mod Inner
 pub mod Law
 pub mod State

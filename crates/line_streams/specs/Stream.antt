@@ -1,83 +1,85 @@
--- The answers to lines of which some change the configuration.
-use Rattle.std.specs.Prelude.{◌≡◌, ◌⊎◌, ℕ, Bool, true, false, List, [], ◌∷◌, ◌++◌, None, Result, Ok, Err, codes, decimal, length}
+-- The answers to the lines of a stream: each line is done once, under the configuration in force.
+use Rattle.std.specs.Prelude.{◌≡◌, ◌⊎◌, ℕ, Bool, true, false, List, [], ◌∷◌, ◌++◌, Option, Some, None, option_map, Result, Ok, Err, is_some, if◌then◌else◌}
+use Rattle.std.specs.Map.{lookup}
+use Rattle.std.specs.Str.{bytes_eq}
 use Rattle.ocpi_types.specs.declared.config.Config.{Config}
-use Rattle.ocpi_types.specs.Config.{is_hub}
 use Rattle.ocpi_types.specs.declared.refusal.Refusal.{Refusal}
-use Rattle.ocpi_types.specs.declared.refusal.Refusal.TheVariants as refusal
-use Rattle.cdr_checks.specs.Admission.{admission}
-use Rattle.cdr_checks.specs.declared.request.Request.{Request}
-use Rattle.plain_house.specs.State.{State}
-use Rattle.house_statements.specs.Order.{event_name}
+use Rattle.ocpi_types.specs.Config.{platform_of}
 use Rattle.request_lines.specs.Answering.{Rule}
-use Rattle.request_lines.specs.AnswerText.{answer_text}
-use Rattle.request_lines.specs.Script.{list_with, reply_to}
-use Rattle.new_configuration.specs.TakenOver.{IsFirstOtherwise, IsTakenOver}
 use Rattle.line_streams.specs.Asked.{asked_of}
+use Rattle.line_streams.specs.Change.{IsDone, refused_text, used_text}
+use Rattle.line_streams.specs.State.{Remembered, RememberedLines, RequestKey, StreamState, same_request}
 use Rattle.line_streams.specs.declared.asked.Asked.{Asked}
 use Rattle.line_streams.specs.declared.asked.Asked.TheVariants as asked
+use Rattle.line_streams.specs.declared.asked.AskedLine.{AskedLine}
 
--- ---- texts
+-- ---- request ids
 
--- the answer to a change that is made, with the number of events so far
-abbrev pub configured_text : ℕ → List ℕ
-configured_text at = codes "{\"status_code\":1000,\"answer\":\"Configured\",\"at\":" ++ decimal at ++ codes "}\n"
+-- who asks
+abbrev pub asking : Asked → List ℕ
+asking (asked.Request request) = request.platform
+asking (asked.Change change) = change.platform
 
--- the refusal of a change under which the event of this number, from 0, and of this name would come out otherwise
-abbrev pub otherwise_text : ℕ → ℕ → List ℕ → List ℕ
-otherwise_text at number name =
-    codes "{\"status_code\":2000,\"refusal\":\"ComesOutOtherwise\",\"number\":29,\"at\":"
-    ++ (decimal at ++ (codes ",\"event\":" ++ (decimal number ++ (codes ",\"kind\":\"" ++ (name ++ codes "\"}\n")))))
+-- the request id of a line, which is its platform's own
+abbrev pub key_of : AskedLine → Option RequestKey
+key_of line = option_map (λ id. record { platform = asking line.asked; id = id }) line.id
 
--- a refusal before the house is asked
-abbrev pub refused_text : State → Refusal → List ℕ
-refused_text state why = answer_text state.config (Err (record { at = None; refusal = why }))
+-- what is remembered under a request id
+abbrev pub found_under : RememberedLines → Option RequestKey → Option Remembered
+found_under remembered None = None
+found_under remembered (Some key) = lookup (same_request key) remembered
+
+-- a line is remembered under its request id if its platform is configured
+abbrev pub remembered_if : Bool → RequestKey → List ℕ → List ℕ → RememberedLines
+remembered_if true key line answer = (key, record { line = line; answer = answer }) ∷ []
+remembered_if false key line answer = []
+
+abbrev pub remembered_under : Config → Option RequestKey → List ℕ → List ℕ → RememberedLines
+remembered_under config None line answer = []
+remembered_under config (Some key) line answer = remembered_if (is_some (platform_of config key.platform)) key line answer
+
+-- the answer to a line under whose request id a line was done: the same bytes if it is the same line
+abbrev pub again_text : Remembered → List ℕ → List ℕ
+again_text found line = if bytes_eq found.line line then found.answer else used_text
 
 -- ---- one line
 
--- the house goes on under the configuration with all its events, or it stays as it is, because one of them would come out otherwise
-abbrev pub IsChanged : State → Config → List ℕ → State → Type 0
-IsChanged state config text now =
-    (IsTakenOver state config now × (text ≡ configured_text (length state.events)))
-    ⊎ ((number : ℕ) × (first : IsFirstOtherwise config state.events number) × (now ≡ state)
-    × (text ≡ otherwise_text (length state.events) number (event_name first.event)))
+-- a line is done, and remembered under its request id
+pub record IsDoneLine (state : StreamState) (key : Option RequestKey) (asks : Asked) (line text : List ℕ) (now : StreamState) : Type 0 where
+  pub done : IsDone state.house asks text now.house
+  pub remembered_is : now.remembered ≡ state.remembered ++ remembered_under state.house.config key line text
 
--- only a hub of the configuration in force changes it
-abbrev pub ByHub : Bool → State → Config → List ℕ → State → Type 0
-ByHub true state config text now = IsChanged state config text now
-ByHub false state config text now = (text ≡ refused_text state refusal.NotYours) × (now ≡ state)
+-- nothing is done for a line under whose request id a line was done
+abbrev pub IsDoneOnce : StreamState → Option RequestKey → Asked → Option Remembered → List ℕ → List ℕ → StreamState → Type 0
+IsDoneOnce state key asks None line text now = IsDoneLine state key asks line text now
+IsDoneOnce state key asks (Some found) line text now = (text ≡ again_text found line) × (now ≡ state)
 
--- a request is answered as a script answers it, under the configuration in force
-pub record IsReplied (state : State) (request : Request) (text : List ℕ) (now : State) : Type 0 where
-  pub text_is : text ≡ answer_text state.config (reply_to state.config state.events (admission state.config request))
-  pub now_is : now ≡ record { config = state.config; events = list_with state.config state.events (admission state.config request) }
+abbrev pub IsAnsweredAs : StreamState → Result AskedLine Refusal → List ℕ → List ℕ → StreamState → Type 0
+IsAnsweredAs state (Err why) line text now = (text ≡ refused_text state.house.config why) × (now ≡ state)
+IsAnsweredAs state (Ok asks) line text now = IsDoneOnce state (key_of asks) asks.asked (found_under state.remembered (key_of asks)) line text now
 
-abbrev pub IsAnsweredAs : State → Result Asked Refusal → List ℕ → State → Type 0
-IsAnsweredAs state (Err why) text now = (text ≡ refused_text state why) × (now ≡ state)
-IsAnsweredAs state (Ok (asked.Request request)) text now = IsReplied state request text now
-IsAnsweredAs state (Ok (asked.Change change)) text now = ByHub (is_hub state.config change.platform) state change.config text now
-
-abbrev pub IsAnswered : State → List ℕ → List ℕ → State → Type 0
-IsAnswered state line text now = IsAnsweredAs state (asked_of line) text now
+abbrev pub IsAnswered : StreamState → List ℕ → List ℕ → StreamState → Type 0
+IsAnswered state line text now = IsAnsweredAs state (asked_of line) line text now
 
 -- ---- many lines
 
 -- one line, and then the others
-pub record InTurn (First : List ℕ → State → Type 0) (Rest : State → List ℕ → State → Type 0) (text : List ℕ) (now : State) : Type 0 where
+pub record InTurn {A : Type 0} (First : List ℕ → A → Type 0) (Rest : A → List ℕ → A → Type 0) (text : List ℕ) (now : A) : Type 0 where
   pub one : List ℕ
   pub others : List ℕ
-  pub middle : State
+  pub middle : A
   pub text_is : text ≡ one ++ others
   pub first : First one middle
   pub rest : Rest middle others now
 
 -- the lines got this text, in turn, on the way from one state to another
-abbrev pub AreAnswered : State → List (List ℕ) → List ℕ → State → Type 0
+abbrev pub AreAnswered : StreamState → List (List ℕ) → List ℕ → StreamState → Type 0
 AreAnswered state [] text now = (text ≡ []) × (now ≡ state)
 AreAnswered state (line ∷ lines) text now =
     InTurn (IsAnswered state line) (λ middle others last. AreAnswered middle lines others last) text now
 
 -- the rule of a stream: if memory runs out at a line, the line is done or not
-abbrev pub stream_rule : Rule State
+abbrev pub stream_rule : Rule StreamState
 stream_rule = record {
   answers = AreAnswered;
   gives_up = λ state line now. (now ≡ state) ⊎ ((text : List ℕ) × IsAnswered state line text now);

@@ -3,8 +3,10 @@
 ghost use Rattle.std.specs.Prelude.{◌≡◌, IfOk, IfErr, Ok, Err, false};
 ghost use Rattle.ocpi_json.specs.Faults.{Finds};
 ghost use Rattle.plain_house.specs.Replies.{is_refusal_no_memory};
-ghost use Rattle.line_streams.specs.Asked.{asked_at, asked_of, change_at, changes_at, is_change, requests_at};
+ghost use Rattle.line_streams.specs.Asked.{asked_at, asked_of, change_at, changes_at, has_hub, is_change, line_at, requests_at};
+ghost use Rattle.line_streams.specs.Stream.{asking};
 
+use crate::request_id::RequestId;
 use cdr_checks::Request;
 use ocpi_json::ci_text::CiText;
 use ocpi_json::fields::{self, FieldFault};
@@ -48,10 +50,42 @@ pub enum Asked {
     Change(Change),
 }
 
+impl Asked {
+    ghost use Rattle.std.specs.Prelude.{◌≡◌};
+    ghost use Rattle.line_streams.specs.Stream.{asking};
+
+    /// Returns the name of the platform that asks.
+    pub fn platform(&self) -> CiText<36>
+        ensures { result ≡ asking self.now }
+    {
+        match self {
+            Asked::Request(request) => request.platform,
+            Asked::Change(change) => change.platform,
+        }
+    }
+}
+
+/// What a line asks for, and its request id if it has one.
+#[derive(Drop)]
+pub struct AskedLine {
+    pub id: Option<RequestId>,
+    pub asked: Asked,
+}
+
 fn is_change(node: &Node) -> bool
     ensures { result ≡ is_change node.now }
 {
     fields::parsed::<ChangeName>(node, Name::Do).is_ok()
+}
+
+fn has_hub(config: &Config) -> bool
+    ensures { result ≡ has_hub config.now }
+{
+    config
+        .platforms
+        .as_slice()
+        .iter()
+        .any(|platform| platform.hub)
 }
 
 #[inline(never)]
@@ -61,6 +95,9 @@ fn read_change(alloc: Global, node: &Node) -> Result<Change, FieldFault>
 {
     let platform = fields::ci_text(node, Name::Platform)?;
     let config = Config::from_node_in(alloc, &fields::object(node, Name::Configuration)?)?;
+    if !has_hub(&config) {
+        return Err(FieldFault::Field(Name::Platforms));
+    }
     Ok(Change { platform, config })
 }
 
@@ -88,14 +125,22 @@ fn read_asked(alloc: Global, node: &Node) -> Result<Asked, FieldFault>
     }
 }
 
-/// Reads what a line asks for.
+fn read_asked_line(alloc: Global, node: &Node) -> Result<AskedLine, FieldFault>
+    ensures { Finds result (line_at node.now) }
+{
+    let id = fields::parsed_or_none(node, Name::RequestId)?;
+    let asked = read_asked(alloc, node)?;
+    Ok(AskedLine { id, asked })
+}
+
+/// Reads what a line asks for, and its request id.
 ///
 /// # Errors
 ///
-/// `Syntax` if the line is no JSON, `Field` with the first member that is missing, of a wrong kind or out of bounds, `NoMemory` if an
-/// allocation fails.
+/// `Syntax` if the line is no JSON, `Field` with the first member that is missing, of a wrong kind or out of bounds, the request id before
+/// all others, `NoMemory` if an allocation fails.
 #[tactic(auto, unfolding(crate::specs::Asked::asked_of))]
-pub fn asked_of(alloc: Global, room: &mut Room, line: &[u8]) -> Result<Asked, Refusal>
+pub fn asked_of(alloc: Global, room: &mut Room, line: &[u8]) -> Result<AskedLine, Refusal>
     ensures asked { IfOk result (λ asked. asked_of line.now ≡ Ok asked) }
     ensures refusal { IfErr result (λ refusal. is_refusal_no_memory refusal ≡ false → asked_of line.now ≡ Err refusal) }
 {
@@ -104,7 +149,7 @@ pub fn asked_of(alloc: Global, room: &mut Room, line: &[u8]) -> Result<Asked, Re
         Err(ReadFault::Syntax) => return Err(Refusal::Syntax),
         Err(ReadFault::NoMemory) => return Err(Refusal::NoMemory),
     };
-    match read_asked(alloc, &read.value()) {
+    match read_asked_line(alloc, &read.value()) {
         Ok(asked) => Ok(asked),
         Err(FieldFault::Field(name)) => Err(Refusal::Field { name }),
         Err(FieldFault::NoMemory) => Err(Refusal::NoMemory),

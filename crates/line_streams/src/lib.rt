@@ -1,12 +1,23 @@
-//! Streams of lines: those of a script, and lines that change the configuration.
+//! Streams of lines: those of a script, lines that change the configuration, and lines with request ids, each of which is done once.
 #![tactic(auto)]
 
+mod answered;
 mod asked;
+mod doing;
+mod in_force;
 mod laws;
+mod once;
+mod reply;
+mod request_id;
 mod running;
 mod stream;
 
-pub use asked::{Asked, Change, ChangeName, asked_of};
-pub use laws::{streams_are_determined, streams_stay_legal, unchanged_is_a_script};
+pub use asked::{Asked, AskedLine, Change, ChangeName, asked_of};
+pub use laws::{
+    repeats_add_nothing, repeats_are_answered_alike, streams_are_determined, streams_stay_legal,
+    streams_stay_sound, unchanged_is_a_script,
+};
+pub use reply::LineReply;
+pub use request_id::RequestId;
 pub use running::run_stream;
 pub use stream::Stream;

@@ -1,191 +1,149 @@
 //! A house that answers the lines of a stream.
 
-ghost use Rattle.std.specs.Prelude.{◌≡◌, ◌⊎◌, ◌<◌, ℕ, List, [], length, slice_get, None, Some, Err, true, false, string_bytes, IfOk, OnErr};
-ghost use Rattle.ocpi_types.specs.Config.{is_hub};
-ghost use Rattle.cdr_checks.specs.Admission.{admission};
-ghost use Rattle.house_statements.specs.Order.{event_name};
-ghost use Rattle.plain_house.specs.declared.event.Event.{Event as EventValue};
-ghost use Rattle.plain_house.specs.Replies.{is_no_memory};
-ghost use Rattle.request_lines.specs.AnswerText.{answer_text};
-ghost use Rattle.request_lines.specs.Script.{list_with, reply_to};
-ghost use Rattle.line_streams.specs.Stream.{ByHub, IsChanged, IsReplied, configured_text, otherwise_text};
+ghost use Rattle.std.specs.Prelude.{◌≡◌};
+ghost use Rattle.line_streams.specs.Inner.Base.{base_of};
 
-use crate::asked::{Asked, Change, asked_of};
-use cdr_checks::{Request, admit};
-use house_statements::event_name;
-use new_configuration::{TakeOverFault, house_of};
+use crate::answered::AnsweredLines;
+use crate::asked::{AskedLine, asked_of};
+use crate::doing::do_asked;
+use crate::in_force::InForce;
+use crate::once::do_once;
+use crate::reply::{LineReply, used_line};
+use crate::request_id::IdKey;
 use ocpi_json::Room;
-use ocpi_types::{Config, Refusal, TryCopy};
+use ocpi_types::{Config, Refusal, Shared, TryCopy};
 use period_order::BookHouse;
-use plain_house::{Event, Refused, Replied, Sequential, is_out_of_memory};
-use request_lines::{Answerer, answer_line};
+use plain_house::Event;
+use request_lines::Answerer;
 use std::alloc::{AllocError, Global};
 
 /// A house that answers the lines of a stream, under the configuration in force.
 #[derive(Drop)]
 pub struct Stream {
-    config: Config,
+    in_force: InForce,
     house: BookHouse,
+    answered: AnsweredLines,
     room: Room,
-    ghost same: { house.config ≡ config },
+    refused: u128,
+    ghost base: { house.config ≡ base_of in_force },
+}
+
+/// Whether an answer is a refusal.
+fn is_refusal(answer: &[u8]) -> bool {
+    !answer.starts_with(b"{\"status_code\":1000,")
 }
 
 impl Stream {
-    ghost use Rattle.line_streams.specs.State.{state_of};
+    ghost use Rattle.std.specs.Prelude.{◌≡◌, IfOk, OnErr};
+    ghost use Rattle.line_streams.specs.State.{empty_under, line_text, shown_lines, state_of};
+    ghost use Rattle.line_streams.specs.Stream.{IsAnswered};
 
     /// Returns an empty house under a configuration.
     pub fn new(alloc: Global, config: Config) -> Result<Stream, AllocError>
-        ensures { IfOk result (λ stream. state_of stream ≡ record { config = config; events = [] }) }
+        ensures { IfOk result (λ stream. state_of stream ≡ empty_under config) }
     {
         let house = BookHouse::new(alloc, config.copy(alloc)?)?;
         Ok(Stream {
-            config,
+            in_force: InForce {
+                config: Shared::new(alloc, config)?,
+                is_lowered: false,
+            },
             house,
+            answered: AnsweredLines::new(alloc),
             room: Room::new(alloc),
+            refused: 0,
         })
     }
-}
 
-/// Returns the reply to a request.
-fn reply_to_request(
-    config: &Config,
-    house: &mut BookHouse,
-    request: Request,
-) -> Result<Replied, Refused>
-    requires { house.old.config ≡ config.now }
-    ensures config { house.new.config ≡ house.old.config }
-    ensures reply { is_no_memory result ≡ false → result ≡ reply_to config.now house.old.events (admission config.now request) }
-    ensures events { is_no_memory result ≡ false → house.new.events ≡ list_with config.now house.old.events (admission config.now request) }
-    ensures unchanged { is_no_memory result ≡ true → house.new.events ≡ house.old.events }
-{
-    match admit(config, request) {
-        Ok(command) => house.do_command(command),
-        Err(refusal) => Err(Refused { at: None, refusal }),
+    /// Returns the configuration in force.
+    pub fn config(&self) -> &Config
+        ensures { result.now ≡ (state_of self.now).house.config }
+    {
+        &self.in_force.config
     }
-}
 
-/// Answers a request as a script does.
-fn answer_request(
-    alloc: Global,
-    config: &Config,
-    house: &mut BookHouse,
-    request: Request,
-) -> Result<Vec<u8>, AllocError>
-    requires { house.old.config ≡ config.now }
-    ensures config { house.new.config ≡ config.now }
-    ensures ok { IfOk result (λ text. IsReplied house.old request text.items house.new) }
-    ensures err { OnErr result ((house.new ≡ house.old) ⊎ ((text : List ℕ) × IsReplied house.old request text house.new)) }
-{
-    let reply = reply_to_request(config, house, request);
-    if is_out_of_memory(&reply) {
-        return Err(AllocError);
+    /// Returns the configuration under which the events are legal: the one in force, or a looser one with the same operators, parties of
+    /// providers and currencies.
+    pub fn base(&self) -> &Config
+        ensures { result.now ≡ (state_of self.now).house.base }
+    {
+        self.house.config()
     }
-    answer_line(alloc, config, &reply)
-}
 
-/// Returns the line of a refusal before the house is asked.
-fn refused_line(alloc: Global, config: &Config, refusal: Refusal) -> Result<Vec<u8>, AllocError>
-    ensures { IfOk result (λ text. text.items ≡ answer_text config.now (Err (record { at = None; refusal = refusal }))) }
-{
-    answer_line(alloc, config, &Err(Refused { at: None, refusal }))
-}
+    /// Returns the events so far, the first one first.
+    pub fn events(&self, alloc: Global) -> Result<Vec<Event>, AllocError>
+        ensures { IfOk result (λ events. events.items ≡ (state_of self.now).house.events) }
+    {
+        self.house.events(alloc)
+    }
 
-/// Returns the answer to a change that is made after `at` events.
-fn configured_line(alloc: Global, at: u64) -> Result<String, AllocError>
-    ensures { IfOk result (λ text. string_bytes text ≡ configured_text at) }
-{
-    format!(in alloc; "{{\"status_code\":1000,\"answer\":\"Configured\",\"at\":{at}}}\n")
-}
+    /// Returns how many answers were refusals.
+    pub fn refused(&self) -> u128 {
+        self.refused
+    }
 
-/// Returns the refusal of a change under which an event would come out otherwise: of `at` events, that of this number and name.
-fn otherwise_line(alloc: Global, at: u64, number: u64, name: &str) -> Result<String, AllocError>
-    ensures { IfOk result (λ text. string_bytes text ≡ otherwise_text at number name.now) }
-{
-    format!(in alloc;
-        "{{\"status_code\":2000,\"refusal\":\"ComesOutOtherwise\",\"number\":29,\"at\":{at},\"event\":{number},\"kind\":\"{name}\"}}\n"
-    )
-}
+    /// Does what a line asks for, and returns its reply.
+    ///
+    /// # Errors
+    ///
+    /// `AllocError` if an allocation fails; the stream is as before.
+    pub fn reply_to(&mut self, alloc: Global, line: &[u8]) -> Result<LineReply, AllocError>
+        ensures ok { IfOk result (λ reply. IsAnswered (state_of self.old) line.now (line_text self.new.in_force.config (shown_lines self.new.answered) reply) (state_of self.new)) }
+        ensures err { OnErr result (state_of self.new ≡ state_of self.old) }
+    {
+        let AskedLine { id, asked } = match asked_of(alloc, &mut self.room, line) {
+            Ok(asks) => asks,
+            Err(Refusal::NoMemory) => return Err(AllocError),
+            Err(refusal) => return Ok(LineReply::refused(refusal)),
+        };
+        let (in_force, house) = (&mut self.in_force, &mut self.house);
+        let Some(id) = id else {
+            return Ok(LineReply::Done(do_asked(alloc, in_force, house, asked)?));
+        };
+        let key = IdKey::new(asked.platform(), id);
+        do_once(alloc, in_force, house, &mut self.answered, key, asked, line)
+    }
 
-/// Returns the name of the event of this number.
-fn name_at(events: &[Event], number: u64) -> &'static str
-    requires { number < length events.now }
-    ensures { (event : EventValue) → slice_get events.now number ≡ Some event → result.now ≡ event_name event }
-{
-    event_name(&events[number as usize])
-}
-
-/// Goes on under another configuration, if each event comes out again under it.
-fn change_to(
-    alloc: Global,
-    config: &mut Config,
-    house: &mut BookHouse,
-    change: Config,
-) -> Result<Vec<u8>, AllocError>
-    requires { house.old.config ≡ config.old }
-    ensures config { house.new.config ≡ config.new }
-    ensures ok { IfOk result (λ text. IsChanged house.old change text.items house.new) }
-    ensures err { OnErr result (house.new ≡ house.old) }
-{
-    let events = house.events(alloc)?;
-    let at = events.len() as u64;
-    match house_of(alloc, change.copy(alloc)?, events.as_slice()) {
-        Ok(new) => {
-            let text = configured_line(alloc, at)?;
-            *house = new;
-            *config = change;
-            Ok(text.into_bytes())
+    /// Returns the answer line of the reply to the last line.
+    ///
+    /// # Errors
+    ///
+    /// `AllocError` if an allocation fails; the same reply can be written again.
+    pub fn line_of(&self, alloc: Global, reply: &LineReply) -> Result<Vec<u8>, AllocError>
+        ensures { IfOk result (λ text. text.items ≡ line_text self.now.in_force.config (shown_lines self.now.answered) reply.now) }
+    {
+        match reply {
+            LineReply::Done(reply) => reply.line(alloc, &self.in_force.config),
+            LineReply::Remembered(key) => match self.answered.find(key) {
+                Some(answered) => answered.answer(alloc),
+                None => Ok(Vec::new(alloc)),
+            },
+            LineReply::IdUsed => used_line(alloc),
         }
-        Err(TakeOverFault::Otherwise { event }) => {
-            let name = name_at(events.as_slice(), event);
-            Ok(otherwise_line(alloc, at, event, name)?.into_bytes())
-        }
-        Err(TakeOverFault::NoMemory) => Err(AllocError),
-    }
-}
-
-/// Makes a change that a hub asks for, and refuses that of another platform.
-fn answer_change(
-    alloc: Global,
-    config: &mut Config,
-    house: &mut BookHouse,
-    change: Change,
-) -> Result<Vec<u8>, AllocError>
-    requires { house.old.config ≡ config.old }
-    ensures config { house.new.config ≡ config.new }
-    ensures ok { IfOk result (λ text. ByHub (is_hub house.old.config change.platform) house.old change.config text.items house.new) }
-    ensures err { OnErr result (house.new ≡ house.old) }
-{
-    if config.is_hub(&change.platform) {
-        change_to(alloc, config, house, change.config)
-    } else {
-        refused_line(alloc, config, Refusal::NotYours)
     }
 }
 
 impl Answerer for Stream {
     ghost use Rattle.std.specs.Prelude.{◌≡◌, ◌⊎◌, ℕ, List, refl};
     ghost use Rattle.line_streams.specs.Inner.Turns.{more_lines};
+    ghost use Rattle.line_streams.specs.State.{state_of};
     ghost use Rattle.line_streams.specs.Stream.{AreAnswered, IsAnswered};
 
     ghost rule = { record {
-      answers = λ a lines text b. AreAnswered a.house lines text b.house;
-      gives_up = λ a line b. (b.house ≡ a.house) ⊎ ((text : List ℕ) × IsAnswered a.house line text b.house);
+      answers = λ a lines text b. AreAnswered (state_of a) lines text (state_of b);
+      gives_up = λ a line b. (state_of b ≡ state_of a) ⊎ ((text : List ℕ) × IsAnswered (state_of a) line text (state_of b));
     } };
 
     ghost answers_none = { λ a. (refl, refl) };
 
-    ghost answers_more = { λ a b c ls ms t u h k. more_lines a.house b.house c.house ls ms t u h k };
+    ghost answers_more = { λ a b c ls ms t u h k. more_lines (state_of a) (state_of b) (state_of c) ls ms t u h k };
 
     fn answer(&mut self, alloc: Global, line: &[u8]) -> Result<Vec<u8>, AllocError> {
-        match asked_of(alloc, &mut self.room, line) {
-            Ok(Asked::Request(request)) => {
-                answer_request(alloc, &self.config, &mut self.house, request)
-            }
-            Ok(Asked::Change(change)) => {
-                answer_change(alloc, &mut self.config, &mut self.house, change)
-            }
-            Err(Refusal::NoMemory) => Err(AllocError),
-            Err(refusal) => refused_line(alloc, &self.config, refusal),
+        let reply = self.reply_to(alloc, line)?;
+        let answer = self.line_of(alloc, &reply)?;
+        if is_refusal(answer.as_slice()) {
+            self.refused = self.refused.saturating_add(1);
         }
+        Ok(answer)
     }
 }

@@ -7,6 +7,7 @@ use Rattle.plain_house.specs.Legal.{IsLegal}
 use Rattle.plain_house.specs.declared.event.Event.{Event}
 use Rattle.plain_house.specs.declared.event.Event.TheVariants as event
 use Rattle.house_statements.specs.Order.{event_name}
+use Rattle.new_configuration.specs.Loosened.{loosened}
 use Rattle.new_configuration.specs.TakenOver.{IsFirstOtherwise}
 
 -- what an event holds, in words
@@ -31,8 +32,16 @@ abbrev pub forbidden_text : ℕ → Event → List ℕ
 forbidden_text number event =
     codes "the change would be refused; event " ++ (decimal number ++ (codes " " ++ (event_name event ++ (codes ": " ++ (held_text event ++ codes "\n")))))
 
--- of these events under another configuration: each comes out again, or a first one does not
+-- the change would be made, with limits below what the event of this number, the first such, has led to
+abbrev pub past_text : ℕ → ℕ → Event → List ℕ
+past_text events number event =
+    codes "the change would be taken; events: " ++ (decimal events
+    ++ (codes "; past it event " ++ (decimal number ++ (codes " " ++ (event_name event ++ (codes ": " ++ (held_text event ++ codes "\n")))))))
+
+-- of these events under another configuration: each comes out again, or each once it is loosened, or a first one does not
 abbrev pub IsReported : Config → List Event → List ℕ → ℕ → Type 0
 IsReported config events text status =
     (IsLegal config events × (text ≡ taken_text (length events)) × (status ≡ 0))
-    ⊎ ((number : ℕ) × (first : IsFirstOtherwise config events number) × (text ≡ forbidden_text number first.event) × (status ≡ 3))
+    ⊎ (((number : ℕ) × (first : IsFirstOtherwise config events number) × IsLegal (loosened config) events × (text ≡ past_text (length events) number first.event)
+    × (status ≡ 0))
+    ⊎ ((number : ℕ) × (first : IsFirstOtherwise (loosened config) events number) × (text ≡ forbidden_text number first.event) × (status ≡ 3)))

@@ -2,15 +2,15 @@
 
 ghost use Rattle.std.specs.Prelude.{◌≡◌, ◌<◌, length, slice_get, string_bytes, IfOk, Some};
 ghost use Rattle.plain_house.specs.declared.event.Event.{Event as EventValue};
-ghost use Rattle.store_commands.specs.ChangeCheck.{IsReported, forbidden_text, held_text, taken_text};
+ghost use Rattle.store_commands.specs.ChangeCheck.{IsReported, forbidden_text, held_text, past_text, taken_text};
 
 use crate::reading::{StoreText, tell_unread};
 use command_line::{Fault, Output, read_config};
 use exact_money::Amount;
 use house_statements::event_name;
 use line_streams::{Stream, run_stream};
-use new_configuration::{TakeOverFault, house_of};
-use ocpi_types::Config;
+use new_configuration::{TakeOverFault, house_of, loosened};
+use ocpi_types::{Config, TryCopy};
 use plain_house::Event;
 use request_lines::{Device, write_all};
 use std::alloc::{AllocError, Global};
@@ -91,6 +91,17 @@ fn forbidden_line(alloc: Global, number: u64, event: &Event) -> Result<String, A
     format!(in alloc; "the change would be refused; event {number} {name}: {held}\n")
 }
 
+fn past_line(alloc: Global, events: usize, number: u64, event: &Event) -> Result<String, AllocError>
+    ensures { IfOk result (λ text. string_bytes text ≡ past_text events number event.now) }
+{
+    let name = event_name(event);
+    let held = held(alloc, event)?;
+    let held = held.as_str();
+    format!(in alloc;
+        "the change would be taken; events: {events}; past it event {number} {name}: {held}\n"
+    )
+}
+
 /// Reports that all of these events come out again.
 fn taken(alloc: Global, events: &[Event]) -> Result<Report, AllocError>
     ensures { IfOk result (λ report. (string_bytes report.text ≡ taken_text (length events.now)) × (report.status ≡ 0)) }
@@ -109,16 +120,46 @@ fn forbidden(alloc: Global, number: u64, events: &[Event]) -> Result<Report, All
     Ok(Report { text, status: 3 })
 }
 
-/// Reports whether a house of the configuration could have these events.
-fn report_of(alloc: Global, config: Config, events: &[Event]) -> Result<Report, AllocError>
-    ensures { IfOk result (λ report. IsReported config events.now (string_bytes report.text) report.status) }
+/// Reports that the change would be made, and that the event of this number is past it.
+fn past(alloc: Global, number: u64, events: &[Event]) -> Result<Report, AllocError>
+    requires { number < length events.now }
+    ensures { (event : EventValue) → slice_get events.now number ≡ Some event →
+        IfOk result (λ report. (string_bytes report.text ≡ past_text (length events.now) number event) × (report.status ≡ 0)) }
 {
-    match house_of(alloc, config, events) {
+    let text = past_line(alloc, events.len(), number, &events[number as usize])?;
+    Ok(Report { text, status: 0 })
+}
+
+/// Reports whether a house of the loosened configuration could have these events, of which that of this number is past the configuration.
+fn report_lowered(
+    alloc: Global,
+    config: &Config,
+    events: &[Event],
+    outside: u64,
+) -> Result<Report, AllocError>
+    requires { IsFirstOtherwise config.now events.now outside }
+    ensures { IfOk result (λ report. IsReported config.now events.now (string_bytes report.text) report.status) }
+{
+    match house_of(alloc, loosened(alloc, config)?, events) {
+        Ok(house) => {
+            drop(house);
+            past(alloc, outside, events)
+        }
+        Err(TakeOverFault::Otherwise { event }) => forbidden(alloc, event, events),
+        Err(TakeOverFault::NoMemory) => Err(AllocError),
+    }
+}
+
+/// Reports whether a house of the configuration could have these events.
+fn report_of(alloc: Global, config: &Config, events: &[Event]) -> Result<Report, AllocError>
+    ensures { IfOk result (λ report. IsReported config.now events.now (string_bytes report.text) report.status) }
+{
+    match house_of(alloc, config.copy(alloc)?, events) {
         Ok(house) => {
             drop(house);
             taken(alloc, events)
         }
-        Err(TakeOverFault::Otherwise { event }) => forbidden(alloc, event, events),
+        Err(TakeOverFault::Otherwise { event }) => report_lowered(alloc, config, events, event),
         Err(TakeOverFault::NoMemory) => Err(AllocError),
     }
 }
@@ -166,6 +207,6 @@ pub fn check_change<'a>(rt: &HostRuntime, config: &'a str, store: &str) -> Resul
     }
     let stream = read?;
     let events = stream.events(alloc)?;
-    let report = report_of(alloc, new, events.as_slice())?;
+    let report = report_of(alloc, &new, events.as_slice())?;
     Ok(print(rt, &report)?)
 }

@@ -3,6 +3,7 @@
 ghost use Rattle.kept_lines.specs.File.{IsLine};
 
 use crate::opening::open_store;
+use crate::reading::{open_begun, tell_unread};
 use crate::words::{KeepAsked, keep_asked};
 use command_line::{Errors, Fault, Output, read_config};
 use kept_answers::KeepFault;
@@ -75,6 +76,7 @@ fn keep_input<S: Start>(
         disk,
         program,
         config,
+        asked.config.is_some(),
         asked.from,
         &mut reader,
         &mut writer,
@@ -94,6 +96,14 @@ pub fn perform<'a>(
     requires { IsLine program.now }
 {
     let asked = keep_asked(words)?;
-    let config = read_config(rt, asked.config)?;
-    Ok(keep_input(rt, program, config.as_slice(), asked, Wary))
+    match asked.config {
+        Some(path) => {
+            let config = read_config(rt, path)?;
+            Ok(keep_input(rt, program, config.as_slice(), asked, Wary))
+        }
+        None => match open_begun(rt, asked.store) {
+            Ok((_reader, config)) => Ok(keep_input(rt, program, config.as_slice(), asked, Wary)),
+            Err(fault) => Ok(tell_unread(rt, false, asked.store, fault)),
+        },
+    }
 }

@@ -7,8 +7,8 @@ use command_line::Fault;
 /// What `keep` is asked.
 #[derive(Clone, Copy)]
 pub struct KeepAsked<'a> {
-    /// The configuration's path.
-    pub config: &'a str,
+    /// The configuration's path. Without one the store goes on under the configuration that it has.
+    pub config: Option<&'a str>,
     /// The store's path.
     pub store: &'a str,
     /// How many answers the client has.
@@ -33,14 +33,22 @@ pub fn keep_asked(words: &[String]) -> Result<KeepAsked<'_>, Fault<'static>>
     ensures { IfErr result (λ fault. fault ≡ Fault.Usage) }
 {
     let (config, store, from) = match words {
-        [_, config, store] => (config, store, None),
+        [_, store] => (None, store, None),
+        [_, config, store] => (Some(config.as_str()), store, None),
+        [_, store, option, digits] if option.as_str() == "--from" => {
+            (None, store, Some(count_of(digits.as_str())?))
+        }
         [_, config, store, option, digits] if option.as_str() == "--from" => {
-            (config, store, Some(count_of(digits.as_str())?))
+            (
+                Some(config.as_str()),
+                store,
+                Some(count_of(digits.as_str())?),
+            )
         }
         _ => return Err(Fault::Usage),
     };
     Ok(KeepAsked {
-        config: config.as_str(),
+        config,
         store: store.as_str(),
         from,
     })

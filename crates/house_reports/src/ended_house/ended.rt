@@ -82,7 +82,7 @@ fn house_of(alloc: Global, stream: &Stream) -> Result<EndedHouse, AllocError>
     requires { let house = house_in (state_of stream.now) in IsLegal house.config house.events }
     ensures { IfOk result (λ ended. ended ≡ house_in (state_of stream.now)) }
 {
-    let config = stream.config().copy(alloc)?;
+    let config = stream.base().copy(alloc)?;
     let events = stream.events(alloc)?;
     Ok(EndedHouse {
         config,
@@ -99,7 +99,6 @@ fn streamed<R: Source>(
     ensures house { IfOk result (λ ended. HasStreamed R.reading reader.old reader.new config ended) }
     ensures fault { IfErr result (λ fault. fault ≢ ScriptFault.NoMemory → IsStreamStopped R.reading reader.old reader.new config fault) }
 {
-    empty_lists_are_legal();
     streams_stay_legal();
     let Ok(mut stream) = Stream::new(alloc, config) else {
         return Err(ScriptFault::NoMemory);

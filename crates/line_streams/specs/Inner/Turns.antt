@@ -1,12 +1,12 @@
 -- Lines answered one after another.
 use Rattle.std.specs.Prelude.{ℕ, List, [], ◌∷◌, ◌++◌}
 use Rattle.std.proofs.Common.{sym, ap, subst, ◌∙◌, append_assoc}
-use Rattle.plain_house.specs.State.{State}
+use Rattle.line_streams.specs.State.{StreamState}
 use Rattle.line_streams.specs.Stream.{AreAnswered}
 
-pub more_lines : (a b c : State) (ls ms : List (List ℕ)) (t u : List ℕ) → AreAnswered a ls t b → AreAnswered b ms u c → AreAnswered a (ls ++ ms) (t ++ u) c
+pub more_lines : (a b c : StreamState) (ls ms : List (List ℕ)) (t u : List ℕ) → AreAnswered a ls t b → AreAnswered b ms u c → AreAnswered a (ls ++ ms) (t ++ u) c
 more_lines a b c [] ms t u h k =
-    subst (λ (x : List ℕ). AreAnswered a ms x c) (ap (λ (x : List ℕ). x ++ u) (sym h.0)) (subst (λ (s : State). AreAnswered s ms u c) h.1 k)
+    subst (λ (x : List ℕ). AreAnswered a ms x c) (ap (λ (x : List ℕ). x ++ u) (sym h.0)) (subst (λ (s : StreamState). AreAnswered s ms u c) h.1 k)
 more_lines a b c (l ∷ ls) ms t u h k = record {
   one = h.one;
   others = h.others ++ u;

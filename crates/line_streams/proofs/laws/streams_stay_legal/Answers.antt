@@ -1,5 +1,8 @@
-use Rattle.line_streams.proofs.StreamLemmas.{stays_legal}
+use Rattle.std.proofs.Common.{[]}
+use Rattle.line_streams.specs.State.{empty_under}
 use Rattle.line_streams.proofs.laws.streams_stay_legal.Goals as goal
 
 pub returns : goal.returns
-returns c = stays_legal c.commands_keep_lists_legal.ensures
+returns c = λ config lines text now answered.
+    (c.streams_stay_sound.ensures (empty_under config) lines text now
+    (record { legal = c.empty_lists_are_legal.ensures config; judges = c.configurations_judge_for_themselves.ensures config }) answered).legal

@@ -1,0 +1,85 @@
+//! The lines that were done under request ids.
+
+use crate::reply::StreamReply;
+use crate::request_id::IdKey;
+use indexmap::IndexMap;
+use ocpi_types::{Config, Shared};
+use std::alloc::{AllocError, Global};
+
+/// A line that was done, and its reply under the configuration that was in force.
+#[derive(Drop)]
+pub struct Answered {
+    pub line: Vec<u8>,
+    pub config: Shared<Config>,
+    pub reply: StreamReply,
+}
+
+impl Answered {
+    ghost use Rattle.std.specs.Prelude.{◌≡◌, IfOk};
+    ghost use Rattle.std.specs.Str.{bytes_eq};
+    ghost use Rattle.line_streams.specs.State.{shown_answered};
+
+    /// Returns the answer to the line.
+    pub fn answer(&self, alloc: Global) -> Result<Vec<u8>, AllocError>
+        ensures { IfOk result (λ text. text.items ≡ (shown_answered self.now).answer) }
+    {
+        self.reply.line(alloc, &self.config)
+    }
+
+    /// Whether a line is the one that was done.
+    pub fn is_line(&self, line: &[u8]) -> bool
+        ensures { result ≡ bytes_eq (shown_answered self.now).line line.now }
+    {
+        self.line.as_slice() == line
+    }
+}
+
+/// The lines that were done under request ids, the first one first.
+#[derive(Drop)]
+pub struct AnsweredLines {
+    lines: IndexMap<IdKey, Answered>,
+}
+
+impl AnsweredLines {
+    ghost use Rattle.std.specs.Prelude.{◌≡◌, ◌<◌, [], ◌∷◌, ◌++◌, None, option_map, option_copied, OnOk};
+    ghost use Rattle.std.specs.Map.{lookup};
+    ghost use Rattle.indexmap.specs.IndexMap.{spare};
+    ghost use Rattle.line_streams.specs.State.{same_request, shown_answered, shown_key, shown_lines};
+
+    /// Returns no lines.
+    pub fn new(alloc: Global) -> AnsweredLines
+        ensures { shown_lines result ≡ [] }
+    {
+        AnsweredLines {
+            lines: IndexMap::new(alloc),
+        }
+    }
+
+    /// Returns the line that was done under a request id.
+    pub fn find(&self, key: &IdKey) -> Option<&Answered>
+        ensures { option_map shown_answered (option_copied result) ≡ lookup (same_request (shown_key key.now)) (shown_lines self.now) }
+    {
+        self.lines.get(key)
+    }
+
+    /// Takes memory for one more line.
+    ///
+    /// # Errors
+    ///
+    /// `AllocError` if an allocation fails; the lines are as before.
+    pub fn reserve(&mut self) -> Result<(), AllocError>
+        ensures lines { shown_lines self.new ≡ shown_lines self.old }
+        ensures room { OnOk result (0 < spare self.new.lines) }
+    {
+        self.lines.reserve(1)
+    }
+
+    /// Adds a line under a request id under which no line was done, without an allocation.
+    pub fn add(&mut self, key: IdKey, answered: Answered)
+        requires room { 0 < spare self.old.lines }
+        requires absent { lookup (same_request (shown_key key)) (shown_lines self.old) ≡ None }
+        ensures { shown_lines self.new ≡ shown_lines self.old ++ (shown_key key, shown_answered answered) ∷ [] }
+    {
+        self.lines.insert(key, answered).unwrap();
+    }
+}

@@ -1,0 +1,191 @@
+"""Stores of `clear keep`: a folder with a configuration, lines and stores, and a client that counts its answers."""
+
+from __future__ import annotations
+
+import os
+import random
+import select
+import signal
+import subprocess
+import time
+from pathlib import Path
+
+TOP = Path(__file__).resolve().parent.parent.parent
+
+Ended = tuple[int, bytes, str]
+
+
+class Room:
+    """A folder with a configuration, lines, and stores in which they are kept."""
+
+    def __init__(
+        self,
+        program: str,
+        work: Path,
+        config: str,
+        lines: list[bytes],
+        answers: str = "script",
+    ) -> None:
+        self.program, self.work, self.answers = program, work, answers
+        self.config = self.file("config.json", config.encode("ascii"))
+        self.lines = lines
+        self.few = self.lines[:7]
+        self.wanted = self.answered(self.lines)
+        self.rng = random.Random("kept")
+        self.longest = 0.15  # seconds until a kill
+        self.disk = {"LD_PRELOAD": self.shim("disk"), "DISK_OF": "/requests"}
+        self.memory = {"LD_PRELOAD": self.shim("refuse")}
+
+    def shim(self, name: str) -> str:
+        """The path of a library that is preloaded."""
+        library = self.work / f"{name}.so"
+        source = TOP / "tests" / "faults" / f"{name}.c"
+        words: list[str | Path] = [
+            "cc",
+            "-O1",
+            "-shared",
+            "-fPIC",
+            "-o",
+            library,
+            source,
+            "-ldl",
+        ]
+        subprocess.run(words, check=True)
+        return str(library)
+
+    def file(self, name: str, data: bytes) -> Path:
+        """A file of this content in the folder."""
+        path = self.work / name
+        path.write_bytes(data)
+        return path
+
+    def words(self, store: str, *more: str) -> list[str | Path]:
+        """The arguments of `keep`. A store whose configuration may have changed is gone on with under the one that it has."""
+        is_open = self.answers == "stream" and self.has_begun(store)
+        config = [] if is_open else [self.config]
+        return [self.program, "keep", *config, self.work / store, *more]
+
+    def answered(self, lines: list[bytes]) -> list[bytes]:
+        """The answers to these lines by the command that keeps nothing."""
+        words: list[str | Path] = [self.program, self.answers, self.config]
+        done = subprocess.run(
+            words, input=b"".join(lines), stdout=subprocess.PIPE, check=True
+        )
+        return done.stdout.splitlines(True)
+
+    def keep(
+        self,
+        store: str,
+        given: bytes,
+        *more: str,
+        before: tuple[str, ...] = (),
+        faults: dict[str, str] | None = None,
+    ) -> Ended:
+        """Status, answers and standard error of `keep` over these bytes."""
+        words: list[str | Path] = [*before, *self.words(store, *more)]
+        environment = {**os.environ, **faults} if faults else None
+        done = subprocess.run(
+            words,
+            input=given,
+            capture_output=True,
+            timeout=60,
+            env=environment,
+            check=False,
+        )
+        return done.returncode, done.stdout, done.stderr.decode()
+
+    def kept(self, store: str) -> list[bytes]:
+        """The lines that a store keeps."""
+        done = subprocess.run(
+            [self.program, "log", self.work / store], stdout=subprocess.PIPE, check=True
+        )
+        return done.stdout.splitlines(True)
+
+    def has_begun(self, store: str) -> bool:
+        """Whether a store has a line, its first record at least."""
+        requests = self.work / store / "requests"
+        return requests.exists() and requests.read_bytes()[:1] == b"+"
+
+    def check(self, store: str) -> bytes:
+        """What `check` prints of a store."""
+        words: list[str | Path] = [self.program, "check", self.work / store]
+        return subprocess.run(words, stdout=subprocess.PIPE, check=True).stdout
+
+
+class Client:
+    """A client of one store. It counts the answers that came whole."""
+
+    def __init__(self, room: Room, store: str) -> None:
+        self.room, self.store = room, store
+        self.answers: list[bytes] = []
+
+    def take(self, printed: bytes) -> None:
+        """Takes the whole lines that were printed, of which the first says how many lines are kept."""
+        whole = printed[: printed.rfind(b"\n") + 1].splitlines(True)
+        self.answers += whole[1:]
+
+    def start(self) -> subprocess.Popen[bytes]:
+        words = self.room.words(self.store, "--from", str(len(self.answers)))
+        return subprocess.Popen(
+            words,
+            stdin=subprocess.PIPE,
+            stdout=subprocess.PIPE,
+            stderr=subprocess.DEVNULL,
+            start_new_session=True,
+        )
+
+    def stop_at_random(self) -> None:
+        """Gives it the lines that are not kept, a few at a time, until it is killed."""
+        rng = self.room.rng
+        until = time.monotonic() + rng.random() * self.room.longest
+        with self.start() as keep:
+            assert keep.stdin and keep.stdout
+            os.set_blocking(keep.stdout.fileno(), False)
+            printed = b""
+            left: list[bytes] | None = None
+            while time.monotonic() < until:
+                printed += (
+                    os.read(keep.stdout.fileno(), 1 << 16) if readable(keep) else b""
+                )
+                if left is None and b"\n" in printed:
+                    left = self.room.lines[int(printed[8 : printed.index(b"}")]) :]
+                if left:
+                    count = rng.choice([1, 2, 3, 40])
+                    keep.stdin.write(b"".join(left[:count]))
+                    keep.stdin.flush()
+                    left = left[count:]
+                time.sleep(rng.random() * 0.01)
+            os.killpg(keep.pid, signal.SIGKILL)
+            os.set_blocking(keep.stdout.fileno(), True)
+            printed += keep.stdout.read()
+        self.take(printed)
+
+    def go_on(self) -> Ended:
+        """Gives it all lines that are not kept, and lets it end."""
+        had = str(len(self.answers))
+        kept = len(self.room.kept(self.store)) if self.room.has_begun(self.store) else 0
+        ended = self.room.keep(
+            self.store, b"".join(self.room.lines[kept:]), "--from", had
+        )
+        self.take(ended[1])
+        return ended
+
+
+def readable(process: subprocess.Popen[bytes]) -> bool:
+    """Whether a read of the process's output would return at once with bytes."""
+    return bool(select.select([process.stdout], [], [], 0)[0])
+
+
+def killed(room: Room, kills: int) -> bool:
+    """However often it is killed, each answer comes once, and is of a line that is kept."""
+    client = Client(room, "killed")
+    for number in range(kills):
+        client.stop_at_random()
+        kept = room.kept(client.store) if room.has_begun(client.store) else []
+        if kept != room.lines[: len(kept)] or len(client.answers) > len(kept):
+            return False
+        if client.answers == room.wanted:
+            client = Client(room, f"killed_{number}")
+    status, _, told = client.go_on()
+    is_whole = room.kept(client.store) == room.lines and client.answers == room.wanted
+    return (status, told) == (0, "") and is_whole
