@@ -33,7 +33,7 @@ forbidden_text number event =
     codes "the change would be refused; event " ++ (decimal number ++ (codes " " ++ (event_name event ++ (codes ": " ++ (held_text event ++ codes "\n")))))
 
 -- the change would be made, with limits below what the event of this number, the first such, has led to
-abbrev pub past_text : ℕ → ℕ → Event → List ℕ
+unfoldable pub past_text : ℕ → ℕ → Event → List ℕ
 past_text events number event =
     codes "the change would be taken; events: " ++ (decimal events
     ++ (codes "; past it event " ++ (decimal number ++ (codes " " ++ (event_name event ++ (codes ": " ++ (held_text event ++ codes "\n")))))))

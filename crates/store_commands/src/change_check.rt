@@ -2,6 +2,7 @@
 
 ghost use Rattle.std.specs.Prelude.{◌≡◌, ◌<◌, length, slice_get, string_bytes, IfOk, Some};
 ghost use Rattle.plain_house.specs.declared.event.Event.{Event as EventValue};
+ghost use Rattle.new_configuration.specs.TakenOver.{IsFirstOtherwise};
 ghost use Rattle.store_commands.specs.ChangeCheck.{IsReported, forbidden_text, held_text, past_text, taken_text};
 
 use crate::reading::{StoreText, tell_unread};
@@ -91,6 +92,7 @@ fn forbidden_line(alloc: Global, number: u64, event: &Event) -> Result<String, A
     format!(in alloc; "the change would be refused; event {number} {name}: {held}\n")
 }
 
+#[tactic(auto, unfolding(crate::specs::ChangeCheck::past_text))]
 fn past_line(alloc: Global, events: usize, number: u64, event: &Event) -> Result<String, AllocError>
     ensures { IfOk result (λ text. string_bytes text ≡ past_text events number event.now) }
 {
@@ -120,13 +122,13 @@ fn forbidden(alloc: Global, number: u64, events: &[Event]) -> Result<Report, All
     Ok(Report { text, status: 3 })
 }
 
-/// Reports that the change would be made, and that the event of this number is past it.
-fn past(alloc: Global, number: u64, events: &[Event]) -> Result<Report, AllocError>
+/// Reports that the change would be made, and that of so many events that of this number is past it.
+fn past(alloc: Global, count: usize, number: u64, events: &[Event]) -> Result<Report, AllocError>
     requires { number < length events.now }
     ensures { (event : EventValue) → slice_get events.now number ≡ Some event →
-        IfOk result (λ report. (string_bytes report.text ≡ past_text (length events.now) number event) × (report.status ≡ 0)) }
+        IfOk result (λ report. (string_bytes report.text ≡ past_text count number event) × (report.status ≡ 0)) }
 {
-    let text = past_line(alloc, events.len(), number, &events[number as usize])?;
+    let text = past_line(alloc, count, number, &events[number as usize])?;
     Ok(Report { text, status: 0 })
 }
 
@@ -143,7 +145,7 @@ fn report_lowered(
     match house_of(alloc, loosened(alloc, config)?, events) {
         Ok(house) => {
             drop(house);
-            past(alloc, outside, events)
+            past(alloc, events.len(), outside, events)
         }
         Err(TakeOverFault::Otherwise { event }) => forbidden(alloc, event, events),
         Err(TakeOverFault::NoMemory) => Err(AllocError),
