@@ -128,12 +128,12 @@ fn report_config<'a>(rt: &HostRuntime, words: &'a [String]) -> Result<ExitCode, 
     if option.as_str() != "--store" {
         return tell_config(rt, words);
     }
-    let told = tell_config(rt, first)?;
-    if told == ExitCode::from(1) {
-        return Ok(told);
+    let of_config = tell_config(rt, first)?;
+    if of_config == ExitCode::from(1) {
+        return Ok(of_config);
     }
     match check_change(rt, only_word(first)?, store.as_str())? {
-        0 => Ok(told),
+        0 => Ok(of_config),
         status => Ok(ExitCode::from(status)),
     }
 }

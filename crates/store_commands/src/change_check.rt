@@ -2,17 +2,19 @@
 
 ghost use Rattle.std.specs.Prelude.{◌≡◌, ◌<◌, length, slice_get, string_bytes, IfOk, Some};
 ghost use Rattle.plain_house.specs.declared.event.Event.{Event as EventValue};
+ghost use Rattle.plain_house.specs.declared.event.Event.TheVariants as event;
 ghost use Rattle.new_configuration.specs.TakenOver.{IsFirstOtherwise};
 ghost use Rattle.store_commands.specs.ChangeCheck.{IsReported, forbidden_text, held_text, past_text, taken_text};
 
 use crate::reading::{StoreText, tell_unread};
+use cdr_checks::Settlement;
 use command_line::{Fault, Output, read_config};
 use exact_money::Amount;
 use house_statements::event_name;
 use line_streams::{Stream, run_stream};
 use new_configuration::{TakeOverFault, house_of, loosened};
-use ocpi_types::{Config, TryCopy};
-use plain_house::Event;
+use ocpi_types::{Cdr, Config, Cost, TryCopy};
+use plain_house::{Event, Hold};
 use request_lines::{Device, write_all};
 use std::alloc::{AllocError, Global};
 use std::cell::Cell;
@@ -23,6 +25,47 @@ use std::io;
 struct Report {
     text: String,
     status: u8,
+}
+
+/// Returns in words what a hold is.
+#[tactic(auto, unfolding(crate::specs::ChangeCheck::held_text))]
+fn hold_words(alloc: Global, hold: &Hold) -> Result<String, AllocError>
+    ensures { IfOk result (λ text. string_bytes text ≡ held_text (event.Authorised hold.now)) }
+{
+    let amount = Amount::from_ten_thousandths(hold.amount.get() as i64);
+    format!(in alloc;
+        "hold {} of {} was {amount} {}",
+        hold.reference.as_str(),
+        hold.provider,
+        hold.currency.as_str()
+    )
+}
+
+/// Returns in words what a CDR is, and its cost.
+#[tactic(auto, unfolding(crate::specs::ChangeCheck::held_text))]
+fn cdr_words(alloc: Global, cdr: &Cdr, cost: Cost) -> Result<String, AllocError>
+    ensures { IfOk result (λ text. string_bytes text ≡ held_text (event.Cdr cdr.now cost)) }
+{
+    let amount = Amount::from_ten_thousandths(cost.get() as i64);
+    format!(in alloc;
+        "CDR {} of {} cost {amount} {}",
+        cdr.id.as_str(),
+        cdr.operator,
+        cdr.currency.as_str()
+    )
+}
+
+/// Returns in words what a settlement is.
+#[tactic(auto, unfolding(crate::specs::ChangeCheck::held_text))]
+fn settlement_words(alloc: Global, settlement: &Settlement) -> Result<String, AllocError>
+    ensures { IfOk result (λ text. string_bytes text ≡ held_text (event.Settled settlement.now)) }
+{
+    format!(in alloc;
+        "period {} of {} in {}",
+        settlement.period,
+        settlement.provider,
+        settlement.currency.as_str()
+    )
 }
 
 /// Returns in words what an event holds.
@@ -37,15 +80,7 @@ fn held(alloc: Global, event: &Event) -> Result<String, AllocError>
         Event::Token(token) => {
             format!(in alloc; "token {} of {}", token.uid.as_str(), token.provider)
         }
-        Event::Authorised(hold) => {
-            let amount = Amount::from_ten_thousandths(hold.amount.get() as i64);
-            format!(in alloc;
-                "hold {} of {} was {amount} {}",
-                hold.reference.as_str(),
-                hold.provider,
-                hold.currency.as_str()
-            )
-        }
+        Event::Authorised(hold) => hold_words(alloc, hold),
         Event::Released(release) => {
             format!(in alloc;
                 "hold {} of {}",
@@ -53,26 +88,11 @@ fn held(alloc: Global, event: &Event) -> Result<String, AllocError>
                 release.provider
             )
         }
-        Event::Cdr { cdr, cost } => {
-            let amount = Amount::from_ten_thousandths(cost.get() as i64);
-            format!(in alloc;
-                "CDR {} of {} cost {amount} {}",
-                cdr.id.as_str(),
-                cdr.operator,
-                cdr.currency.as_str()
-            )
-        }
+        Event::Cdr { cdr, cost } => cdr_words(alloc, cdr, *cost),
         Event::Credit { cdr, .. } => {
             format!(in alloc; "Credit CDR {} of {}", cdr.id.as_str(), cdr.operator)
         }
-        Event::Settled(settlement) => {
-            format!(in alloc;
-                "period {} of {} in {}",
-                settlement.period,
-                settlement.provider,
-                settlement.currency.as_str()
-            )
-        }
+        Event::Settled(settlement) => settlement_words(alloc, settlement),
         Event::Closed { period } => format!(in alloc; "period {period}"),
     }
 }

@@ -16,15 +16,20 @@ fn count_lines(reader: &mut StoreReader) -> Result<u64, ReadingFault> {
     Err(ReadingFault::Store(StoreFault::NoStore))
 }
 
+/// The number of lines that the store at this path keeps, and whether more than a closed mark comes after them.
+fn counted(rt: &HostRuntime, store: &str) -> Result<(u64, bool), ReadingFault> {
+    let (mut reader, _) = open_begun(rt, store)?;
+    let kept = count_lines(&mut reader)?;
+    Ok((kept, reader.is_torn()))
+}
+
 /// Writes how many lines the store at this path keeps, and whether more than a closed mark comes after them.
 fn write_checked<W: Sink>(
     rt: &HostRuntime,
     store: &str,
     writer: &mut W,
 ) -> Result<(), ReadingFault> {
-    let (mut reader, _) = open_begun(rt, store)?;
-    let kept = count_lines(&mut reader)?;
-    let torn = reader.is_torn();
+    let (kept, torn) = counted(rt, store)?;
     let text = format!(in rt.alloc(); "{{\"kept\":{kept},\"torn\":{torn}}}\n")?;
     match write_all(writer, text.as_bytes()) {
         Ok(()) => Ok(()),
