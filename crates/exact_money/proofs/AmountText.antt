@@ -1,8 +1,12 @@
 -- The four decimals, and the text read back.
-use Rattle.std.proofs.Common.{sym, ◌*◌, ◌≡◌, ℕ, ◌+◌, ◌-◌, ◌/◌, ◌%◌, ◌^◌, ◌<◌, ◌≤◌, ◌⊎◌, ◌≢◌, inl, inr, List, [], ◌∷◌, ◌++◌, false, decimal, length, get_or, arith, ap, ◌∙◌, refl, ℤ}
+use Rattle.std.proofs.Common.{sym, ◌*◌, ◌≡◌, ℕ, ◌+◌, ◌-◌, ◌/◌, ◌%◌, ◌^◌, ◌<◌, ◌≤◌, ◌⊎◌, ◌≢◌, inl, inr, List, [], ◌∷◌, ◌++◌, Bool, true, false, decimal, drop, length, length-drop, get_or, set, arith, ap, ◌∙◌, refl, ℤ}
 use Rattle.std.proofs.lemmas.Bool.{cases_lt}
 use Rattle.std.proofs.lemmas.Bool.Decides.{nat_tests}
-use Rattle.std.proofs.lemmas.Fmt.{decimal_digit, decimal_step_wide, decimal_is_IsNumeral_wide, first_decimal, decimal-digits_value}
+use Rattle.std.proofs.lemmas.List.{drop_all, drop-drop, drop-set}
+use Rattle.std.proofs.lemmas.Str.{IsAscii-append}
+use Rattle.std.proofs.lemmas.Str.Ascii.{IsAscii-nil, IsAscii-cons}
+use Rattle.std.specs.Str.{IsAscii}
+use Rattle.std.proofs.lemmas.Fmt.{IsAscii-decimal, decimal_digit, decimal_step_wide, decimal_is_IsNumeral_wide, first_decimal, decimal-digits_value}
 use Rattle.std.proofs.lemmas.Str.Parse.{numerals_by_value, tells_digits}
 use Rattle.std.specs.Char.{digit_value}
 use Rattle.std.specs.Fmt.{padded_integral, styled_decimal, format_spec, char_count, sign_text}
@@ -44,6 +48,52 @@ padded_below n small = elim (cases_lt n 10) [
 
 pub padded_is : (n : ℕ) → padded (n % 10000) ≡ four_digits n
 padded_is n = padded_below (n % 10000) (omega arith) ∙ same_four _ _ _ _ _ _ _ _ (omega arith) (omega arith) (omega arith) (omega arith)
+
+same_five : (a b c d e v w x y z : ℕ) → a ≡ v → b ≡ w → c ≡ x → d ≡ y → e ≡ z → a ∷ b ∷ c ∷ d ∷ e ∷ [] ≡ v ∷ w ∷ x ∷ y ∷ z ∷ []
+same_five a b c d e v w x y z p q r s t = λ i. p i ∷ q i ∷ r i ∷ s i ∷ t i ∷ []
+
+-- with a one before them, four decimals keep their zeros
+pub one_before : (n : ℕ) → decimal (10000 + n % 10000) ≡ 49 ∷ four_digits n
+one_before n =
+    let m : ℕ = 10000 + n % 10000 in
+    decimal_step_wide m (omega arith) (omega arith) ∙ ap (λ l. l ++ ((48 + m % 10) ∷ [])) (all_digits (m / 10) (omega arith) (omega arith))
+    ∙ same_five _ _ _ _ _ _ _ _ _ _ (omega arith) (omega arith) (omega arith) (omega arith) (omega arith)
+
+-- the text with the point in the place of that one
+pub point_placed : (n start : ℕ) (old new : List ℕ) → length old ≡ 24 → start + length (decimal (10000 + n % 10000)) ≡ 24
+    → drop start new ≡ decimal (10000 + n % 10000) ++ drop 24 old → drop 19 (set new 19 46) ≡ 46 ∷ four_digits n
+point_placed n start old new long ends written =
+    let five = ap length (one_before n) in
+    let at : start ≡ 19 = omega (arith, five, ends) in
+    let none : drop 24 old ≡ [] = drop_all 24 old (omega (arith, long)) in
+    let from : drop 19 new ≡ 49 ∷ four_digits n = ap (λ k. drop k new) (sym at) ∙ written ∙ (λ i. one_before n i ++ none i) in
+    drop-set new 19 46 (omega (arith, ap length from, length-drop 19 new)) ∙ ap (λ l. 46 ∷ l) (sym (drop-drop 1 19 new) ∙ ap (drop 1) from)
+
+-- the parts of the text, by the sign
+pub negative_text : (amount : ℤ) (size : ℕ) → size ≡ unsigned_abs amount → is_negative amount ≡ true → 45 ∷ (decimal (size / 10000) ++ (46 ∷ four_digits size)) ≡ amount_text amount
+unfolding amount_text
+negative_text amount size s n = λ i. sign_text (sym n i) ++ (decimal (s i / 10000) ++ (46 ∷ four_digits (s i)))
+
+pub positive_text : (amount : ℤ) (size : ℕ) → size ≡ unsigned_abs amount → is_negative amount ≡ false → decimal (size / 10000) ++ (46 ∷ four_digits size) ≡ amount_text amount
+unfolding amount_text
+positive_text amount size s n = λ i. sign_text (sym n i) ++ (decimal (s i / 10000) ++ (46 ∷ four_digits (s i)))
+
+IsAscii-sign : (negative : Bool) → IsAscii (sign_text negative)
+IsAscii-sign true = IsAscii-cons 45 [] (omega arith) IsAscii-nil
+IsAscii-sign false = IsAscii-nil
+
+IsAscii-four : (n : ℕ) → IsAscii (four_digits n)
+IsAscii-four n =
+    IsAscii-cons (48 + n / 1000 % 10) ((48 + n / 100 % 10) ∷ (48 + n / 10 % 10) ∷ (48 + n % 10) ∷ []) (omega arith)
+    (IsAscii-cons (48 + n / 100 % 10) ((48 + n / 10 % 10) ∷ (48 + n % 10) ∷ []) (omega arith)
+    (IsAscii-cons (48 + n / 10 % 10) ((48 + n % 10) ∷ []) (omega arith) (IsAscii-cons (48 + n % 10) [] (omega arith) IsAscii-nil)))
+
+pub IsAscii-amount : (amount : ℤ) (size : ℕ) → size ≡ unsigned_abs amount → size < 2 ^ 64 → IsAscii (amount_text amount)
+unfolding amount_text
+IsAscii-amount amount size is small =
+    IsAscii-append (sign_text (is_negative amount)) _ (IsAscii-sign (is_negative amount))
+    (IsAscii-append (decimal (unsigned_abs amount / 10000)) _ (IsAscii-decimal (unsigned_abs amount / 10000) (omega (arith, is, small)))
+    (IsAscii-cons 46 (four_digits (unsigned_abs amount)) (omega arith) (IsAscii-four (unsigned_abs amount))))
 
 -- the pieces that are written make the text
 pub written : (amount : ℤ) (sign decimals : List ℕ) (size : ℕ) → sign ≡ sign_text (is_negative amount) → size ≡ unsigned_abs amount

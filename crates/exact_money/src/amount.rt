@@ -1,6 +1,7 @@
 ghost use Rattle.std.specs.Prelude.{◌≡◌, ◌^◌, ◌++◌, ℤ, pos, neg_ℤ, ◌<ℤ◌, Some, OnOk, OnErr};
 ghost use Rattle.exact_money.specs.Amount.{amount_text, AmountTextReadsBack};
 
+use crate::amount_buffer::AmountBuffer;
 use std::alloc::AllocError;
 use std::fmt;
 use std::marker::Model;
@@ -48,8 +49,8 @@ impl Amount {
         ensures ok { OnOk result (out.new.items ≡ out.old.items ++ amount_text self) }
         ensures err { OnErr result (out.new.items ≡ out.old.items) }
     {
-        let text = self.to_string(*out.allocator())?;
-        out.extend_from_slice(text.as_bytes())
+        let mut buffer = AmountBuffer::new();
+        out.extend_from_slice(buffer.format(self).as_bytes())
     }
 }
 
