@@ -1,17 +1,22 @@
 -- A value nests as deep as brackets are open along its tokens.
-use Rattle.std.proofs.Common.{◌≡◌, ℕ, ◌+◌, ◌-◌, ◌≤◌, List, [], ◌∷◌, ◌++◌, true, false, Option, Some, None, option_and_then, refl, sym, ap, ◌∙◌, subst, append_assoc, append-nil, arith}
+use Rattle.std.proofs.Common.{◌≡◌, ℕ, ◌+◌, ◌-◌, ◌*◌, ◌<◌, ◌≤◌, Bool, drop, get_or, length, length-append, map, List, [], ◌∷◌, ◌++◌, true, false, Option, Some, None, option_and_then, refl, sym, ap, ◌∙◌, subst, append_assoc, append-nil, arith}
 use Rattle.std.specs.Prelude.{◌&&◌, is_some, nat_le}
-use Rattle.std.proofs.lemmas.Bool.{and_parts, and_from, leb-true, le-leb, true≢false, false≢true}
+use Rattle.std.proofs.lemmas.Bool.{and_parts, and_from, leb-true, le-leb, lt-leb, true≢false, false≢true}
+use Rattle.std.proofs.lemmas.List.{get_or_default, length-drop}
+use Rattle.json.specs.Tape.{node_token, LinkAt, Linked, Passes}
 use Rattle.json.specs.Token.{Token}
+use Rattle.json.specs.declared.tape.Node.{Node}
+use Rattle.json.specs.declared.tape.Node.TheVariants.{Object, EndObject, Array, EndArray, Key, String, Number, Bool as Flag, Null}
 use Rattle.json.specs.Lex.{tokens}
 use Rattle.json.specs.Json.{Json as Data, null, boolean, number, string, array, object, Items, no_items, item, Members, no_members, member, value, if_last, document}
 use Rattle.json.specs.Tree.{json_tokens, items_tokens, members_tokens, depth, items_depth, members_depth}
 use Rattle.json.proofs.Found.{Some_inj, not_found}
+use Rattle.json.proofs.Grammar.{left_some}
 use Rattle.json.proofs.Nesting.{value-depth}
 use Rattle.json.proofs.Printed.Trees.{value-json_tokens}
 use Rattle.json.proofs.Unique.Spelling.{value-json_tokens_back, tokens-document}
 use Rattle.ocpi_json.specs.Inner.Begun.{begun, begun-json_tokens}
-use Rattle.ocpi_json.specs.Inner.Levels.{stays_within}
+use Rattle.ocpi_json.specs.Inner.Levels.{level, link_of, stays_within}
 use Rattle.ocpi_json.specs.Reading.{max_depth, value_of}
 
 -- ---- what stays within is no deeper
@@ -98,6 +103,84 @@ mutual
       and_from (nat_le (deep + 1) max_depth) (stays_within (deep + 1) ((json_tokens j ++ members_tokens ms) ++ rest)) (le-leb (deep + 1) max_depth (omega (arith, h.0)))
       (ap (stays_within (deep + 1)) (append_assoc (json_tokens j) (members_tokens ms) rest)
       ∙ stays j (deep + 1) (members_tokens ms ++ rest) (omega (arith, h.0), members_stay ms deep rest (omega (arith, h.0), h.1)))
+
+-- ---- a value has at most half as many levels as tokens
+
+mutual
+  half : (j : Data) → 2 * depth j ≤ length (json_tokens j)
+  half null = omega arith
+  half (boolean b) = omega arith
+  half (number s) = omega arith
+  half (string s) = omega arith
+  half (array js) = let within = items_half js in omega arith
+  half (object ms) = let within = members_half ms in omega arith
+
+  items_half : (js : Items) → 2 * items_depth js + 1 ≤ length (items_tokens js)
+  items_half no_items = omega arith
+  items_half (item j js) =
+      let first = half j in
+      let later = items_half js in
+      omega (arith, length-append (json_tokens j) (items_tokens js))
+
+  members_half : (ms : Members) → 2 * members_depth ms + 1 ≤ length (members_tokens ms)
+  members_half no_members = omega arith
+  members_half (member k j ms) =
+      let first = half j in
+      let later = members_half ms in
+      omega (arith, length-append (json_tokens j) (members_tokens ms))
+
+same_bool : (a b : Bool) → (a ≡ true → b ≡ true) → (b ≡ true → a ≡ true) → a ≡ b
+same_bool true b f g = sym (f refl)
+same_bool false true f g = g refl
+same_bool false false f g = refl
+
+-- a value that is not too deep changes nothing
+passed : (j : Data) (deep : ℕ) (rest : List Token) → deep + depth j ≤ max_depth → stays_within deep (json_tokens j ++ rest) ≡ stays_within deep rest
+passed j deep rest h = same_bool _ _ (λ e. (no_deeper j deep rest e).1) (λ e. stays j deep rest (h, e))
+
+-- a link over few tokens changes nothing
+pub few_passed : (all : List Token) (i after deep : ℕ) → deep ≤ max_depth → Passes all i after → after - i ≤ 2 * (max_depth - deep) → stays_within deep (drop i all) ≡ stays_within deep (drop after all)
+few_passed all i after deep within link few =
+    let skipped = left_some (value link.0 (drop i all)) (drop after all) link.1 in
+    let j = skipped.0 in
+    let is : drop i all ≡ json_tokens j ++ drop after all = value-json_tokens_back link.0 (drop i all) (drop after all) j skipped.1 in
+    let shallow : deep + depth j ≤ max_depth =
+    omega (
+      arith,
+      half j,
+      link.2,
+      link.3,
+      ap length is,
+      length-append (json_tokens j) (drop after all),
+      length-drop i all,
+      length-drop after all,
+    ) in
+    ap (stays_within deep) is ∙ passed j deep (drop after all) shallow
+
+-- a token that stays within is passed
+pub one_within : (deep : ℕ) (t : Token) (ts : List Token) (now : ℕ) → now ≡ level deep t → now ≤ max_depth → stays_within deep (t ∷ ts) ≡ stays_within now ts
+one_within deep t ts now is within =
+    ap (λ b. b && stays_within (level deep t) ts) (le-leb (level deep t) max_depth (omega (arith, is, within))) ∙ ap (λ n. stays_within n ts) (sym is)
+
+pub one_beyond : (deep : ℕ) (t : Token) (ts : List Token) (now : ℕ) → now ≡ level deep t → max_depth < now → stays_within deep (t ∷ ts) ≡ false
+one_beyond deep t ts now is beyond =
+    ap (λ b. b && stays_within (level deep t) ts) (lt-leb (level deep t) max_depth (omega (arith, is, beyond)))
+
+-- a node that has a link passes a value by it
+pub linked_at : (nodes : List Node) (i after : ℕ) (d : Node) → Linked (map node_token nodes) 0 nodes → i < length nodes → link_of (get_or nodes i d) ≡ Some after → Passes (map node_token nodes) i after
+linked_at nodes i after d linked inside has =
+    by_node (get_or nodes i Null) (linked i (omega arith) inside) (ap link_of (get_or_default nodes i Null d inside) ∙ has)
+  where
+    by_node : (n : Node) → LinkAt (map node_token nodes) i n → link_of n ≡ Some after → Passes (map node_token nodes) i after
+    by_node (Object a) link e = subst (Passes (map node_token nodes) i) (Some_inj a after e) link
+    by_node EndObject link e = not_found after e
+    by_node (Array a) link e = subst (Passes (map node_token nodes) i) (Some_inj a after e) link
+    by_node EndArray link e = not_found after e
+    by_node (Key s) link e = not_found after e
+    by_node (String s) link e = not_found after e
+    by_node (Number s) link e = not_found after e
+    by_node (Flag b) link e = not_found after e
+    by_node Null link e = not_found after e
 
 -- ---- a text of the kit's depth, and of ours
 

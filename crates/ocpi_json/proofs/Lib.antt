@@ -1,12 +1,17 @@
 pub mod DigitSpelling
 pub mod Eaches
+pub mod Fingerprints
 pub mod FractionSpelling
+pub mod Keeping
 pub mod Levels
 pub mod MomentParts
 pub mod MomentSpelling
 pub mod MomentsAlike
 pub mod NameLemmas
+pub mod Noting
+pub mod Places
 pub mod Printable
 pub mod Readings
 pub mod Tapes
+pub mod Tokens
 pub mod Wholes

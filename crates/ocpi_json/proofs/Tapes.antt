@@ -174,10 +174,6 @@ module _ (ts us : List Token) (place : Placed ts) (opens : (j : Data) → Begins
 pub no_items_in : (ts : List Token) → Placed ts → ((j : Data) → BeginsWith ts j → as_array j ≡ None) → None ≡ as_items (begun ts)
 no_items_in ts place none = sym (ap (option_map items_list) (none (begun ts) (has_begun ts place.has)))
 
-pub same_length : (ts us vs : List Token) → Placed ts → ((j : Data) → BeginsWith ts j → (js : Items) × (j ≡ array js) × InItems us js)
-    → ((j : Data) → BeginsWith ts j → (js : Items) × (j ≡ array js) × InItems vs js) → length (listed us) ≡ length (listed vs)
-same_length ts us vs place one other = ap length (Some_inj _ _ (inside-listed ts us place one ∙ sym (inside-listed ts vs place other)))
-
 module _ (old us new : List Token) (has : HasItems old) (next : NextItem old (Some us) new) where
   abbrev first : (j : Data) × (rest : Items) × (has.0 ≡ item j rest) × BeginsWith us j × InItems new rest
   first = next has.0 has.1
@@ -219,13 +215,15 @@ none_left ts new has next = listed-is ts has.0 has.1 ∙ ap items_list (next has
 
 -- ---- the members of an object
 
-told_object : (r : Option (List Token)) (j : Data) → MatchOption r (as_object j ≡ None) (λ rest. (ms : Members) × (j ≡ object ms) × InMembers rest ms) → is_some r ≡ is_some (as_object j)
-told_object None j h = ap is_some (sym h)
-told_object (Some rest) j h = sym (ap (λ d. is_some (as_object d)) h.1)
+told_object : {X : Type 0} (tokens : X → List Token) (r : Option X) (j : Data)
+    → MatchOption r (as_object j ≡ None) (λ left. (ms : Members) × (j ≡ object ms) × InMembers (tokens left) ms) → is_some r ≡ is_some (as_object j)
+told_object tokens None j h = ap is_some (sym h)
+told_object tokens (Some left) j h = sym (ap (λ d. is_some (as_object d)) h.1)
 
-pub is_told_object : (ts : List Token) (r : Option (List Token)) → Placed ts
-    → ((j : Data) → BeginsWith ts j → MatchOption r (as_object j ≡ None) (λ rest. (ms : Members) × (j ≡ object ms) × InMembers rest ms)) → is_some r ≡ is_some (as_object (begun ts))
-is_told_object ts r place tells = told_object r (begun ts) (tells (begun ts) (has_begun ts place.has))
+pub is_told_object : {X : Type 0} (tokens : X → List Token) (ts : List Token) (r : Option X) → Placed ts
+    → ((j : Data) → BeginsWith ts j → MatchOption r (as_object j ≡ None) (λ left. (ms : Members) × (j ≡ object ms) × InMembers (tokens left) ms))
+    → is_some r ≡ is_some (as_object (begun ts))
+is_told_object tokens ts r place tells = told_object tokens r (begun ts) (tells (begun ts) (has_begun ts place.has))
 
 abbrev IsMember : Members → Type 0
 IsMember no_members = ⊥

@@ -7,3 +7,4 @@ pub mod MomentText
 pub mod Name
 pub mod Reading
 pub mod SomeIf
+pub mod Tokens

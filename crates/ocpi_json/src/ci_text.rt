@@ -100,6 +100,13 @@ impl<const MOST: usize> CiText<MOST> {
         unsafe { str::from_utf8_unchecked(&self.cells[..len]) }
     }
 
+    /// The same text in the same letters.
+    pub(crate) fn is_written_like(&self, other: &CiText<MOST>) -> bool
+        ensures { (result ≡ true) ↔ (self.now ≡ other.now) }
+    {
+        self.cells == other.cells
+    }
+
     // Ends at the first byte that differs.
     fn is_folded_like(&self, other: &CiText<MOST>) -> bool
         ensures { result ≡ same_folded self.now other.now }

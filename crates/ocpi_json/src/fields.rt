@@ -10,6 +10,7 @@ ghost use Rattle.ocpi_json.specs.MomentText.{instant_of, date_of, clock_of};
 ghost use Rattle.ocpi_json.specs.Members.{or_name, shown};
 
 use crate::ci_text::CiText;
+use crate::has_members::HasMembers;
 use crate::name::Name;
 use crate::node::{Node, Nodes};
 use crate::objects::FromText;
@@ -63,16 +64,16 @@ impl From<Name> for FieldFault {
     }
 }
 
-fn member<'a>(node: &Node<'a>, name: Name) -> Result<Node<'a>, Name>
-    ensures { result ≡ or_name name (member_at name node.now) }
+fn member<'a, M: HasMembers<'a>>(node: &M, name: Name) -> Result<Node<'a>, Name>
+    ensures { result ≡ or_name name (member_at name (M.object node.now)) }
 {
-    node.get(name.key()).ok_or(name)
+    node.find(name).ok_or(name)
 }
 
-fn present<'a>(node: &Node<'a>, name: Name) -> Option<Node<'a>>
-    ensures { result ≡ present_at name node.now }
+fn present<'a, M: HasMembers<'a>>(node: &M, name: Name) -> Option<Node<'a>>
+    ensures { result ≡ present_at name (M.object node.now) }
 {
-    match node.get(name.key()) {
+    match node.find(name) {
         Some(member) if !member.is_null() => Some(member),
         _ => None,
     }
@@ -112,18 +113,21 @@ fn ci_text_in<const MOST: usize>(member: &Node, name: Name) -> Result<CiText<MOS
 }
 
 /// A text of 1 to `MOST` printable ASCII characters.
-pub fn ci_text<const MOST: usize>(node: &Node, name: Name) -> Result<CiText<MOST>, Name>
-    ensures { result ≡ required (as_ci_text MOST) name node.now }
+pub fn ci_text<'n, const MOST: usize, M: HasMembers<'n>>(
+    node: &M,
+    name: Name,
+) -> Result<CiText<MOST>, Name>
+    ensures { result ≡ required (as_ci_text MOST) name (M.object node.now) }
 {
     ci_text_in(&member(node, name)?, name)
 }
 
 /// The same, where the member may be missing or null.
-pub fn ci_text_or_none<const MOST: usize>(
-    node: &Node,
+pub fn ci_text_or_none<'n, const MOST: usize, M: HasMembers<'n>>(
+    node: &M,
     name: Name,
 ) -> Result<Option<CiText<MOST>>, Name>
-    ensures { result ≡ optional (as_ci_text MOST) name node.now }
+    ensures { result ≡ optional (as_ci_text MOST) name (M.object node.now) }
 {
     match present(node, name) {
         Some(member) => Ok(Some(ci_text_in(&member, name)?)),
@@ -141,15 +145,19 @@ fn text_in(alloc: Global, member: &Node, name: Name) -> Result<Text, FieldFault>
 }
 
 /// A text.
-pub fn text(alloc: Global, node: &Node, name: Name) -> Result<Text, FieldFault>
-    ensures { Finds result (required as_text name node.now) }
+pub fn text<'n, M: HasMembers<'n>>(alloc: Global, node: &M, name: Name) -> Result<Text, FieldFault>
+    ensures { Finds result (required as_text name (M.object node.now)) }
 {
     text_in(alloc, &member(node, name)?, name)
 }
 
 /// The same, where the member may be missing or null.
-pub fn text_or_none(alloc: Global, node: &Node, name: Name) -> Result<Option<Text>, FieldFault>
-    ensures { Finds result (optional as_text name node.now) }
+pub fn text_or_none<'n, M: HasMembers<'n>>(
+    alloc: Global,
+    node: &M,
+    name: Name,
+) -> Result<Option<Text>, FieldFault>
+    ensures { Finds result (optional as_text name (M.object node.now)) }
 {
     match present(node, name) {
         Some(member) => Ok(Some(text_in(alloc, &member, name)?)),
@@ -164,15 +172,15 @@ fn flag_in(member: &Node, name: Name) -> Result<bool, Name>
 }
 
 /// `true` or `false`.
-pub fn flag(node: &Node, name: Name) -> Result<bool, Name>
-    ensures { result ≡ required as_bool name node.now }
+pub fn flag<'n, M: HasMembers<'n>>(node: &M, name: Name) -> Result<bool, Name>
+    ensures { result ≡ required as_bool name (M.object node.now) }
 {
     flag_in(&member(node, name)?, name)
 }
 
 /// The same, where the member may be missing or null.
-pub fn flag_or_none(node: &Node, name: Name) -> Result<Option<bool>, Name>
-    ensures { result ≡ optional as_bool name node.now }
+pub fn flag_or_none<'n, M: HasMembers<'n>>(node: &M, name: Name) -> Result<Option<bool>, Name>
+    ensures { result ≡ optional as_bool name (M.object node.now) }
 {
     match present(node, name) {
         Some(member) => Ok(Some(flag_in(&member, name)?)),
@@ -188,8 +196,8 @@ pub fn word_in<'a>(member: &Node<'a>, name: Name) -> Result<&'a str, Name>
 }
 
 /// A text, lent by the line or its room.
-pub fn word<'a>(node: &Node<'a>, name: Name) -> Result<&'a str, Name>
-    ensures { shown (λ t. t.now) result ≡ required as_text name node.now }
+pub fn word<'a, M: HasMembers<'a>>(node: &M, name: Name) -> Result<&'a str, Name>
+    ensures { shown (λ t. t.now) result ≡ required as_text name (M.object node.now) }
 {
     word_in(&member(node, name)?, name)
 }
@@ -205,15 +213,18 @@ pub fn parsed_in<T: FromText + Drop>(member: &Node, name: Name) -> Result<T, Nam
 }
 
 /// A text that stands for a value, as an enumeration of OCPI.
-pub fn parsed<T: FromText + Drop>(node: &Node, name: Name) -> Result<T, Name>
-    ensures { result ≡ required (as_parsed T.of_text) name node.now }
+pub fn parsed<'n, T: FromText + Drop, M: HasMembers<'n>>(node: &M, name: Name) -> Result<T, Name>
+    ensures { result ≡ required (as_parsed T.of_text) name (M.object node.now) }
 {
     parsed_in(&member(node, name)?, name)
 }
 
 /// The same, where the member may be missing or null.
-pub fn parsed_or_none<T: FromText + Drop>(node: &Node, name: Name) -> Result<Option<T>, Name>
-    ensures { result ≡ optional (as_parsed T.of_text) name node.now }
+pub fn parsed_or_none<'n, T: FromText + Drop, M: HasMembers<'n>>(
+    node: &M,
+    name: Name,
+) -> Result<Option<T>, Name>
+    ensures { result ≡ optional (as_parsed T.of_text) name (M.object node.now) }
 {
     match present(node, name) {
         Some(member) => Ok(Some(parsed_in(&member, name)?)),
@@ -234,15 +245,18 @@ fn number_in(member: &Node, name: Name) -> Result<Millionths, Name>
 }
 
 /// A number.
-pub fn number(node: &Node, name: Name) -> Result<Millionths, Name>
-    ensures { result ≡ required as_number name node.now }
+pub fn number<'n, M: HasMembers<'n>>(node: &M, name: Name) -> Result<Millionths, Name>
+    ensures { result ≡ required as_number name (M.object node.now) }
 {
     number_in(&member(node, name)?, name)
 }
 
 /// The same, where the member may be missing or null.
-pub fn number_or_none(node: &Node, name: Name) -> Result<Option<Millionths>, Name>
-    ensures { result ≡ optional as_number name node.now }
+pub fn number_or_none<'n, M: HasMembers<'n>>(
+    node: &M,
+    name: Name,
+) -> Result<Option<Millionths>, Name>
+    ensures { result ≡ optional as_number name (M.object node.now) }
 {
     match present(node, name) {
         Some(member) => Ok(Some(number_in(&member, name)?)),
@@ -273,15 +287,18 @@ fn unsigned_in(member: &Node, name: Name) -> Result<Millionths, Name>
 }
 
 /// A number of at least 0.
-pub fn unsigned(node: &Node, name: Name) -> Result<Millionths, Name>
-    ensures { result ≡ required as_unsigned name node.now }
+pub fn unsigned<'n, M: HasMembers<'n>>(node: &M, name: Name) -> Result<Millionths, Name>
+    ensures { result ≡ required as_unsigned name (M.object node.now) }
 {
     unsigned_in(&member(node, name)?, name)
 }
 
 /// The same, where the member may be missing or null.
-pub fn unsigned_or_none(node: &Node, name: Name) -> Result<Option<Millionths>, Name>
-    ensures { result ≡ optional as_unsigned name node.now }
+pub fn unsigned_or_none<'n, M: HasMembers<'n>>(
+    node: &M,
+    name: Name,
+) -> Result<Option<Millionths>, Name>
+    ensures { result ≡ optional as_unsigned name (M.object node.now) }
 {
     match present(node, name) {
         Some(member) => Ok(Some(unsigned_in(&member, name)?)),
@@ -327,15 +344,25 @@ fn whole_in(member: &Node, name: Name, least: u64, most: u64) -> Result<u64, Nam
 }
 
 /// A number of 1 to 18 digits, with no sign, point or exponent, from `least` to `most`.
-pub fn whole(node: &Node, name: Name, least: u64, most: u64) -> Result<u64, Name>
-    ensures { result ≡ required (as_whole least most) name node.now }
+pub fn whole<'n, M: HasMembers<'n>>(
+    node: &M,
+    name: Name,
+    least: u64,
+    most: u64,
+) -> Result<u64, Name>
+    ensures { result ≡ required (as_whole least most) name (M.object node.now) }
 {
     whole_in(&member(node, name)?, name, least, most)
 }
 
 /// The same, where the member may be missing or null.
-pub fn whole_or_none(node: &Node, name: Name, least: u64, most: u64) -> Result<Option<u64>, Name>
-    ensures { result ≡ optional (as_whole least most) name node.now }
+pub fn whole_or_none<'n, M: HasMembers<'n>>(
+    node: &M,
+    name: Name,
+    least: u64,
+    most: u64,
+) -> Result<Option<u64>, Name>
+    ensures { result ≡ optional (as_whole least most) name (M.object node.now) }
 {
     match present(node, name) {
         Some(member) => Ok(Some(whole_in(&member, name, least, most)?)),
@@ -344,29 +371,29 @@ pub fn whole_or_none(node: &Node, name: Name, least: u64, most: u64) -> Result<O
 }
 
 /// A moment in UTC, with or without `Z` or `+00:00`.
-pub fn instant(node: &Node, name: Name) -> Result<Timestamp, Name>
-    ensures { result ≡ required (as_parsed instant_of) name node.now }
+pub fn instant<'n, M: HasMembers<'n>>(node: &M, name: Name) -> Result<Timestamp, Name>
+    ensures { result ≡ required (as_parsed instant_of) name (M.object node.now) }
 {
     parsed(node, name)
 }
 
 /// A date, `YYYY-MM-DD`.
-pub fn date(node: &Node, name: Name) -> Result<Date, Name>
-    ensures { result ≡ required (as_parsed date_of) name node.now }
+pub fn date<'n, M: HasMembers<'n>>(node: &M, name: Name) -> Result<Date, Name>
+    ensures { result ≡ required (as_parsed date_of) name (M.object node.now) }
 {
     parsed(node, name)
 }
 
 /// The same, where the member may be missing or null.
-pub fn date_or_none(node: &Node, name: Name) -> Result<Option<Date>, Name>
-    ensures { result ≡ optional (as_parsed date_of) name node.now }
+pub fn date_or_none<'n, M: HasMembers<'n>>(node: &M, name: Name) -> Result<Option<Date>, Name>
+    ensures { result ≡ optional (as_parsed date_of) name (M.object node.now) }
 {
     parsed_or_none(node, name)
 }
 
 /// A time of day, `HH:MM`, where the member may be missing or null.
-pub fn clock_or_none(node: &Node, name: Name) -> Result<Option<Time>, Name>
-    ensures { result ≡ optional (as_parsed clock_of) name node.now }
+pub fn clock_or_none<'n, M: HasMembers<'n>>(node: &M, name: Name) -> Result<Option<Time>, Name>
+    ensures { result ≡ optional (as_parsed clock_of) name (M.object node.now) }
 {
     parsed_or_none(node, name)
 }
@@ -387,15 +414,24 @@ fn list_in<'a>(member: &Node<'a>, name: Name, least: usize, most: usize) -> Resu
 }
 
 /// An array of `least` to `most` items.
-pub fn list<'a>(node: &Node<'a>, name: Name, least: usize, most: usize) -> Result<Nodes<'a>, Name>
-    ensures { result ≡ required (as_list least most) name node.now }
+pub fn list<'a, M: HasMembers<'a>>(
+    node: &M,
+    name: Name,
+    least: usize,
+    most: usize,
+) -> Result<Nodes<'a>, Name>
+    ensures { result ≡ required (as_list least most) name (M.object node.now) }
 {
     list_in(&member(node, name)?, name, least, most)
 }
 
 /// The items of an array of up to `most`, and none where the member is missing or null.
-pub fn list_or_empty<'a>(node: &Node<'a>, name: Name, most: usize) -> Result<Nodes<'a>, Name>
-    ensures { result ≡ list_or_empty most name node.now }
+pub fn list_or_empty<'a, M: HasMembers<'a>>(
+    node: &M,
+    name: Name,
+    most: usize,
+) -> Result<Nodes<'a>, Name>
+    ensures { result ≡ list_or_empty most name (M.object node.now) }
 {
     match present(node, name) {
         Some(member) => list_in(&member, name, 0, most),
@@ -414,15 +450,15 @@ fn object_in<'a>(member: Node<'a>, name: Name) -> Result<Node<'a>, Name>
 }
 
 /// An object.
-pub fn object<'a>(node: &Node<'a>, name: Name) -> Result<Node<'a>, Name>
-    ensures { result ≡ required as_object_node name node.now }
+pub fn object<'a, M: HasMembers<'a>>(node: &M, name: Name) -> Result<Node<'a>, Name>
+    ensures { result ≡ required as_object_node name (M.object node.now) }
 {
     object_in(member(node, name)?, name)
 }
 
 /// The same, where the member may be missing or null.
-pub fn object_or_none<'a>(node: &Node<'a>, name: Name) -> Result<Option<Node<'a>>, Name>
-    ensures { result ≡ optional as_object_node name node.now }
+pub fn object_or_none<'a, M: HasMembers<'a>>(node: &M, name: Name) -> Result<Option<Node<'a>>, Name>
+    ensures { result ≡ optional as_object_node name (M.object node.now) }
 {
     match present(node, name) {
         Some(member) => Ok(Some(object_in(member, name)?)),

@@ -3,30 +3,35 @@
 ghost use Rattle.std.specs.Prelude.{◌≡◌, ◌<◌, ◌^◌, ◌∷◌, [], length, is_some, option_map, MatchOption};
 ghost use Rattle.json.specs.Find.{get, is_null, as_bool, as_str, as_number, as_object};
 ghost use Rattle.ocpi_json.specs.Inner.Begun.{begun, listed, HasItems};
+ghost use Rattle.ocpi_json.specs.Inner.Places.{tokens_from, IsLinked};
 ghost use Rattle.ocpi_json.specs.Fields.{as_items, as_members};
 
+use crate::has_members::HasMembers;
+use crate::name::Name;
+use crate::place::Place;
 use bumpalo::Bump;
-use json::{Element, Items, Tape};
+use json::Tape;
 use std::marker::Model;
 
 /// A value of a line. Its texts are lent by the line, or by the room where they hold escapes, and a
 /// number is its text.
 #[derive(Drop)]
 pub struct Node<'a> {
-    place: Element<'a, 'a>,
+    pub(crate) place: Place<'a>,
 }
 
 impl<'a> Model for Node<'a> {
     ghost use Rattle.json.specs.Json.{Json as Data};
     ghost use Rattle.ocpi_json.specs.Inner.Begun.{begun, data_code, Placed};
+    ghost use Rattle.ocpi_json.specs.Inner.Places.{tokens_from, IsLinked};
 
     ghost Value = { Data };
 
     ghost coded = { data_code };
 
-    ghost view = { λ n. begun n.place };
+    ghost view = { λ n. begun (tokens_from n.place) };
 
-    ghost invariant = { λ n. Placed n.place };
+    ghost invariant = { λ n. IsLinked n.place × Placed (tokens_from n.place) };
 }
 
 impl<'a> Node<'a> {
@@ -69,10 +74,9 @@ impl<'a> Node<'a> {
         ensures { result ≡ as_items self.now }
     {
         let left = self.place.items()?;
-        let len = count(self.place.items()?);
         Some(Nodes {
             left: Some(left),
-            len,
+            len: count(left),
         })
     }
 
@@ -92,12 +96,20 @@ impl<'a> Node<'a> {
     }
 }
 
-fn count(mut items: Items<'_, '_>) -> usize
-    requires { HasItems items × (length (listed items) < 2 ^ 64) }
-    ensures { result ≡ length (listed items.entry) }
+impl<'a> HasMembers<'a> for Node<'a> {
+    ghost object = { λ node. node };
+
+    fn find(&self, name: Name) -> Option<Node<'a>> {
+        self.get(name.key())
+    }
+}
+
+fn count(mut items: Place<'_>) -> usize
+    requires { IsLinked items × HasItems (tokens_from items) × (length (listed (tokens_from items)) < 2 ^ 64) }
+    ensures { result ≡ length (listed (tokens_from items.entry)) }
 {
     let mut len = 0;
-    while let Some(_) = items.next() {
+    while let Some(_) = items.next_item() {
         len += 1;
     }
     len
@@ -106,7 +118,7 @@ fn count(mut items: Items<'_, '_>) -> usize
 /// The items of an array that are left, in order.
 #[derive(Drop)]
 pub struct Nodes<'a> {
-    left: Option<Items<'a, 'a>>,
+    left: Option<Place<'a>>,
     len: usize,
 }
 
@@ -114,7 +126,8 @@ impl<'a> Model for Nodes<'a> {
     ghost use Rattle.std.specs.Prelude.{List};
     ghost use Rattle.std.specs.Coded.{coded_list};
     ghost use Rattle.json.specs.Json.{Json as Data};
-    ghost use Rattle.ocpi_json.specs.Inner.Begun.{listed_if_any, data_code, Row};
+    ghost use Rattle.ocpi_json.specs.Inner.Begun.{data_code};
+    ghost use Rattle.ocpi_json.specs.Inner.Places.{listed_if_any, IsRow};
 
     ghost Value = { List Data };
 
@@ -122,7 +135,7 @@ impl<'a> Model for Nodes<'a> {
 
     ghost view = { λ n. listed_if_any n.left };
 
-    ghost invariant = { λ n. Row n.left n.len };
+    ghost invariant = { λ n. IsRow n.left n.len };
 }
 
 impl<'a> Nodes<'a> {
@@ -153,7 +166,7 @@ impl<'a> Iterator for Nodes<'a> {
         let Some(left) = &mut self.left else {
             return None;
         };
-        match left.next() {
+        match left.next_item() {
             Some(place) => {
                 self.len -= 1;
                 Some(Node { place })
@@ -166,21 +179,22 @@ impl<'a> Iterator for Nodes<'a> {
 /// The members of an object that are left, in order.
 #[derive(Drop)]
 pub struct Members<'a> {
-    left: json::Members<'a, 'a>,
+    left: Place<'a>,
 }
 
 impl<'a> Model for Members<'a> {
     ghost use Rattle.std.specs.Prelude.{List, ℕ};
     ghost use Rattle.json.specs.Json.{Json as Data};
     ghost use Rattle.ocpi_json.specs.Inner.Begun.{named, members_code, Named};
+    ghost use Rattle.ocpi_json.specs.Inner.Places.{tokens_from, IsLinked};
 
     ghost Value = { List (List ℕ × Data) };
 
     ghost coded = { members_code };
 
-    ghost view = { λ m. named m.left };
+    ghost view = { λ m. named (tokens_from m.left) };
 
-    ghost invariant = { λ m. Named m.left };
+    ghost invariant = { λ m. IsLinked m.left × Named (tokens_from m.left) };
 }
 
 impl<'a> Iterator for Members<'a> {
@@ -193,7 +207,7 @@ impl<'a> Iterator for Members<'a> {
     ghost remaining = { item_count (λ members. members) };
 
     fn next(&mut self) -> Option<(&'a str, Node<'a>)> {
-        let Some((name, place)) = self.left.next() else {
+        let Some((name, place)) = self.left.next_member() else {
             return None;
         };
         Some((name, Node { place }))
@@ -228,10 +242,14 @@ impl<'a> Line<'a> {
     pub fn value(&self) -> Node<'_>
         ensures { result ≡ self.now }
     {
-        // It has no more values than the tape has places.
+        // It has no more values than the tape has places, and one begins at the first.
         let _len = self.tape.len();
+        let _root = self.tape.root();
         Node {
-            place: self.tape.root(),
+            place: Place {
+                nodes: self.tape.nodes(),
+                at: 0,
+            },
         }
     }
 }

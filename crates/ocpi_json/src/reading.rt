@@ -1,7 +1,7 @@
 // What a line is: its value as JSON, with each number as it is written.
-ghost use Rattle.std.specs.Prelude.{◌≡◌, ◌≤◌, None, Some, IfOk, IsErrOf, map, option_map};
-ghost use Rattle.json.specs.Tape.{node_token};
-ghost use Rattle.ocpi_json.specs.Inner.Levels.{level, stays_within};
+ghost use Rattle.std.specs.Prelude.{◌≡◌, ◌<◌, ◌≤◌, None, Some, IfOk, IfSome, IsErrOf, drop, length, map, option_map};
+ghost use Rattle.json.specs.Tape.{node_token, Linked};
+ghost use Rattle.ocpi_json.specs.Inner.Levels.{level, link_of, stays_within};
 ghost use Rattle.ocpi_json.specs.Reading.{value_of, if_utf8, data_of};
 
 use crate::fault::ReadFault;
@@ -47,15 +47,48 @@ fn level(deep: usize, node: &Node) -> usize
     }
 }
 
+// The index after the array or object of a node.
+fn link(node: &Node) -> Option<usize>
+    ensures { result ≡ link_of node.now }
+{
+    match node {
+        Node::Object(after) | Node::Array(after) => Some(*after),
+        _ => None,
+    }
+}
+
+// The index after the array or object at `at`, if it has few nodes: a value has at most half as many levels as nodes.
+fn after_few(nodes: &[Node], at: usize, deep: usize) -> Option<usize>
+    requires inside { at < length nodes.now }
+    requires linked { Linked (map node_token nodes.now) 0 nodes.now }
+    requires within { deep ≤ 127 }
+    ensures same { IfSome result (λ after. stays_within deep (drop at (map node_token nodes.now)) ≡ stays_within deep (drop after (map node_token nodes.now))) }
+    ensures later { IfSome result (λ after. (at < after) × (after ≤ length nodes.now)) }
+{
+    let after = link(&nodes[at])?;
+    if after - at <= 2 * (MAX_DEPTH - deep) {
+        Some(after)
+    } else {
+        None
+    }
+}
+
 fn stays_within(nodes: &[Node]) -> bool
+    requires { Linked (map node_token nodes.now) 0 nodes.now }
     ensures { result ≡ stays_within 0 (map node_token nodes.now) }
 {
     let mut deep = 0;
-    for node in nodes {
-        deep = level(deep, node);
+    let mut at = 0;
+    while at < nodes.len() {
+        if let Some(after) = after_few(nodes, at, deep) {
+            at = after;
+            continue;
+        }
+        deep = level(deep, &nodes[at]);
         if MAX_DEPTH < deep {
             return false;
         }
+        at += 1;
     }
     true
 }

@@ -84,7 +84,7 @@ impl Same for Date {
 
 impl<const MOST: usize> Same for CiText<MOST> {
     fn is_same(&self, other: &CiText<MOST>) -> bool {
-        self.as_str() == other.as_str()
+        self.is_written_like(other)
     }
 }
 

@@ -36,15 +36,6 @@ pub record Listed (ts : List Token) (len : ℕ) : Type 0 where
   pub few : length (json_tokens (begun (Token.begin_array ∷ ts))) < 2 ^ 64
   pub full : len ≡ length (listed ts)
 
--- so many items stand here, if there is an array
-abbrev pub Row : Option (List Token) → ℕ → Type 0
-Row None len = len ≡ 0
-Row (Some ts) len = Listed ts len
-
-abbrev pub listed_if_any : Option (List Token) → List Data
-listed_if_any None = []
-listed_if_any (Some ts) = listed ts
-
 -- the members up to the bracket that closes their object
 abbrev pub named : List Token → List (List ℕ × Data)
 named ts = unwrap_or (as_members (begun (Token.begin_object ∷ ts))) []
