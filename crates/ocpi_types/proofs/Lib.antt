@@ -3,6 +3,7 @@ pub mod InParts
 pub mod Letters
 pub mod Lists
 pub mod PartyTexts
+pub mod PlatformNames
 pub mod Quantities
 pub mod SameCdrs
 pub mod SameTariffs

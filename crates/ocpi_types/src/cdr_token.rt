@@ -44,7 +44,14 @@ impl FromNode for CdrToken {
 
     #[tactic(auto, unfolding(crate::specs::CdrToken::cdr_token_at))]
     fn from_node(node: &Node) -> Result<CdrToken, Name> {
-        let provider = Party::from_node(node)?;
+        let node = &node.pick(&[
+            Name::CountryCode,
+            Name::PartyId,
+            Name::Uid,
+            Name::Type,
+            Name::ContractId,
+        ]);
+        let provider = Party::from_members(node)?;
         let uid = fields::ci_text(node, Name::Uid)?;
         let kind = fields::parsed(node, Name::Type)?;
         let contract_id = fields::ci_text(node, Name::ContractId)?;

@@ -14,7 +14,7 @@ use super::party::Party;
 use super::token::TokenKind;
 use exact_money::Millionths;
 use ocpi_json::name::Name;
-use ocpi_json::{Node, fields};
+use ocpi_json::{HasMembers, Node, fields};
 
 /// A price or a volume of at least 0, in millionths.
 pub type Quantity = AtMost<1_000_000_000_000_000>;
@@ -27,41 +27,48 @@ pub fn party_in(member: &Node, name: Name) -> Result<Party, Name>
 }
 
 /// A party, written as `NL/CPA`.
-pub fn party(node: &Node, name: Name) -> Result<Party, Name>
-    ensures { result ≡ required (as_parsed party_of) name node.now }
+pub fn party<'n, M: HasMembers<'n>>(node: &M, name: Name) -> Result<Party, Name>
+    ensures { result ≡ required (as_parsed party_of) name (M.object node.now) }
 {
     fields::parsed(node, name)
 }
 
 /// A currency by its code of three letters A to Z.
-pub fn currency(node: &Node, name: Name) -> Result<Currency, Name>
-    ensures { result ≡ required (as_parsed currency_of) name node.now }
+pub fn currency<'n, M: HasMembers<'n>>(node: &M, name: Name) -> Result<Currency, Name>
+    ensures { result ≡ required (as_parsed currency_of) name (M.object node.now) }
 {
     fields::parsed(node, name)
 }
 
 /// The type of a token, where the member may be missing or null.
-pub fn token_kind_or_none(node: &Node, name: Name) -> Result<Option<TokenKind>, Name>
-    ensures { result ≡ optional (as_parsed token_kind_of) name node.now }
+pub fn token_kind_or_none<'n, M: HasMembers<'n>>(
+    node: &M,
+    name: Name,
+) -> Result<Option<TokenKind>, Name>
+    ensures { result ≡ optional (as_parsed token_kind_of) name (M.object node.now) }
 {
     fields::parsed_or_none(node, name)
 }
 
 /// A whole number from `least` to `MOST`.
-pub fn at_most<const MOST: u64>(node: &Node, name: Name, least: u64) -> Result<AtMost<MOST>, Name>
-    ensures { result ≡ required (as_whole least MOST) name node.now }
+pub fn at_most<'n, const MOST: u64, M: HasMembers<'n>>(
+    node: &M,
+    name: Name,
+    least: u64,
+) -> Result<AtMost<MOST>, Name>
+    ensures { result ≡ required (as_whole least MOST) name (M.object node.now) }
 {
     let value = fields::whole(node, name, least, MOST)?;
     AtMost::new(value).ok_or(name)
 }
 
 /// The same, where the member may be missing or null.
-pub fn at_most_or_none<const MOST: u64>(
-    node: &Node,
+pub fn at_most_or_none<'n, const MOST: u64, M: HasMembers<'n>>(
+    node: &M,
     name: Name,
     least: u64,
 ) -> Result<Option<AtMost<MOST>>, Name>
-    ensures { result ≡ optional (as_whole least MOST) name node.now }
+    ensures { result ≡ optional (as_whole least MOST) name (M.object node.now) }
 {
     match fields::whole_or_none(node, name, least, MOST)? {
         Some(value) => Ok(AtMost::new(value)),
@@ -78,16 +85,19 @@ fn quantity_from(number: Millionths) -> Quantity
 
 /// A number of at least 0.
 #[tactic(auto, using(crate::proofs::Quantities::quantity_at))]
-pub fn quantity(node: &Node, name: Name) -> Result<Quantity, Name>
-    ensures { result ≡ required as_quantity name node.now }
+pub fn quantity<'n, M: HasMembers<'n>>(node: &M, name: Name) -> Result<Quantity, Name>
+    ensures { result ≡ required as_quantity name (M.object node.now) }
 {
     Ok(quantity_from(fields::unsigned(node, name)?))
 }
 
 /// The same, where the member may be missing or null.
 #[tactic(auto, using(crate::proofs::Quantities::quantity_if_any))]
-pub fn quantity_or_none(node: &Node, name: Name) -> Result<Option<Quantity>, Name>
-    ensures { result ≡ optional as_quantity name node.now }
+pub fn quantity_or_none<'n, M: HasMembers<'n>>(
+    node: &M,
+    name: Name,
+) -> Result<Option<Quantity>, Name>
+    ensures { result ≡ optional as_quantity name (M.object node.now) }
 {
     match fields::unsigned_or_none(node, name)? {
         Some(number) => Ok(Some(quantity_from(number))),

@@ -7,7 +7,7 @@ ghost use Rattle.ocpi_types.specs.Party.{same_party, is_party, party_of};
 use ocpi_json::ci_text::CiText;
 use ocpi_json::name::Name;
 use ocpi_json::objects::{FromNode, FromText};
-use ocpi_json::{Node, fields};
+use ocpi_json::{HasMembers, Node, fields};
 use std::fmt;
 
 /// A party by its country code and party id (OCPI 2.2.1, 'Credentials': ISO 3166 country code and party id), both
@@ -49,6 +49,25 @@ fn printable<const MOST: usize>(text: &str) -> CiText<MOST>
 }
 
 impl Party {
+    ghost use Rattle.ocpi_types.specs.Party.{party_at};
+
+    /// Reads the party of an object, by its members `country_code` and `party_id`.
+    ///
+    /// # Errors
+    ///
+    /// The name of the first of the two that is missing or of a wrong kind.
+    #[tactic(auto, unfolding(crate::specs::Party::party_at))]
+    pub fn from_members<'n, M: HasMembers<'n>>(node: &M) -> Result<Party, Name>
+        ensures { result ≡ party_at (M.object node.now) }
+    {
+        let country_code = fields::ci_text(node, Name::CountryCode)?;
+        let party_id = fields::ci_text(node, Name::PartyId)?;
+        Ok(Party {
+            country_code,
+            party_id,
+        })
+    }
+
     /// The same party, but for the case of letters.
     pub fn is(&self, other: &Party) -> bool
         ensures { result ≡ same_party self.now other.now }
@@ -86,14 +105,8 @@ impl FromNode for Party {
 
     ghost at = { party_at };
 
-    #[tactic(auto, unfolding(crate::specs::Party::party_at))]
     fn from_node(node: &Node) -> Result<Party, Name> {
-        let country_code = fields::ci_text(node, Name::CountryCode)?;
-        let party_id = fields::ci_text(node, Name::PartyId)?;
-        Ok(Party {
-            country_code,
-            party_id,
-        })
+        Party::from_members(node)
     }
 }
 

@@ -7,12 +7,12 @@ use super::bounded::AtMost;
 use super::day_of_week::DayOfWeek;
 use super::members::{self, Quantity};
 use jiff::civil::{Date, Time};
-use ocpi_json::Node;
 use ocpi_json::fields::{self, FieldFault};
 use ocpi_json::name::Name;
 use ocpi_json::objects::{FromNodeIn, parsed_each};
 use ocpi_json::sequence::Sequence;
 use ocpi_json::text::Text;
+use ocpi_json::{HasMembers, Node};
 use std::alloc::Global;
 
 /// A whole number of seconds.
@@ -47,16 +47,19 @@ pub struct Restrictions {
 }
 
 #[tactic(auto, unfolding(crate::specs::Restrictions::days_at))]
-fn read_days(alloc: Global, node: &Node) -> Result<Sequence<DayOfWeek>, FieldFault>
-    ensures { Finds result (days_at node.now) }
+fn read_days<'n, M: HasMembers<'n>>(
+    alloc: Global,
+    node: &M,
+) -> Result<Sequence<DayOfWeek>, FieldFault>
+    ensures { Finds result (days_at (M.object node.now)) }
 {
     let items = fields::list_or_empty(node, Name::DayOfWeek, 1_048_576)?;
     parsed_each(alloc, items, Name::DayOfWeek)
 }
 
 #[tactic(auto, unfolding(crate::specs::Restrictions::electric_bounds_at))]
-fn read_electric_bounds(node: &Node) -> Result<ElectricBounds, Name>
-    ensures { result ≡ electric_bounds_at node.now }
+fn read_electric_bounds<'n, M: HasMembers<'n>>(node: &M) -> Result<ElectricBounds, Name>
+    ensures { result ≡ electric_bounds_at (M.object node.now) }
 {
     let min_current = fields::number_or_none(node, Name::MinCurrent)?.is_some();
     let max_current = fields::number_or_none(node, Name::MaxCurrent)?.is_some();
@@ -89,8 +92,8 @@ struct Bounds {
 }
 
 #[tactic(auto, unfolding(crate::specs::Inner::RestrictionParts::times_at))]
-fn read_times(node: &Node) -> Result<Times, Name>
-    ensures { result ≡ times_at node.now }
+fn read_times<'n, M: HasMembers<'n>>(node: &M) -> Result<Times, Name>
+    ensures { result ≡ times_at (M.object node.now) }
 {
     let start_time = fields::clock_or_none(node, Name::StartTime)?;
     let end_time = fields::clock_or_none(node, Name::EndTime)?;
@@ -105,8 +108,8 @@ fn read_times(node: &Node) -> Result<Times, Name>
 }
 
 #[tactic(auto, unfolding(crate::specs::Inner::RestrictionParts::bounds_at))]
-fn read_bounds(node: &Node) -> Result<Bounds, Name>
-    ensures { result ≡ bounds_at node.now }
+fn read_bounds<'n, M: HasMembers<'n>>(node: &M) -> Result<Bounds, Name>
+    ensures { result ≡ bounds_at (M.object node.now) }
 {
     let min_kwh = members::quantity_or_none(node, Name::MinKwh)?;
     let max_kwh = members::quantity_or_none(node, Name::MaxKwh)?;
@@ -124,6 +127,22 @@ fn read_bounds(node: &Node) -> Result<Bounds, Name>
 fn read_parts(alloc: Global, node: &Node) -> Result<Restrictions, FieldFault>
     ensures { Finds result (restrictions_in_parts node.now) }
 {
+    let node = &node.pick(&[
+        Name::StartTime,
+        Name::EndTime,
+        Name::StartDate,
+        Name::EndDate,
+        Name::MinKwh,
+        Name::MaxKwh,
+        Name::MinCurrent,
+        Name::MaxCurrent,
+        Name::MinPower,
+        Name::MaxPower,
+        Name::MinDuration,
+        Name::MaxDuration,
+        Name::DayOfWeek,
+        Name::Reservation,
+    ]);
     let times = read_times(node)?;
     let bounds = read_bounds(node)?;
     let day_of_week = read_days(alloc, node)?;

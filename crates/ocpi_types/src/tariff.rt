@@ -6,12 +6,12 @@ use super::element::Element;
 use super::members::{self, Quantity};
 use super::party::Party;
 use jiff::Timestamp;
-use ocpi_json::Node;
 use ocpi_json::ci_text::CiText;
 use ocpi_json::fields::{self, FieldFault};
 use ocpi_json::name::Name;
-use ocpi_json::objects::{FromNode, FromNodeIn, read_each_in};
+use ocpi_json::objects::{FromNodeIn, read_each_in};
 use ocpi_json::sequence::Sequence;
+use ocpi_json::{HasMembers, Node};
 use std::alloc::Global;
 
 /// A version of a tariff of an operator (OCPI 2.2.1, Tariff object).
@@ -43,8 +43,8 @@ impl Drop for Tariff {
 }
 
 #[tactic(auto, unfolding(crate::specs::Tariff::price_at))]
-fn read_price(node: &Node, name: Name) -> Result<Option<Quantity>, Name>
-    ensures { result ≡ price_at name node.now }
+fn read_price<'n, M: HasMembers<'n>>(node: &M, name: Name) -> Result<Option<Quantity>, Name>
+    ensures { result ≡ price_at name (M.object node.now) }
 {
     match fields::object_or_none(node, name)? {
         Some(price) => Ok(Some(members::quantity(&price, Name::ExclVat)?)),
@@ -59,7 +59,17 @@ impl FromNodeIn for Tariff {
 
     #[tactic(auto, unfolding(crate::specs::Tariff::tariff_at))]
     fn from_node_in(alloc: Global, node: &Node) -> Result<Tariff, FieldFault> {
-        let operator = Party::from_node(node)?;
+        let node = &node.pick(&[
+            Name::CountryCode,
+            Name::PartyId,
+            Name::Id,
+            Name::Currency,
+            Name::MinPrice,
+            Name::MaxPrice,
+            Name::Elements,
+            Name::LastUpdated,
+        ]);
+        let operator = Party::from_members(node)?;
         let id = fields::ci_text(node, Name::Id)?;
         let currency = members::currency(node, Name::Currency)?;
         let min_price = read_price(node, Name::MinPrice)?;

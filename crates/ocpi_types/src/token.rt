@@ -61,7 +61,17 @@ impl FromNode for Token {
 
     #[tactic(auto, unfolding(crate::specs::Token::token_at))]
     fn from_node(node: &Node) -> Result<Token, Name> {
-        let provider = Party::from_node(node)?;
+        let node = &node.pick(&[
+            Name::CountryCode,
+            Name::PartyId,
+            Name::Uid,
+            Name::Type,
+            Name::ContractId,
+            Name::Valid,
+            Name::Whitelist,
+            Name::LastUpdated,
+        ]);
+        let provider = Party::from_members(node)?;
         let uid = fields::ci_text(node, Name::Uid)?;
         let kind = fields::parsed(node, Name::Type)?;
         let contract_id = fields::ci_text(node, Name::ContractId)?;

@@ -11,6 +11,7 @@ use super::Cdr;
 use crate::cdr_token::{AuthMethod, CdrToken};
 use crate::charging_period::ChargingPeriod;
 use crate::currency::Currency;
+use crate::known_tariffs::KnownTariffs;
 use crate::members;
 use crate::party::Party;
 use crate::shared::Shared;
@@ -18,45 +19,55 @@ use crate::tariff::Tariff;
 use crate::up_to::{UpTo, read_up_to};
 use exact_money::Millionths;
 use jiff::Timestamp;
-use ocpi_json::Node;
 use ocpi_json::ci_text::CiText;
 use ocpi_json::fields::{self, FieldFault};
 use ocpi_json::name::Name;
-use ocpi_json::objects::{FromNode, FromNodeIn, read_each_in};
+use ocpi_json::objects::{FromNode, FromNodeIn};
 use ocpi_json::sequence::Sequence;
+use ocpi_json::{HasMembers, Node};
 use std::alloc::Global;
 
 #[tactic(auto, unfolding(crate::specs::Cdr::session_token_at))]
-fn read_session_token(node: &Node) -> Result<CdrToken, Name>
-    ensures { result ≡ session_token_at node.now }
+fn read_session_token<'n, M: HasMembers<'n>>(node: &M) -> Result<CdrToken, Name>
+    ensures { result ≡ session_token_at (M.object node.now) }
 {
     CdrToken::from_node(&fields::object(node, Name::CdrToken)?)
 }
 
 #[tactic(auto, unfolding(crate::specs::Cdr::tariffs_at))]
-fn read_tariffs(alloc: Global, node: &Node) -> Result<Sequence<Shared<Tariff>>, FieldFault>
-    ensures { Finds result (tariffs_at node.now) }
+fn read_tariffs<'n, M: HasMembers<'n>>(
+    alloc: Global,
+    known: &mut KnownTariffs,
+    node: &M,
+) -> Result<Sequence<Shared<Tariff>>, FieldFault>
+    ensures { Finds result (tariffs_at (M.object node.now)) }
 {
-    read_each_in(alloc, fields::list_or_empty(node, Name::Tariffs, 10)?)
+    known.read_each(alloc, fields::list_or_empty(node, Name::Tariffs, 10)?)
 }
 
 #[tactic(auto, unfolding(crate::specs::Cdr::periods_at))]
-fn read_periods(alloc: Global, node: &Node) -> Result<UpTo<ChargingPeriod, 1000>, FieldFault>
-    ensures { Finds result (periods_at node.now) }
+fn read_periods<'n, M: HasMembers<'n>>(
+    alloc: Global,
+    node: &M,
+) -> Result<UpTo<ChargingPeriod, 1000>, FieldFault>
+    ensures { Finds result (periods_at (M.object node.now)) }
 {
     read_up_to(alloc, fields::list(node, Name::ChargingPeriods, 1, 1000)?)
 }
 
 #[tactic(auto, unfolding(crate::specs::Cdr::cost_at))]
-fn read_cost(node: &Node) -> Result<Millionths, Name>
-    ensures { result ≡ cost_at node.now }
+fn read_cost<'n, M: HasMembers<'n>>(node: &M) -> Result<Millionths, Name>
+    ensures { result ≡ cost_at (M.object node.now) }
 {
     fields::number(&fields::object(node, Name::TotalCost)?, Name::ExclVat)
 }
 
 #[tactic(auto, unfolding(crate::specs::Cdr::reference_at))]
-fn read_reference(is_credit: bool, node: &Node) -> Result<Option<CiText<39>>, Name>
-    ensures { result ≡ reference_at is_credit node.now }
+fn read_reference<'n, M: HasMembers<'n>>(
+    is_credit: bool,
+    node: &M,
+) -> Result<Option<CiText<39>>, Name>
+    ensures { result ≡ reference_at is_credit (M.object node.now) }
 {
     if is_credit {
         let id = fields::ci_text(node, Name::CreditReferenceId)?;
@@ -67,8 +78,8 @@ fn read_reference(is_credit: bool, node: &Node) -> Result<Option<CiText<39>>, Na
 }
 
 #[tactic(auto, unfolding(crate::specs::Cdr::credit_at))]
-fn read_credit(node: &Node) -> Result<Option<CiText<39>>, Name>
-    ensures { result ≡ credit_at node.now }
+fn read_credit<'n, M: HasMembers<'n>>(node: &M) -> Result<Option<CiText<39>>, Name>
+    ensures { result ≡ credit_at (M.object node.now) }
 {
     let is_credit = fields::flag_or_none(node, Name::Credit)?.unwrap_or(false);
     read_reference(is_credit, node)
@@ -103,10 +114,10 @@ struct Totals {
 }
 
 #[tactic(auto, unfolding(crate::specs::Inner::CdrParts::opening_at))]
-fn read_opening(node: &Node) -> Result<Opening, Name>
-    ensures { result ≡ opening_at node.now }
+fn read_opening<'n, M: HasMembers<'n>>(node: &M) -> Result<Opening, Name>
+    ensures { result ≡ opening_at (M.object node.now) }
 {
-    let operator = Party::from_node(node)?;
+    let operator = Party::from_members(node)?;
     let id = fields::ci_text(node, Name::Id)?;
     let start_date_time = fields::instant(node, Name::StartDateTime)?;
     let end_date_time = fields::instant(node, Name::EndDateTime)?;
@@ -119,8 +130,8 @@ fn read_opening(node: &Node) -> Result<Opening, Name>
 }
 
 #[tactic(auto, unfolding(crate::specs::Inner::CdrParts::authorised_at))]
-fn read_authorised(node: &Node) -> Result<Authorised, Name>
-    ensures { result ≡ authorised_at node.now }
+fn read_authorised<'n, M: HasMembers<'n>>(node: &M) -> Result<Authorised, Name>
+    ensures { result ≡ authorised_at (M.object node.now) }
 {
     let cdr_token = read_session_token(node)?;
     let auth_method = fields::parsed(node, Name::AuthMethod)?;
@@ -135,8 +146,8 @@ fn read_authorised(node: &Node) -> Result<Authorised, Name>
 }
 
 #[tactic(auto, unfolding(crate::specs::Inner::CdrParts::totals_at))]
-fn read_totals(node: &Node) -> Result<Totals, Name>
-    ensures { result ≡ totals_at node.now }
+fn read_totals<'n, M: HasMembers<'n>>(node: &M) -> Result<Totals, Name>
+    ensures { result ≡ totals_at (M.object node.now) }
 {
     let total_cost = read_cost(node)?;
     let total_energy = fields::number(node, Name::TotalEnergy)?;
@@ -163,12 +174,16 @@ struct CdrMembers {
 }
 
 #[tactic(auto, unfolding(crate::specs::Inner::CdrParts::parts_at))]
-fn read_parts(alloc: Global, node: &Node) -> Result<CdrMembers, FieldFault>
-    ensures { Finds result (parts_at node.now) }
+fn read_parts<'n, M: HasMembers<'n>>(
+    alloc: Global,
+    known: &mut KnownTariffs,
+    node: &M,
+) -> Result<CdrMembers, FieldFault>
+    ensures { Finds result (parts_at (M.object node.now)) }
 {
     let opening = read_opening(node)?;
     let authorised = read_authorised(node)?;
-    let tariffs = read_tariffs(alloc, node)?;
+    let tariffs = read_tariffs(alloc, known, node)?;
     let charging_periods = read_periods(alloc, node)?;
     let totals = read_totals(node)?;
     Ok(CdrMembers {
@@ -244,10 +259,29 @@ impl CdrMembers {
 }
 
 #[tactic(auto, unfolding(crate::specs::Inner::CdrParts::cdr_in_parts))]
-fn read_in_parts(alloc: Global, node: &Node) -> Result<Cdr, FieldFault>
+fn read_in_parts(alloc: Global, known: &mut KnownTariffs, node: &Node) -> Result<Cdr, FieldFault>
     ensures { Finds result (cdr_in_parts node.now) }
 {
-    let cdr = read_parts(alloc, node)?.into_cdr()?;
+    let node = &node.pick(&[
+        Name::CountryCode,
+        Name::PartyId,
+        Name::Id,
+        Name::StartDateTime,
+        Name::EndDateTime,
+        Name::CdrToken,
+        Name::AuthMethod,
+        Name::AuthorizationReference,
+        Name::Currency,
+        Name::Tariffs,
+        Name::ChargingPeriods,
+        Name::TotalCost,
+        Name::TotalEnergy,
+        Name::TotalTime,
+        Name::Credit,
+        Name::CreditReferenceId,
+        Name::LastUpdated,
+    ]);
+    let cdr = read_parts(alloc, known, node)?.into_cdr()?;
     Ok(cdr)
 }
 
@@ -257,6 +291,25 @@ impl FromNodeIn for Cdr {
     ghost at = { cdr_at };
 
     fn from_node_in(alloc: Global, node: &Node) -> Result<Cdr, FieldFault> {
-        read_in_parts(alloc, node)
+        read_in_parts(alloc, &mut KnownTariffs::none(alloc), node)
+    }
+}
+
+impl Cdr {
+    ghost use Rattle.ocpi_types.specs.Cdr.{cdr_at};
+
+    /// Reads a CDR as `from_node_in` does, but not those of its tariffs again that were read before.
+    ///
+    /// # Errors
+    ///
+    /// Those of `from_node_in`.
+    pub fn read_knowing(
+        alloc: Global,
+        known: &mut KnownTariffs,
+        node: &Node,
+    ) -> Result<Cdr, FieldFault>
+        ensures { Finds result (cdr_at node.now) }
+    {
+        read_in_parts(alloc, known, node)
     }
 }

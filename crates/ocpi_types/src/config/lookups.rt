@@ -8,6 +8,7 @@ use crate::bounded::AtMost;
 use crate::currency::Currency;
 use crate::party::Party;
 use ocpi_json::ci_text::CiText;
+use ocpi_json::same::Same;
 
 impl Provider {
     ghost use Rattle.std.specs.Prelude.{◌≡◌, option_copied};
@@ -159,10 +160,14 @@ impl Config {
     pub fn platform(&self, name: &CiText<36>) -> Option<&Platform>
         ensures { option_copied result ≡ platform_of self.now name.now }
     {
-        self.platforms
-            .as_slice()
-            .iter()
-            .find(|platform| platform.name == *name)
+        let platforms = self.platforms.as_slice();
+        // Most names come as they are configured. No other platform is then of that name.
+        for platform in platforms {
+            if platform.name.is_same(name) {
+                return Some(platform);
+            }
+        }
+        platforms.iter().find(|platform| platform.name == *name)
     }
 
     /// The platform of that name is a hub; an unknown platform is none.
