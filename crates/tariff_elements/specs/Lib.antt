@@ -1,4 +1,5 @@
 pub mod Active
+pub mod Clock
 pub mod Law
 pub mod LocalTime
 pub mod Matching

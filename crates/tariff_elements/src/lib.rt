@@ -12,10 +12,10 @@ mod placing;
 mod support;
 mod windows;
 
-pub use choice::active;
+pub use choice::{active, asks_clock};
 pub use laws::{matches_in_force, windows_of_the_day};
 pub use matching::matches;
 pub use moments::Moment;
 pub use ocpi_types::Zone;
-pub use placing::moment;
+pub use placing::{moment, moment_without_clock};
 pub use support::supported;

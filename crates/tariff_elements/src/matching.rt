@@ -1,4 +1,5 @@
 ghost use Rattle.std.specs.Prelude.{◌≡◌};
+ghost use Rattle.tariff_elements.specs.Clock.{has_clock_bound};
 ghost use Rattle.tariff_elements.specs.Matching.{matches};
 
 use super::amounts::is_in_bounds;
@@ -28,4 +29,15 @@ pub fn matches(restrictions: &Restrictions, moment: &Moment) -> bool
             restrictions.end_time,
             moment.local.time(),
         )
+}
+
+/// Whether the restrictions bound the date, the day of the week or the time of day.
+pub(crate) fn has_clock_bound(restrictions: &Restrictions) -> bool
+    ensures { result ≡ has_clock_bound restrictions.now }
+{
+    restrictions.start_time.is_some()
+        || restrictions.end_time.is_some()
+        || restrictions.start_date.is_some()
+        || restrictions.end_date.is_some()
+        || !restrictions.day_of_week.as_slice().is_empty()
 }
