@@ -1,3 +1,4 @@
+pub mod Counted
 pub mod FoldedCdrs
 pub mod Prices
 pub mod Rounding

@@ -110,3 +110,9 @@ energy_splits before after price step_size first second =
     ap (λ n. n + cost_by (total_volume split) (last_above_zero split)) cost
     ∙ ap (λ n. cost_of 9 whole + cost_by n (last_above_zero split)) volume
     ∙ ap (λ n. cost_of 9 whole + n) (step_cost-split before after price step_size first second (total_volume whole))
+
+-- ---- seconds
+
+-- millionths of an hour in seconds, with 400 taken out of the fraction
+pub seconds_reduced : (millionths : ℕ) → (millionths * 9 + 1_250) / 2_500 ≡ (millionths * 3600 + 500_000) / 1_000_000
+seconds_reduced millionths = omega arith

@@ -1,5 +1,5 @@
 -- One more period.
-use Rattle.std.proofs.Common.{arith}
+use Rattle.std.proofs.Common.{◌∙◌, arith}
 use Rattle.ocpi_types.specs.declared.component.ComponentKind.TheVariants.{Energy, ParkingTime, Time}
 use Rattle.cdr_rating.specs.declared.measure.Measure.TheVariants as measure
 use Rattle.cdr_rating.proofs.Prices.{tally_kept, energy_kept, given_kept, within_periods-more}
@@ -18,7 +18,7 @@ loop-period-preserved c =
     let new = c.in-Some.charged in
     record {
       given = given_kept c.args.cdr.now periods i period inside here held.given c.in-Some.ensures.lacks;
-      energy_before = energy_kept periods i period c.loop-period.energy c.energy_in-energy.result inside here held.energy_before c.energy_in-energy.ensures.value;
+      energy_before = energy_kept periods i period c.loop-period.energy c.from-energy.result inside here held.energy_before (c.from-energy.ensures ∙ c.of-volumes.ensures.energy);
       energy_bound = omega arith;
       energy = tally_kept measure.Energy c.args.cdr.now c.args.zone.now Energy periods i period c.loop-period.energy old.energy new.energy inside here held.energy_before held.energy charged.energy;
       parking = tally_kept measure.Time c.args.cdr.now c.args.zone.now ParkingTime periods i period c.loop-period.energy old.parking new.parking inside here held.energy_before held.parking charged.parking;
