@@ -1,5 +1,6 @@
 pub mod AlikeLemmas
 pub mod AmountLemmas
+pub mod FirstLemmas
 pub mod FoundLemmas
 pub mod IdsLemmas
 pub mod KeyLemmas

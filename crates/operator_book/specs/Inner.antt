@@ -2,6 +2,7 @@
 pub mod Counts
 pub mod Credited
 pub mod FirstPlaces
+pub mod HashInput
 pub mod Ids
 pub mod Indexed
 pub mod Sums

@@ -1,10 +1,10 @@
 //! How many CDRs and tariff versions each operator has in a list of entries.
 
-ghost use Rattle.std.specs.Prelude.{◌≡◌, ◌+◌, ◌<◌, ◌^◌, [], ◌∷◌, ◌++◌, List, OnOk, if◌then◌else◌};
+ghost use Rattle.std.specs.Prelude.{◌≡◌, ◌+◌, ◌<◌, ◌^◌, [], ◌∷◌, ◌++◌, List, true, false, OnOk, if◌then◌else◌};
 ghost use Rattle.indexmap.specs.IndexMap.{spare};
 ghost use Rattle.ocpi_types.specs.Party.{same_party};
 ghost use Rattle.ocpi_types.specs.declared.party.Party.{Party as Operator};
-ghost use Rattle.operator_book.specs.Inner.Counts.{CountsCdrs, CountsVersions, counted};
+ghost use Rattle.operator_book.specs.Inner.Counts.{CountsCdrs, CountsVersions, counted, first_if};
 ghost use Rattle.plain_house.specs.Full.{is_cdr_of, is_version_of};
 ghost use Rattle.plain_house.specs.declared.entry.BookEntry.{BookEntry as Entry};
 
@@ -13,7 +13,7 @@ use ocpi_types::Party;
 use plain_house::BookEntry;
 use std::alloc::{AllocError, Global};
 
-/// A number for each operator that has any.
+/// A number for each operator that has any. A book has one operator as a rule, so the first one costs no search.
 #[derive(Drop)]
 pub struct CountsByOperator {
     counts: IndexMap<Party, u64>,
@@ -36,10 +36,54 @@ impl CountsByOperator {
         self.counts.reserve(1)
     }
 
+    // The number of the operator if it is the first one.
+    fn first(&self, operator: &Party) -> Option<u64>
+        ensures { result ≡ first_if (same_party operator.now) self.now.counts.entries }
+    {
+        match self.counts.first() {
+            Some((first, count)) if operator.is(first) => Some(*count),
+            _ => None,
+        }
+    }
+
     fn of(&self, operator: &Party) -> u64
         ensures { result ≡ counted self.now operator.now }
     {
+        if let Some(count) = self.first(operator) {
+            return count;
+        }
         self.counts.get(operator).copied().unwrap_or(0)
+    }
+
+    // Counts one more of the operator if it is the first one, and says whether it is.
+    fn add_to_first(&mut self, operator: &Party) -> bool
+        requires { counted self.old operator.now < 2 ^ 63 }
+        ensures added { result ≡ true → (asked : Operator) → counted self.new asked ≡ counted self.old asked + (if same_party operator.now asked then 1 else 0) }
+        ensures kept { result ≡ false → self.new ≡ self.old }
+    {
+        if self.first(operator).is_none() {
+            return false;
+        }
+        match self.counts.first_mut() {
+            Some(count) => {
+                *count += 1;
+                true
+            }
+            None => false,
+        }
+    }
+
+    // Searches for the operator, and counts one more of it.
+    fn add_to_any(&mut self, operator: Party)
+        requires room { 0 < spare self.old.counts }
+        requires fits { counted self.old operator < 2 ^ 63 }
+        ensures { (asked : Operator) → counted self.new asked ≡ counted self.old asked + (if same_party operator asked then 1 else 0) }
+    {
+        if let Some(count) = self.counts.get_mut(&operator) {
+            *count += 1;
+            return;
+        }
+        self.counts.insert(operator, 1).unwrap();
     }
 
     fn add_one(&mut self, operator: Party)
@@ -47,8 +91,9 @@ impl CountsByOperator {
         requires fits { counted self.old operator < 2 ^ 63 }
         ensures { (asked : Operator) → counted self.new asked ≡ counted self.old asked + (if same_party operator asked then 1 else 0) }
     {
-        let count = self.of(&operator) + 1;
-        self.counts.insert(operator, count).unwrap();
+        if !self.add_to_first(&operator) {
+            self.add_to_any(operator);
+        }
     }
 }
 

@@ -3,6 +3,7 @@
 use jiff::Timestamp;
 use ocpi_json::ci_text::CiText;
 use ocpi_types::{Currency, Party};
+use std::hash::{Hash, Hasher};
 
 /// The operator and the id of a CDR.
 #[derive(Clone, Copy, PartialEq, Eq, Hash)]
@@ -20,10 +21,26 @@ pub struct VersionKey {
 }
 
 /// Who owes whom, in which currency, of which period.
-#[derive(Clone, Copy, PartialEq, Eq, Hash)]
+#[derive(Clone, Copy, PartialEq, Eq)]
 pub struct SumKey {
     pub operator: Party,
     pub provider: Party,
     pub currency: Currency,
     pub period: u64,
+}
+
+// A book is one operator's as a rule, so its letters are not hashed.
+impl Hash for SumKey {
+    ghost use Rattle.operator_book.specs.Inner.HashInput.{hashed_alike, sum_input};
+
+    ghost hash_input = { sum_input };
+
+    ghost respects_eq = { hashed_alike };
+
+    #[inline(always)]
+    fn hash<H: Hasher>(&self, state: &mut H) {
+        self.provider.hash(state);
+        state.write(self.currency.as_str().as_bytes());
+        self.period.hash(state);
+    }
 }

@@ -37,13 +37,13 @@ impl<K: Eq + Hash + Copy + Drop> Places<K> {
         self.firsts.get(key).copied()
     }
 
-    /// A key that has no place has this one from now on, without taking memory.
+    /// A key that has no place has this one from now on, without taking memory. A new key costs one search.
     pub fn put(&mut self, key: K, place: usize)
         requires { 0 < spare self.old.firsts }
         ensures { AddsPlace K.eq self.old.firsts self.new.firsts key place }
     {
-        if self.firsts.get(&key).is_none() {
-            self.firsts.insert(key, place).unwrap();
+        if let Some(first) = self.firsts.insert(key, place).unwrap() {
+            self.firsts.insert(key, first).unwrap();
         }
     }
 }

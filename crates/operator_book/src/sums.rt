@@ -50,8 +50,11 @@ impl OwedSums {
             then Some (unwrap_or (get same_sum_key self.old.rows key) (pos 0) +ℤ booked)
             else get same_sum_key self.old.rows asked) }
     {
-        let sum = self.of(&key).unwrap_or(Sum::zero()).with(booked);
-        self.rows.insert(key, sum).unwrap();
+        if let Some(sum) = self.rows.get_mut(&key) {
+            *sum = sum.with(booked);
+            return;
+        }
+        self.rows.insert(key, Sum::zero().with(booked)).unwrap();
     }
 
     /// Adds the entry that comes after these as well, without taking memory.
