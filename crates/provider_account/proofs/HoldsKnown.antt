@@ -18,12 +18,13 @@ use Rattle.plain_house.specs.declared.scope.Scope.{Scope}
 use Rattle.plain_house.specs.Exposure.{ends_hold, names, holds_of, holds_within, open_hold, open_holds, released_hold, total_held}
 use Rattle.plain_house.specs.House.{is_hold_of}
 use Rattle.provider_account.specs.declared.hold_sums.HoldSumKey.{HoldSumKey}
+use Rattle.provider_account.specs.declared.holds.HoldKey.{HoldKey}
 use Rattle.provider_account.specs.declared.holds.Holds.{Holds}
 use Rattle.provider_account.specs.Inner.HoldSums.{hold_sum_at, key_of_scope, same_hold_sum_key}
 use Rattle.provider_account.specs.Inner.Sums.{sum_at}
-use Rattle.provider_account.specs.Inner.Holds.{AreCovered, AreNumbered, IsCovered, KnowsHolds, ended_hold, in_currency, key_of_hold, key_of_release, open_ended, open_under, open_used, same_hold, used_under, without}
+use Rattle.provider_account.specs.Inner.Holds.{AreCovered, AreNumbered, IsCovered, KnowsHolds, ended_hold, in_currency, key_of_hold, key_of_release, names_key, open_ended, open_under, open_used, same_hold, used_under, without}
 use Rattle.provider_account.proofs.OnlyOne.{count-filter, count-none, fewer, filter-none, find-apart, find-narrow, find-none, found_in_sum, found_passes, none_left, sum_without}
-use Rattle.provider_account.proofs.OpenHolds.{ended_by_key, open_holds-push, same_ended, same_hold_laws}
+use Rattle.provider_account.proofs.OpenHolds.{ended_by_key, named_by, open_holds-push, same_ended, same_hold_laws}
 
 -- the entry that ends a hold, as a test
 abbrev by : AccountEntry → Hold → Bool
@@ -73,6 +74,9 @@ module _ (entries : List AccountEntry) (x : AccountEntry) (none : open_hold x []
   module _ (old : Holds) (knows : KnowsHolds old entries) (hold : Hold) (ended : ended_hold entries x ≡ Some hold) where
     it_ends : ends_hold hold x ≡ true
     it_ends = found_passes (by x) (open_holds entries) hold ended
+
+    pub named : (key : HoldKey) → names_key x key ≡ same_hold (key_of_hold hold) key
+    named = named_by x hold it_ends
 
     -- the holds that the entry ends have the key of this one
     of_key : (other : Hold) → ends_hold other x ≡ true → same_hold (key_of_hold hold) (key_of_hold other) ≡ true
@@ -248,5 +252,13 @@ pub same_known : (old new : Holds) (entries : List AccountEntry) → new.open.en
 same_known old new entries kept sums knows = record {
   found = λ release. ap (lookup (same_hold (key_of_release release))) kept ∙ knows.found release;
   sums = λ scope. sums (key_of_scope scope) ∙ knows.sums scope;
+  numbered = knows.numbered;
+}
+
+pub same_holds : (old new : Holds) (entries : List AccountEntry) → ((release : Release) → open_under new release ≡ open_under old release) → new.sums ≡ old.sums
+    → KnowsHolds old entries → KnowsHolds new entries
+same_holds old new entries found sums knows = record {
+  found = λ release. found release ∙ knows.found release;
+  sums = λ scope. ap (λ all. hold_sum_at all scope) sums ∙ knows.sums scope;
   numbered = knows.numbered;
 }

@@ -8,6 +8,7 @@ pub mod OpenHolds
 pub mod OwedLemmas
 pub mod References
 pub mod SettledLemmas
+pub mod SumsLemmas
 pub mod TokensLemmas
 pub mod TotalLemmas
 pub mod LimitsLemmas

@@ -3,10 +3,12 @@ use Rattle.std.proofs.Common.{◌≡◌, ℕ, List, [], ◌∷◌, ◌++◌, Boo
 use Rattle.std.specs.Cmp.{IsEquivalence}
 use Rattle.std.specs.Cmp.Rules.{comparing}
 use Rattle.std.specs.List.{list_any}
+use Rattle.std.specs.Map.{lookup}
 use Rattle.std.proofs.Math.Bool.{and_assoc}
 use Rattle.std.proofs.lemmas.List.{append-nil, append_assoc}
 use Rattle.std.proofs.lemmas.List.Elements.{filter-append}
 use Rattle.std.proofs.lemmas.List.Folds.{list_any-append}
+use Rattle.indexmap.specs.IndexMap.{get}
 use Rattle.ocpi_json.specs.Folded.{same_folded}
 use Rattle.ocpi_types.specs.Currency.{same_currency}
 use Rattle.ocpi_types.specs.Party.{same_party}
@@ -17,7 +19,8 @@ use Rattle.plain_house.specs.declared.entry.Charge.{Charge}
 use Rattle.plain_house.specs.declared.event.Hold.{Hold}
 use Rattle.plain_house.specs.Exposure.{ends_hold, names, open_hold, open_holds}
 use Rattle.provider_account.specs.declared.holds.HoldKey.{HoldKey}
-use Rattle.provider_account.specs.Inner.Holds.{key_of_hold, key_of_release, same_hold}
+use Rattle.provider_account.specs.declared.holds.Holds.{Holds}
+use Rattle.provider_account.specs.Inner.Holds.{key_of_hold, key_of_release, names_key, names_reference, same_hold}
 
 -- ---- keys
 
@@ -92,3 +95,40 @@ same_ended (account.Charge charge) h k e d = by charge.hold refl
         sym (same_hold_laws.congr key (key_of_hold h) (key_of_hold k) here) ∙ there
 same_ended (account.Credit credit) h k e d = absurd (cc)
 same_ended (account.Settlement settlement) h k e d = absurd (cc)
+
+-- an entry names the key of a hold that it ends
+pub named_by : (x : AccountEntry) (hold : Hold) → ends_hold hold x ≡ true → (key : HoldKey) → names_key x key ≡ same_hold (key_of_hold hold) key
+named_by (account.Token token) hold e key = absurd (cc)
+named_by (account.Hold other) hold e key = absurd (cc)
+named_by (account.Release release) hold e key = same_hold_laws.congr (key_of_release release) (key_of_hold hold) key (sym (ended_by_key hold release) ∙ e)
+named_by (account.Charge charge) hold e key = by charge.hold refl
+  where
+    none : (a : Bool) → (a && false) ≡ true → ⊥
+    none true n = absurd (Prim.cc)
+    none false n = absurd (Prim.cc)
+
+    ended : Option (List ℕ) → Bool
+    ended named = same_party charge.operator hold.operator && same_party charge.provider hold.provider && same_currency charge.currency hold.currency && names hold.reference named
+
+    by : (named : Option (List ℕ)) → charge.hold ≡ named → names_reference charge key charge.hold ≡ same_hold (key_of_hold hold) key
+    by None is = absurd (none (same_party charge.operator hold.operator && same_party charge.provider hold.provider && same_currency charge.currency hold.currency) (sym (ap ended is) ∙ e))
+    by (Some reference) is =
+        ap (names_reference charge key) is
+        ∙ same_hold_laws.congr (record { operator = charge.operator; provider = charge.provider; reference = reference }) (key_of_hold hold) key
+        (charged charge hold reference (sym (ap ended is) ∙ e))
+named_by (account.Credit credit) hold e key = absurd (cc)
+named_by (account.Settlement settlement) hold e key = absurd (cc)
+
+-- a hold that is taken out and put back
+pub put_back : (old : Holds) (middle after : HoldKey → Option Hold) (key : HoldKey) (hold : Hold) → get same_hold old.open key ≡ Some hold
+    → ((other : HoldKey) → middle other ≡ cond (same_hold key other) None (get same_hold old.open other))
+    → ((other : HoldKey) → after other ≡ cond (same_hold key other) (Some hold) (middle other))
+    → (other : HoldKey) → after other ≡ get same_hold old.open other
+put_back old middle after key hold was taken puts other = by (same_hold key other) refl
+  where
+    by : (b : Bool) → same_hold key other ≡ b → after other ≡ get same_hold old.open other
+    by true e =
+        puts other ∙ ap (λ b. cond b (Some hold) (middle other)) e ∙ sym was
+        ∙ (λ i. lookup (λ third. same_hold_laws.congr key other third e i) old.open.entries)
+    by false e =
+        puts other ∙ ap (λ b. cond b (Some hold) (middle other)) e ∙ taken other ∙ ap (λ b. cond b None (get same_hold old.open other)) e

@@ -5,6 +5,8 @@ pub mod Counts
 pub mod DebtKeys
 pub mod Debts
 pub mod Ended
+pub mod HashInput
+pub mod HoldKeys
 pub mod HoldSums
 pub mod Holds
 pub mod Owed

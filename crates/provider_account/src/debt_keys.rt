@@ -8,6 +8,7 @@ use cdr_checks::Settlement;
 use ocpi_json::ci_text::CiText;
 use ocpi_types::{Currency, Party};
 use plain_house::Charge;
+use std::hash::{Hash, Hasher};
 
 /// A CDR of an operator.
 #[derive(Clone, Copy, PartialEq, Eq, Hash)]
@@ -35,11 +36,28 @@ pub(crate) struct ChargeKey {
 }
 
 /// A provider's period in a currency.
-#[derive(Clone, Copy, PartialEq, Eq, Hash)]
+#[derive(Clone, Copy, PartialEq, Eq)]
 pub(crate) struct PeriodKey {
     pub period: u64,
     pub provider: Party,
     pub currency: Currency,
+}
+
+// An account is one provider's as a rule, so its letters are not hashed.
+impl Hash for PeriodKey {
+    ghost use Rattle.std.specs.Prelude.{[], ◌∷◌};
+    ghost use Rattle.std.specs.Hash as fed;
+    ghost use Rattle.provider_account.specs.Inner.DebtKeys.{period_hashed_alike};
+
+    ghost hash_input = { λ key. fed.le_bytes 8 key.period ∷ key.currency ∷ [] };
+
+    ghost respects_eq = { period_hashed_alike };
+
+    #[inline(always)]
+    fn hash<H: Hasher>(&self, state: &mut H) {
+        self.period.hash(state);
+        state.write(self.currency.as_str().as_bytes());
+    }
 }
 
 impl PeriodKey {
@@ -77,12 +95,34 @@ impl PeriodKey {
 }
 
 /// Of which period and with which operator debts are meant, none of these meaning all of them.
-#[derive(Clone, Copy, PartialEq, Eq, Hash)]
+#[derive(Clone, Copy, PartialEq, Eq)]
 pub(crate) struct DebtKey {
     pub period: Option<u64>,
     pub operator: Option<Party>,
     pub provider: Party,
     pub currency: Currency,
+}
+
+// An account is one provider's as a rule, so its letters are not hashed.
+impl Hash for DebtKey {
+    ghost use Rattle.std.specs.Prelude.{◌++◌, [], ◌∷◌};
+    ghost use Rattle.provider_account.specs.Inner.DebtKeys.{debt_hashed_alike, period_input};
+    ghost use Rattle.provider_account.specs.Inner.HashInput.{operator_input};
+
+    ghost hash_input = { λ key. period_input key.period ++ (operator_input key.operator ++ (key.currency ∷ [])) };
+
+    ghost respects_eq = { debt_hashed_alike };
+
+    #[inline(always)]
+    fn hash<H: Hasher>(&self, state: &mut H) {
+        if let Some(period) = &self.period {
+            period.hash(state);
+        }
+        if let Some(operator) = &self.operator {
+            operator.hash(state);
+        }
+        state.write(self.currency.as_str().as_bytes());
+    }
 }
 
 impl DebtKey {

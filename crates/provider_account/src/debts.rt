@@ -152,7 +152,7 @@ impl Debts {
         ensures kept { (entries : List AccountEntry) → KnowsDebts self.old entries → KnowsDebts self.new entries }
         ensures room_kept { HasRoomForDebts self.old → HasRoomForDebts self.new }
     {
-        self.charged.reserve(charges)
+        self.charged.make_room(charges)
     }
 
     /// Room for what one more entry needs.
@@ -163,7 +163,7 @@ impl Debts {
     {
         self.owed.reserve()?;
         self.ended.reserve()?;
-        self.charged.reserve(1)?;
+        self.charged.reserve()?;
         self.operators.reserve(1)
     }
 

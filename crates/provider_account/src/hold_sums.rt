@@ -9,13 +9,33 @@ ghost use Rattle.provider_account.specs.Inner.HoldSums.{hold_sum_at, key_of};
 use super::sums::SumsByKey;
 use ocpi_types::{Currency, Party};
 use plain_house::{Hold, Scope};
+use std::hash::{Hash, Hasher};
 
 /// A provider's holds in a currency, with one operator or with all.
-#[derive(Clone, Copy, PartialEq, Eq, Hash)]
+#[derive(Clone, Copy, PartialEq, Eq)]
 pub(crate) struct HoldSumKey {
     pub operator: Option<Party>,
     pub provider: Party,
     pub currency: Currency,
+}
+
+// An account is one provider's as a rule, so its letters are not hashed.
+impl Hash for HoldSumKey {
+    ghost use Rattle.std.specs.Prelude.{◌++◌, [], ◌∷◌};
+    ghost use Rattle.provider_account.specs.Inner.HashInput.{operator_input};
+    ghost use Rattle.provider_account.specs.Inner.HoldSums.{hashed_alike};
+
+    ghost hash_input = { λ key. operator_input key.operator ++ (key.currency ∷ []) };
+
+    ghost respects_eq = { hashed_alike };
+
+    #[inline(always)]
+    fn hash<H: Hasher>(&self, state: &mut H) {
+        if let Some(operator) = &self.operator {
+            operator.hash(state);
+        }
+        state.write(self.currency.as_str().as_bytes());
+    }
 }
 
 fn key_of(operator: Option<Party>, hold: &Hold) -> HoldSumKey

@@ -1,5 +1,9 @@
 -- By what debts are found: which keys are the same, and what stands at them.
-use Rattle.std.specs.Prelude.{ℕ, ◌==◌, Bool, true, false, ◌&&◌, List, Option, None, Some, if◌then◌else◌, filter}
+use Rattle.std.specs.Prelude.{◌≡◌, ℕ, ◌==◌, Bool, true, false, ◌&&◌, List, [], ◌∷◌, ◌++◌, Option, None, Some, if◌then◌else◌, filter}
+use Rattle.std.proofs.Common.{refl, sym, ap, true≢false}
+use Rattle.std.proofs.lemmas.Bool.{eqb-true}
+use Rattle.std.specs.Cmp.Lexicographic.{same_text}
+use Rattle.std.specs.Hash as fed
 use Rattle.std.specs.Option.{option_eq}
 use Rattle.cdr_checks.specs.declared.request.Settlement.{Settlement}
 use Rattle.ocpi_json.specs.Folded.{same_folded}
@@ -14,6 +18,7 @@ use Rattle.provider_account.specs.declared.debt_keys.CdrKey.{CdrKey}
 use Rattle.provider_account.specs.declared.debt_keys.ChargeKey.{ChargeKey}
 use Rattle.provider_account.specs.declared.debt_keys.DebtKey.{DebtKey}
 use Rattle.provider_account.specs.declared.debt_keys.PeriodKey.{PeriodKey}
+use Rattle.provider_account.specs.Inner.HashInput.{both_same, operator_input, operator_same}
 
 -- ---- CDRs and their charges
 
@@ -44,6 +49,12 @@ credits key (account.Settlement settlement) = false
 abbrev pub same_period : PeriodKey → PeriodKey → Bool
 same_period a b = (a.period == b.period) && (same_party a.provider b.provider && same_currency a.currency b.currency)
 
+pub period_hashed_alike : (a b : PeriodKey) → same_period a b ≡ true → (fed.le_bytes 8 a.period ∷ a.currency ∷ []) ≡ (fed.le_bytes 8 b.period ∷ b.currency ∷ [])
+period_hashed_alike a b h =
+    let parts = both_same (a.period == b.period) (same_party a.provider b.provider && same_currency a.currency b.currency) h in
+    let currency = both_same (same_party a.provider b.provider) (same_currency a.currency b.currency) parts.1 in
+    λ i. fed.le_bytes 8 (eqb-true a.period b.period parts.0 i) ∷ same_text a.currency b.currency (sym currency.1) i ∷ []
+
 abbrev pub period_of : Charge → PeriodKey
 period_of charge = record { period = charge.period; provider = charge.provider; currency = charge.currency }
 
@@ -65,6 +76,26 @@ abbrev pub same_key : DebtKey → DebtKey → Bool
 same_key a b =
     option_eq ◌==◌ a.period b.period
     && (option_eq same_party a.operator b.operator && (same_party a.provider b.provider && same_currency a.currency b.currency))
+
+-- what a key writes to a hasher of its period; all periods write nothing
+abbrev pub period_input : Option ℕ → List (List ℕ)
+period_input None = []
+period_input (Some period) = fed.le_bytes 8 period ∷ []
+
+periods_same : (a b : Option ℕ) → option_eq ◌==◌ a b ≡ true → period_input a ≡ period_input b
+periods_same None None h = refl
+periods_same None (Some b) h = absurd (true≢false (sym h))
+periods_same (Some a) None h = absurd (true≢false (sym h))
+periods_same (Some a) (Some b) h = ap (λ n. fed.le_bytes 8 n ∷ []) (eqb-true a b h)
+
+pub debt_hashed_alike : (a b : DebtKey) → same_key a b ≡ true
+    → (period_input a.period ++ (operator_input a.operator ++ (a.currency ∷ []))) ≡ (period_input b.period ++ (operator_input b.operator ++ (b.currency ∷ [])))
+debt_hashed_alike a b h =
+    let parts =
+    both_same (option_eq ◌==◌ a.period b.period) (option_eq same_party a.operator b.operator && (same_party a.provider b.provider && same_currency a.currency b.currency)) h in
+    let operator = both_same (option_eq same_party a.operator b.operator) (same_party a.provider b.provider && same_currency a.currency b.currency) parts.1 in
+    let currency = both_same (same_party a.provider b.provider) (same_currency a.currency b.currency) operator.1 in
+    λ i. periods_same a.period b.period parts.0 i ++ (operator_same a.operator b.operator operator.0 i ++ (same_text a.currency b.currency (sym currency.1) i ∷ []))
 
 abbrev pub key_of : Charge → Option ℕ → Option Party → DebtKey
 key_of charge period operator =

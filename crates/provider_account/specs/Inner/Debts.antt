@@ -16,7 +16,7 @@ use Rattle.provider_account.specs.declared.debt_keys.DebtKey.{DebtKey}
 use Rattle.provider_account.specs.declared.debts.Debts.{Debts}
 use Rattle.provider_account.specs.declared.ended.Ended.{Ended}
 use Rattle.provider_account.specs.declared.owed.Owed.{Owed}
-use Rattle.provider_account.specs.Inner.Charged.{KnowsPlaces}
+use Rattle.provider_account.specs.Inner.Charged.{HasRoomForPlaces, KnowsPlaces}
 use Rattle.provider_account.specs.Inner.DebtKeys.{charges_of, covers, is_owed_at, owed_at}
 use Rattle.provider_account.specs.Inner.Ended.{KnowsEnded, has_ended}
 use Rattle.provider_account.specs.Inner.Owed.{amount_of}
@@ -45,7 +45,7 @@ pub record HasRoomForDebts (debts : Debts) : Type 0 where
   pub owed : 4 ≤ map.spare debts.owed.amounts.cells
   pub credited : 0 < set.spare debts.ended.credited
   pub settled : 0 < set.spare debts.ended.settled
-  pub charged : 0 < map.spare debts.charged.places
+  pub charged : HasRoomForPlaces debts.charged
   pub operators : 0 < set.spare debts.operators
 
 -- the key of a scope

@@ -1,5 +1,5 @@
 -- What is known of open holds, and of what they hold together.
-use Rattle.std.specs.Prelude.{◌≡◌, ◌<◌, ◌≤◌, ◌+◌, ◌-◌, ◌^◌, ℕ, Bool, true, ◌&&◌, List, Option, None, Some, count_by, find, if◌then◌else◌}
+use Rattle.std.specs.Prelude.{◌≡◌, ◌<◌, ◌≤◌, ◌+◌, ◌-◌, ◌^◌, ℕ, Bool, true, false, ◌&&◌, List, Option, None, Some, count_by, find, if◌then◌else◌}
 use Rattle.indexmap.specs.IndexMap.{get, spare}
 use Rattle.ocpi_json.specs.Folded.{same_folded}
 use Rattle.ocpi_types.specs.Currency.{same_currency}
@@ -14,13 +14,10 @@ use Rattle.plain_house.specs.Exposure.{ends_hold, holds_of, holds_within, open_h
 use Rattle.plain_house.specs.House.{is_hold_of, reference_text}
 use Rattle.provider_account.specs.declared.holds.HoldKey.{HoldKey}
 use Rattle.provider_account.specs.declared.holds.Holds.{Holds}
+pub use Rattle.provider_account.specs.Inner.HoldKeys.{same_hold}
 use Rattle.provider_account.specs.Inner.HoldSums.{hold_sum_at}
 
 -- ---- keys
-
--- the same hold
-abbrev pub same_hold : HoldKey → HoldKey → Bool
-same_hold a b = same_party a.operator b.operator && (same_party a.provider b.provider && same_folded a.reference b.reference)
 
 abbrev pub key_of_hold : Hold → HoldKey
 key_of_hold hold = record { operator = hold.operator; provider = hold.provider; reference = hold.reference }
@@ -37,6 +34,11 @@ open_under holds release = get same_hold holds.open (key_of_release release)
 abbrev pub in_currency : List ℕ → Option Hold → Option Hold
 in_currency currency None = None
 in_currency currency (Some hold) = if same_currency currency hold.currency then Some hold else None
+
+-- the same where a currency is given
+abbrev pub in_any_currency : Option (List ℕ) → Option Hold → Option Hold
+in_any_currency None found = found
+in_any_currency (Some currency) found = in_currency currency found
 
 abbrev pub used_under : Holds → Charge → Option (List ℕ) → Option Hold
 used_under holds charge None = None
@@ -55,6 +57,19 @@ open_ended holds (account.Release release) = open_under holds release
 open_ended holds (account.Charge charge) = open_used holds charge
 open_ended holds (account.Credit credit) = None
 open_ended holds (account.Settlement settlement) = None
+
+-- the entry names the key
+abbrev pub names_reference : Charge → HoldKey → Option (List ℕ) → Bool
+names_reference charge key None = false
+names_reference charge key (Some reference) = same_hold (record { operator = charge.operator; provider = charge.provider; reference = reference }) key
+
+abbrev pub names_key : AccountEntry → HoldKey → Bool
+names_key (account.Token token) key = false
+names_key (account.Hold hold) key = false
+names_key (account.Release release) key = same_hold (key_of_release release) key
+names_key (account.Charge charge) key = names_reference charge key charge.hold
+names_key (account.Credit credit) key = false
+names_key (account.Settlement settlement) key = false
 
 -- a sum within a scope, without the hold
 abbrev pub without : Scope → Option Hold → ℕ → ℕ

@@ -13,7 +13,7 @@ use super::Account;
 use cdr_checks::{Authorize, ExposureOf, Settlement};
 use exact_money::Amount;
 use ocpi_types::{Config, Party, Refusal};
-use plain_house::{Answer, Charge, Scope, above};
+use plain_house::{Answer, Charge, Scope, above, entries_add_at_most};
 
 impl Account {
     /// The provider has as many entries as the configuration allows.
@@ -55,11 +55,16 @@ impl Account {
         limit < self.exposure_within(&scope) + hold || self.lacks_pair_credit(config, ask, hold)
     }
 
-    // The refusal where an exposure with the charge added is above its limit.
+    // The refusal where an exposure with the charge added is above its limit. The charge may use up a hold and may have ended, which
+    // is looked up only if its cost could be too much.
     fn above_with(&self, limit: u64, scope: &Scope, charge: &Charge, pair: bool) -> Option<Refusal>
         requires { limit ≤ 10 ^ 15 }
         ensures { result ≡ above limit (exposure_of scope.now (self.now.entries ++ account.Charge charge.now ∷ [])) pair }
     {
+        entries_add_at_most();
+        if self.exposure_within(scope) + charge.cost.get() <= limit {
+            return None;
+        }
         let exposure = self
             .index
             .exposure_with(self.entries.as_slice(), scope, charge);
