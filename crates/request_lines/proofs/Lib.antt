@@ -1,6 +1,12 @@
 pub mod AddsLemmas
+pub mod AheadLemmas
+pub mod ChainLemmas
+pub mod GatheredLemmas
 pub mod LineLaws
 pub mod LinesLemmas
 pub mod RunLemmas
 pub mod ScriptLegal
 pub mod SeenRuns
+pub mod SeenTogether
+pub mod StoppedLemmas
+pub mod TogetherLemmas

@@ -34,7 +34,7 @@ each_step p xs ys part f a b = rw (whole_step p xs ys part f) (All-append IsShor
 pub one_short : (line : List ℕ) → IsShort line → All IsShort (line ∷ [])
 one_short line h = All-cons IsShort line [] h (All-nil IsShort)
 
-last_short : (part : List ℕ) → IsShort part → All IsShort (last_line part)
+pub last_short : (part : List ℕ) → IsShort part → All IsShort (last_line part)
 last_short [] h = All-nil IsShort
 last_short (x ∷ part) h = one_short (x ∷ part) h
 
@@ -59,7 +59,7 @@ rest_ended p xs line part f none =
 
 -- ---- which lines are complete
 
-complete_weaker : (m n m' n' : ℕ) (E F : Type 0) → (m < n → m' < n') → (E → F) → (m < n) ⊎ E → (m' < n') ⊎ F
+pub complete_weaker : (m n m' n' : ℕ) (E F : Type 0) → (m < n → m' < n') → (E → F) → (m < n) ⊎ E → (m' < n') ⊎ F
 complete_weaker m n m' n' E F f e (inl h) = inl (f h)
 complete_weaker m n m' n' E F f e (inr h) = inr (e h)
 
@@ -336,6 +336,18 @@ fault_at_last {A = A} rule more a b c input part line text written progress faul
     (stops_in rule (read_behind whole (read_last line)) (lines_read input) 0 0 fault run (lines_end input.bytes line (e ∙ p.part_is))
     (λ place k. inr ended)
     (stops_later rule more a b c whole (read_last line) 0 0 fault text written p.answered p.each_short later))
+
+-- no line is answered
+pub looked : {A : Type 0} (rule : Rule A) → Joins rule → (a b c : A) (bytes part text : List ℕ) (progress : Progress) → IsUnderWay rule bytes (record { start = a; written = text; now = b }) part progress →
+    rule.answers b [] [] c → IsUnderWay rule bytes (record { start = a; written = text; now = c }) part progress
+looked rule more a b c bytes part text progress p h = record {
+  answered = rw (append-nil (whole_from [] bytes), append-nil text) at (more a b c (whole_from [] bytes) [] text [] p.answered h);
+  part_is = p.part_is;
+  short = p.short;
+  each_short = p.each_short;
+  lines_are = p.lines_are;
+  written_is = p.written_is;
+}
 
 -- more bytes are answered
 pub further : {A : Type 0} (rule : Rule A) → Joins rule → (a b c : A) (bytes more_bytes part part' text written : List ℕ) (progress progress' : Progress) → IsUnderWay rule bytes (record { start = a; written = text; now = b }) part progress →

@@ -11,7 +11,7 @@ use Rattle.request_lines.specs.Law.{ScriptsKeepListsLegal}
 use Rattle.request_lines.specs.RequestText.{request_of}
 use Rattle.request_lines.specs.Script.{admitted, after, command_in, list_with}
 
-is_admitted : (config : Config) (line : List ℕ) (told : Command) → command_in config line ≡ Ok told → IsAdmitted config told
+pub is_admitted : (config : Config) (line : List ℕ) (told : Command) → command_in config line ≡ Ok told → IsAdmitted config told
 unfolding command_in IsAdmitted
 is_admitted config line told h = by (request_of line) h
   where

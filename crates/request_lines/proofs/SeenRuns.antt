@@ -22,19 +22,19 @@ gave_up_first : {A B : Type 0} (rule : Rule A) (shown : Rule B) (seen : A → B)
 gave_up_first rule shown seen Stays shows a b [] s h = absurd h
 gave_up_first rule shown seen Stays shows a b (line ∷ others) s h = shows.gives_up a b line s h
 
-left_seen : {A B : Type 0} (rule : Rule A) (shown : Rule B) (seen : A → B) (Stays : A → Type 0) → Shows rule shown seen Stays → (a b : A) (others : List (List ℕ)) (complete : Type 0) → Stays a →
+pub left_seen : {A B : Type 0} (rule : Rule A) (shown : Rule B) (seen : A → B) (Stays : A → Type 0) → Shows rule shown seen Stays → (a b : A) (others : List (List ℕ)) (complete : Type 0) → Stays a →
     (b ≡ a) ⊎ (complete × GivesUpAtFirst rule a others b) → Stays b × ((seen b ≡ seen a) ⊎ (complete × GivesUpAtFirst shown (seen a) others (seen b)))
 left_seen rule shown seen Stays shows a b others complete s (inl e) = (rw e s, inl (ap seen e))
 left_seen rule shown seen Stays shows a b others complete s (inr h) =
     let g = gave_up_first rule shown seen Stays shows a b others s h.1 in (g.0, inr (h.0, g.1))
 
-done_seen : {A B : Type 0} (rule : Rule A) (shown : Rule B) (seen : A → B) (Stays : A → Type 0) → Shows rule shown seen Stays → (bytes : List ℕ) (run : Run A) (count : Count) → Stays run.start → AreAllAnswered rule bytes run count →
+pub done_seen : {A B : Type 0} (rule : Rule A) (shown : Rule B) (seen : A → B) (Stays : A → Type 0) → Shows rule shown seen Stays → (bytes : List ℕ) (run : Run A) (count : Count) → Stays run.start → AreAllAnswered rule bytes run count →
     Stays run.now × AreAllAnswered shown bytes (seen_run seen run) count
 done_seen rule shown seen Stays shows bytes run count s h =
     let step = shows.answers run.start run.now _ run.written s h.answered in
     (step.0, record { answered = step.1; each_short = h.each_short; lines_is = h.lines_is; bytes_is = h.bytes_is })
 
-fault_seen : {A B : Type 0} (rule : Rule A) (shown : Rule B) (seen : A → B) (Stays : A → Type 0) → Shows rule shown seen Stays → (input : Input) (run : Run A) (fault : ScriptFault) → Stays run.start → IsFault rule input run fault →
+pub fault_seen : {A B : Type 0} (rule : Rule A) (shown : Rule B) (seen : A → B) (Stays : A → Type 0) → Shows rule shown seen Stays → (input : Input) (run : Run A) (fault : ScriptFault) → Stays run.start → IsFault rule input run fault →
     Stays run.now × IsFault shown input (seen_run seen run) fault
 fault_seen rule shown seen Stays shows input run Read s h =
     let step = shows.answers run.start run.now _ run.written s h.answered in

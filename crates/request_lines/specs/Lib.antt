@@ -9,3 +9,4 @@ pub mod RequestText
 pub mod Script
 pub mod Streams
 pub mod TableText
+pub mod Together

@@ -1,4 +1,4 @@
-ghost use Rattle.std.specs.Prelude.{◌≡◌, ℕ, ◌+◌, ◌^◌, ◌<◌, ◌≤◌, List, [], ◌∷◌, ◌++◌, length, take, true, false, IfOk, OnOk, OnErr, IfErr, MatchResult, All};
+ghost use Rattle.std.specs.Prelude.{◌≡◌, ℕ, ◌+◌, ◌^◌, ◌<◌, ◌≤◌, List, [], ◌∷◌, ◌++◌, length, take, true, false, IfOk, OnOk, OnErr, IfErr, MatchResult, All, ⊤};
 ghost use Rattle.request_lines.specs.Lines.{IsShort, HasNoNewline, last_line, with_newline};
 ghost use Rattle.request_lines.specs.Answering.{Rule, HasRun, is_read_fault, is_write_fault};
 ghost use Rattle.request_lines.specs.Inner.Progress.{HasAnswered, HasStopped, CannotKeep, state, read_line, read_last, read_from, whole_from, rest_from};
@@ -17,10 +17,22 @@ pub trait Answerer {
     /// The rule by which it answers.
     ghost rule: { Rule Self };
 
+    /// What has to hold where it looks ahead.
+    ghost can_look_ahead: { Type 0 } = { ⊤ };
+
     /// Answers a line, which stands without its newline.
     fn answer(&mut self, alloc: Global, line: &[u8]) -> Result<Vec<u8>, AllocError>
         ensures ok { IfOk result (λ text. rule.answers self.old (line.now ∷ []) text.items self.new) }
         ensures err { OnErr result (rule.gives_up self.old line.now self.new) };
+
+    /// Looks at bytes whose lines are to be answered next. It answers none.
+    fn look_ahead(&mut self, alloc: Global, bytes: &[u8])
+        requires { can_look_ahead }
+        ensures { rule.answers self.old [] [] self.new }
+    {
+        let _ = alloc;
+        let _ = bytes;
+    }
 
     ghost answers_none: { (a : Self) → rule.answers a [] [] a };
 
@@ -60,7 +72,7 @@ fn finish_line<W: Sink, A: Answerer>(
 }
 
 /// Answers what has come of a last line, if any has.
-fn finish_last<W: Sink, A: Answerer>(
+pub(super) fn finish_last<W: Sink, A: Answerer>(
     alloc: Global,
     writer: &mut W,
     answerer: &mut A,
@@ -130,7 +142,7 @@ fn end_line<W: Sink, A: Answerer>(
 }
 
 /// Answers the lines that end in these bytes, and keeps what has come of the next.
-fn feed<W: Sink, A: Answerer>(
+pub(super) fn feed<W: Sink, A: Answerer>(
     alloc: Global,
     writer: &mut W,
     answerer: &mut A,
@@ -139,7 +151,7 @@ fn feed<W: Sink, A: Answerer>(
     bytes: &[u8],
 ) -> Result<(), ScriptFault>
     requires few { progress.old.lines + length bytes.now < 2 ^ 61 }
-    requires block { length bytes.now ≤ 65536 }
+    requires block { length bytes.now ≤ 1048576 }
     requires short { IsShort part.old.items }
     ensures ok { OnOk result (HasAnswered A.rule W.writing (whole_from part.old.items bytes.now)
         (state answerer.old writer.old progress.old) (state answerer.new writer.new progress.new)) }
@@ -159,7 +171,7 @@ fn feed<W: Sink, A: Answerer>(
 }
 
 /// The first bytes of a buffer.
-fn first(buffer: &Vec<u8>, n: usize) -> &[u8]
+pub(super) fn first(buffer: &Vec<u8>, n: usize) -> &[u8]
     requires { n ≤ length buffer.now.items }
     ensures { result.now ≡ take n buffer.now.items }
 {

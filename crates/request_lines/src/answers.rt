@@ -37,7 +37,6 @@ fn answer_name(answer: &Answer) -> &'static str
 }
 
 fn put_exposure(
-    alloc: Global,
     out: &mut Writer,
     holds: Amount,
     debts: Amount,
@@ -45,25 +44,19 @@ fn put_exposure(
 ) -> Result<(), AllocError>
     ensures { Adds result out.old out.new (amount_member (codes "holds") holds ++ (amount_member (codes "debts") debts ++ amount_member (codes "limit") limit)) }
 {
-    put_amount(alloc, out, "holds", holds)?;
-    put_amount(alloc, out, "debts", debts)?;
-    put_amount(alloc, out, "limit", limit)
+    put_amount(out, "holds", holds)?;
+    put_amount(out, "debts", debts)?;
+    put_amount(out, "limit", limit)
 }
 
-fn put_booked(
-    alloc: Global,
-    out: &mut Writer,
-    amount: Amount,
-    period: u64,
-) -> Result<(), AllocError>
+fn put_booked(out: &mut Writer, amount: Amount, period: u64) -> Result<(), AllocError>
     ensures { Adds result out.old out.new (booked_members amount period) }
 {
-    put_amount(alloc, out, "amount", amount)?;
+    put_amount(out, "amount", amount)?;
     put_number(out, "period", period)
 }
 
 fn put_found(
-    alloc: Global,
     out: &mut Writer,
     amount: Amount,
     period: u64,
@@ -71,7 +64,7 @@ fn put_found(
 ) -> Result<(), AllocError>
     ensures { Adds result out.old out.new (booked_members amount period ++ flag_member (codes "credited") credited) }
 {
-    put_booked(alloc, out, amount, period)?;
+    put_booked(out, amount, period)?;
     put_flag(out, "credited", credited)
 }
 
@@ -101,10 +94,10 @@ fn put_answer_values(
         Answer::Allowed { reference } => {
             put_text(out, "authorization_reference", reference.as_str())
         }
-        Answer::Released { amount } => put_amount(alloc, out, "amount", *amount),
-        Answer::Settled { amount } => put_amount(alloc, out, "amount", *amount),
-        Answer::Accepted { amount, period } => put_booked(alloc, out, *amount, *period),
-        Answer::Repeated { amount, period } => put_booked(alloc, out, *amount, *period),
+        Answer::Released { amount } => put_amount(out, "amount", *amount),
+        Answer::Settled { amount } => put_amount(out, "amount", *amount),
+        Answer::Accepted { amount, period } => put_booked(out, *amount, *period),
+        Answer::Repeated { amount, period } => put_booked(out, *amount, *period),
         Answer::Closed { period, positions } => {
             put_closed(alloc, out, config, *period, positions.as_slice())
         }
@@ -113,12 +106,12 @@ fn put_answer_values(
             amount,
             period,
             credited,
-        } => put_found(alloc, out, *amount, *period, *credited),
+        } => put_found(out, *amount, *period, *credited),
         Answer::Exposure {
             holds,
             debts,
             limit,
-        } => put_exposure(alloc, out, *holds, *debts, *limit),
+        } => put_exposure(out, *holds, *debts, *limit),
     }
 }
 
@@ -161,7 +154,6 @@ fn put_scope(out: &mut Writer, pair: bool) -> Result<(), AllocError>
 }
 
 fn put_over_limit(
-    alloc: Global,
     out: &mut Writer,
     exposure: Amount,
     limit: Amount,
@@ -169,8 +161,8 @@ fn put_over_limit(
 ) -> Result<(), AllocError>
     ensures { Adds result out.old out.new (refusal_values (Refusal.OverLimit exposure limit pair)) }
 {
-    put_amount(alloc, out, "exposure", exposure)?;
-    put_amount(alloc, out, "limit", limit)?;
+    put_amount(out, "exposure", exposure)?;
+    put_amount(out, "limit", limit)?;
     put_scope(out, pair)
 }
 
@@ -181,32 +173,32 @@ fn put_too_late(out: &mut Writer, original: u64, current: u64) -> Result<(), All
     put_number(out, "current", current)
 }
 
-fn put_refusal_values(alloc: Global, out: &mut Writer, refusal: &Refusal) -> Result<(), AllocError>
+fn put_refusal_values(out: &mut Writer, refusal: &Refusal) -> Result<(), AllocError>
     ensures { Adds result out.old out.new (refusal_values refusal.now) }
 {
     match refusal {
         Refusal::Field { name } => put_text(out, "field", name.key()),
-        Refusal::CostMismatch { rated } => put_amount(alloc, out, "rated", *rated),
+        Refusal::CostMismatch { rated } => put_amount(out, "rated", *rated),
         Refusal::NotCurrent { current } => put_number(out, "current", *current),
         Refusal::Full { what } => put_text(out, "what", what.name()),
         Refusal::OverLimit {
             exposure,
             limit,
             pair,
-        } => put_over_limit(alloc, out, *exposure, *limit, *pair),
+        } => put_over_limit(out, *exposure, *limit, *pair),
         Refusal::TooLate { original, current } => put_too_late(out, *original, *current),
         _ => Ok(()),
     }
 }
 
-fn put_refused(alloc: Global, out: &mut Writer, refused: &Refused) -> Result<(), AllocError>
+fn put_refused(out: &mut Writer, refused: &Refused) -> Result<(), AllocError>
     ensures { Adds result out.old out.new (refused_values refused.now) }
 {
     let refusal = &refused.refusal;
     put_opening(out, refusal.status(), "refusal", refusal.name())?;
     put_number(out, "number", refusal.number())?;
     put_at(out, refused.at)?;
-    put_refusal_values(alloc, out, refusal)
+    put_refusal_values(out, refusal)
 }
 
 fn put_reply(
@@ -219,7 +211,7 @@ fn put_reply(
 {
     match reply {
         Ok(replied) => put_replied(alloc, out, config, replied),
-        Err(refused) => put_refused(alloc, out, refused),
+        Err(refused) => put_refused(out, refused),
     }
 }
 

@@ -3,9 +3,9 @@
 ghost use Rattle.request_lines.specs.Inner.Adding.{Adds};
 ghost use Rattle.request_lines.specs.Members.{amount_member, flag_member, number_member, text_member};
 
-use exact_money::Amount;
+use exact_money::{Amount, AmountBuffer};
 use json::Writer;
-use std::alloc::{AllocError, Global};
+use std::alloc::AllocError;
 
 #[tactic(auto, unfolding(crate::specs::Members::text_member))]
 pub fn put_text(out: &mut Writer, called: &str, text: &str) -> Result<(), AllocError>
@@ -24,17 +24,12 @@ pub fn put_number(out: &mut Writer, called: &str, number: u64) -> Result<(), All
 }
 
 #[tactic(auto, unfolding(crate::specs::Members::amount_member))]
-pub fn put_amount(
-    alloc: Global,
-    out: &mut Writer,
-    called: &str,
-    amount: Amount,
-) -> Result<(), AllocError>
+pub fn put_amount(out: &mut Writer, called: &str, amount: Amount) -> Result<(), AllocError>
     ensures { Adds result out.old out.new (amount_member called.now amount) }
 {
-    let text = amount.to_string(alloc)?;
+    let mut buffer = AmountBuffer::new();
     out.key(called)?;
-    out.string(text.as_str())
+    out.string(buffer.format(amount))
 }
 
 #[tactic(auto, unfolding(crate::specs::Members::flag_member))]

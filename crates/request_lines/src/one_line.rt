@@ -3,12 +3,13 @@
 ghost use Rattle.std.specs.Prelude.{◌≡◌, ◌⊎◌, IfOk, IfErr, OnOk, OnErr, Ok, Err, true, false};
 ghost use Rattle.cdr_checks.specs.Admission.{IsAdmitted};
 ghost use Rattle.plain_house.specs.Replies.{is_no_memory, is_refusal_no_memory};
-ghost use Rattle.request_lines.specs.Script.{command_in, reply_in, answer_of, after};
+ghost use Rattle.request_lines.specs.AnswerText.{answer_text};
+ghost use Rattle.request_lines.specs.Script.{command_in, reply_in, reply_to, answer_of, after, list_with};
 
 use super::answers::answer_line;
+use super::line_room::LineRoom;
 use super::requests::request_of;
 use cdr_checks::{Command, admit};
-use ocpi_json::Room;
 use ocpi_types::{Config, Refusal};
 use plain_house::{Refused, Replied, Sequential, is_out_of_memory};
 use std::alloc::{AllocError, Global};
@@ -17,7 +18,7 @@ use std::alloc::{AllocError, Global};
 #[tactic(auto, unfolding(crate::specs::Script::command_in))]
 pub fn command_of(
     alloc: Global,
-    room: &mut Room,
+    room: &mut LineRoom,
     config: &Config,
     line: &[u8],
 ) -> Result<Command, Refusal>
@@ -28,11 +29,28 @@ pub fn command_of(
     admit(config, request_of(alloc, room, line)?)
 }
 
+/// Returns the reply of a house to a command, or to the refusal in its place.
+pub fn reply_to_command<S: Sequential>(
+    house: &mut S,
+    command: Result<Command, Refusal>,
+) -> Result<Replied, Refused>
+    requires { IfOk command (IsAdmitted (S.config house.old)) }
+    ensures config { S.config house.new ≡ S.config house.old }
+    ensures reply { is_no_memory result ≡ false → result ≡ reply_to (S.config house.old) (S.events house.old) command }
+    ensures events { is_no_memory result ≡ false → S.events house.new ≡ list_with (S.config house.old) (S.events house.old) command }
+    ensures unchanged { is_no_memory result ≡ true → S.events house.new ≡ S.events house.old }
+{
+    match command {
+        Ok(command) => house.do_command(command),
+        Err(refusal) => Err(Refused { at: None, refusal }),
+    }
+}
+
 /// The reply to one line: of the house to its command, or why it has none.
 #[tactic(auto, unfolding(crate::specs::Script::reply_in, crate::specs::Script::after))]
 pub fn reply_to<S: Sequential>(
     alloc: Global,
-    room: &mut Room,
+    room: &mut LineRoom,
     config: &Config,
     house: &mut S,
     line: &[u8],
@@ -43,10 +61,26 @@ pub fn reply_to<S: Sequential>(
     ensures events { is_no_memory result ≡ false → S.events house.new ≡ after config.now (S.events house.old) line.now }
     ensures unchanged { is_no_memory result ≡ true → S.events house.new ≡ S.events house.old }
 {
-    match command_of(alloc, room, config, line) {
-        Ok(command) => house.do_command(command),
-        Err(refusal) => Err(Refused { at: None, refusal }),
+    reply_to_command(house, command_of(alloc, room, config, line))
+}
+
+/// Returns the answer to a reply.
+///
+/// # Errors
+///
+/// `AllocError` if an allocation fails, or if the reply says that one has failed.
+pub fn answer_to(
+    alloc: Global,
+    config: &Config,
+    reply: &Result<Replied, Refused>,
+) -> Result<Vec<u8>, AllocError>
+    ensures text { IfOk result (λ text. text.items ≡ answer_text config.now reply.now) }
+    ensures memory { OnOk result (is_no_memory reply.now ≡ false) }
+{
+    if is_out_of_memory(reply) {
+        return Err(AllocError);
     }
+    answer_line(alloc, config, reply)
 }
 
 /// A way to answer one line by a house.
@@ -55,7 +89,7 @@ pub trait Respond {
     fn respond<S: Sequential>(
         &self,
         alloc: Global,
-        room: &mut Room,
+        room: &mut LineRoom,
         config: &Config,
         house: &mut S,
         line: &[u8],
@@ -77,15 +111,12 @@ impl Respond for Once {
     fn respond<S: Sequential>(
         &self,
         alloc: Global,
-        room: &mut Room,
+        room: &mut LineRoom,
         config: &Config,
         house: &mut S,
         line: &[u8],
     ) -> Result<Vec<u8>, AllocError> {
         let reply = reply_to(alloc, room, config, house, line);
-        if is_out_of_memory(&reply) {
-            return Err(AllocError);
-        }
-        answer_line(alloc, config, &reply)
+        answer_to(alloc, config, &reply)
     }
 }

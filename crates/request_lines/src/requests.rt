@@ -8,14 +8,15 @@ ghost use Rattle.ocpi_json.specs.declared.name.Name.TheVariants as name;
 ghost use Rattle.plain_house.specs.Replies.{is_refusal_no_memory};
 ghost use Rattle.request_lines.specs.RequestText.{authorize_at, close_at, exposure_at, find_at, post_at, release_at, settle_at, statement_at, tariff_ask_at, token_ask_at, ask_at, request_at, kind_or_rfid, request_of};
 
+use super::line_room::LineRoom;
 use cdr_checks::{
     Ask, Authorize, Close, ExposureOf, Find, Release, Request, Settlement, StatementOf,
 };
 use ocpi_json::fields::{self, FieldFault};
 use ocpi_json::name::Name;
 use ocpi_json::objects::{FromNode, FromNodeIn, FromText};
-use ocpi_json::{Node, ReadFault, Room};
-use ocpi_types::{Cdr, Refusal, Shared, Tariff, Token, TokenKind, members};
+use ocpi_json::{Node, ReadFault};
+use ocpi_types::{Cdr, KnownTariffs, Refusal, Shared, Tariff, Token, TokenKind, members};
 use std::alloc::Global;
 
 /// The commands of request lines, as the member `do` names them.
@@ -118,10 +119,10 @@ fn read_release(node: &Node) -> Result<Ask, FieldFault>
 
 #[inline(never)]
 #[tactic(auto, unfolding(crate::specs::RequestText::post_at))]
-fn read_post(alloc: Global, node: &Node) -> Result<Ask, FieldFault>
+fn read_post(alloc: Global, known: &mut KnownTariffs, node: &Node) -> Result<Ask, FieldFault>
     ensures { Finds result (post_at node.now) }
 {
-    let cdr = Cdr::from_node_in(alloc, &fields::object(node, Name::Cdr)?)?;
+    let cdr = Cdr::read_knowing(alloc, known, &fields::object(node, Name::Cdr)?)?;
     Ok(Ask::Post(Shared::new(alloc, cdr)?))
 }
 
@@ -193,7 +194,12 @@ fn read_statement(node: &Node) -> Result<Ask, FieldFault>
     Ok(Ask::Statement(StatementOf { party, period }))
 }
 
-fn read_ask(alloc: Global, command: CommandName, node: &Node) -> Result<Ask, FieldFault>
+fn read_ask(
+    alloc: Global,
+    known: &mut KnownTariffs,
+    command: CommandName,
+    node: &Node,
+) -> Result<Ask, FieldFault>
     ensures { Finds result (ask_at command node.now) }
 {
     match command {
@@ -201,7 +207,7 @@ fn read_ask(alloc: Global, command: CommandName, node: &Node) -> Result<Ask, Fie
         CommandName::PutToken => read_token(node),
         CommandName::Authorize => read_authorize(node),
         CommandName::Release => read_release(node),
-        CommandName::Post => read_post(alloc, node),
+        CommandName::Post => read_post(alloc, known, node),
         CommandName::Close => read_close(node),
         CommandName::Settle => read_settle(node),
         CommandName::Exposure => read_exposure(node),
@@ -216,12 +222,16 @@ fn read_ask(alloc: Global, command: CommandName, node: &Node) -> Result<Ask, Fie
 ///
 /// `Field` with the first member that is missing, of a wrong kind or out of bounds, `NoMemory` if an allocation fails.
 #[tactic(auto, unfolding(crate::specs::RequestText::request_at))]
-pub fn read_request(alloc: Global, node: &Node) -> Result<Request, FieldFault>
+pub fn read_request(
+    alloc: Global,
+    known: &mut KnownTariffs,
+    node: &Node,
+) -> Result<Request, FieldFault>
     ensures { Finds result (request_at node.now) }
 {
     let platform = fields::ci_text(node, Name::Platform)?;
     let command = fields::parsed(node, Name::Do)?;
-    let ask = read_ask(alloc, command, node)?;
+    let ask = read_ask(alloc, known, command, node)?;
     Ok(Request { platform, ask })
 }
 
@@ -231,16 +241,17 @@ pub fn read_request(alloc: Global, node: &Node) -> Result<Request, FieldFault>
 ///
 /// `Syntax` if the line is no JSON, and the errors of `read_request`.
 #[tactic(auto, unfolding(crate::specs::RequestText::request_of))]
-pub fn request_of(alloc: Global, room: &mut Room, line: &[u8]) -> Result<Request, Refusal>
+pub fn request_of(alloc: Global, room: &mut LineRoom, line: &[u8]) -> Result<Request, Refusal>
     ensures request { IfOk result (λ request. request_of line.now ≡ Ok request) }
     ensures refusal { IfErr result (λ refusal. is_refusal_no_memory refusal ≡ false → request_of line.now ≡ Err refusal) }
 {
+    let LineRoom { room, tariffs } = room;
     let read = match room.read(line) {
         Ok(read) => read,
         Err(ReadFault::Syntax) => return Err(Refusal::Syntax),
         Err(ReadFault::NoMemory) => return Err(Refusal::NoMemory),
     };
-    match read_request(alloc, &read.value()) {
+    match read_request(alloc, tariffs, &read.value()) {
         Ok(request) => Ok(request),
         Err(FieldFault::Field(name)) => Err(Refusal::Field { name }),
         Err(FieldFault::NoMemory) => Err(Refusal::NoMemory),

@@ -37,7 +37,7 @@ fn put_position(
     out.begin_object()?;
     put_text(out, "currency", position.currency.as_str())?;
     put_party(alloc, out, config, "party", &position.party)?;
-    put_amount(alloc, out, "net", position.net)?;
+    put_amount(out, "net", position.net)?;
     out.end_object()
 }
 
@@ -84,12 +84,12 @@ pub fn put_positions(
     end_list(out)
 }
 
-fn put_sums(alloc: Global, out: &mut Writer, row: &StatementRow) -> Result<(), AllocError>
+fn put_sums(out: &mut Writer, row: &StatementRow) -> Result<(), AllocError>
     ensures { Adds result out.old out.new (sum_members row.now) }
 {
-    put_amount(alloc, out, "receivable", row.receivable)?;
-    put_amount(alloc, out, "payable", row.payable)?;
-    put_amount(alloc, out, "net", row.net)
+    put_amount(out, "receivable", row.receivable)?;
+    put_amount(out, "payable", row.payable)?;
+    put_amount(out, "net", row.net)
 }
 
 fn put_row_members(
@@ -102,7 +102,7 @@ fn put_row_members(
 {
     put_text(out, "currency", row.currency.as_str())?;
     put_party(alloc, out, config, "counterpart", &row.counterpart)?;
-    put_sums(alloc, out, row)
+    put_sums(out, row)
 }
 
 #[tactic(auto, unfolding(crate::specs::TableText::row_object))]

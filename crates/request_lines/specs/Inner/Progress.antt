@@ -71,6 +71,7 @@ pub record HasStopped {A W : Type 0} (rule : Rule A) (writing : Writing W) (read
   pub stops : Stops rule read old.progress.lines old.progress.written fault (record { start = old.answerer; written = text; now = new.answerer })
   pub has_failed : is_write_fault fault ≡ true → writing.failed new.writer ≡ true
   pub unfailed : is_write_fault fault ≡ false → writing.failed new.writer ≡ writing.failed old.writer
+  pub counted : is_write_fault fault ≡ false → new.progress.written ≡ old.progress.written + length text
 
 -- these bytes are read, their whole lines are answered, and this is what has come of the next
 pub record IsUnderWay {A : Type 0} (rule : Rule A) (bytes : List ℕ) (run : Run A) (part : List ℕ) (progress : Progress) : Type 0 where

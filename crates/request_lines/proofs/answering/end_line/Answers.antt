@@ -16,6 +16,7 @@ returns-then-is_empty-clause-err g c =
       stops = stops_at_line _ c.args.part.now.items c.args.end.now _ _ _ _ _ c.requires.end same others stopped.stops;
       has_failed = stopped.has_failed;
       unfailed = stopped.unfailed;
+      counted = stopped.counted;
     }) c.finish_line.ensures.err
 
 pub returns-in_err-keep-clause-err : goal.returns-in_err-keep-clause-err
@@ -30,6 +31,7 @@ returns-in_err-keep-clause-err g c =
           (stops_at_keep _ _ c.args.part.now.items end _ _ _ (g.met.A.Answerer.answers_none _) c.requires.end h (10 ∷ others));
       has_failed = λ e. absurd (keeping_writes_none _ _ _ h e);
       unfailed = λ _. refl;
+      counted = λ _. omega arith;
     })
 
 pub returns-in_err-finish_line-clause-err : goal.returns-in_err-finish_line-clause-err
@@ -42,4 +44,5 @@ returns-in_err-finish_line-clause-err g c =
       stops = stops_at_line _ c.args.part.now.items c.args.end.now _ _ _ _ _ c.requires.end same others h.stops;
       has_failed = h.has_failed;
       unfailed = h.unfailed;
+      counted = h.counted;
     })

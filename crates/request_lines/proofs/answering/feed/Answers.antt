@@ -20,6 +20,7 @@ returns-in_err-end_line-clause-err g c =
           _ _ _ _ _ v.answered.text h.text (v.cut ∙ ap (λ (ys : List ℕ). v.fed ++ ys) c.in-Some.ensures.0) v.answered.answered v.each_short v.part_is v.answered.lines_are v.answered.written_is h.stops;
       has_failed = h.has_failed;
       unfailed = λ e. h.unfailed e ∙ v.answered.unfailed;
+      counted = λ e. omega (arith, h.counted e, v.answered.written_is, length-append v.answered.text h.text);
     })
 
 pub loop-line-preserved : goal.loop-line-preserved
@@ -81,4 +82,5 @@ returns-clause-err g c =
           (rw (append-nil rest) at (stops_at_keep g.A.Answerer.rule c.loop-line.answerer part rest c.loop-line.progress.lines c.loop-line.progress.written fault (g.met.A.Answerer.answers_none _) c.in_default.ensures h []));
       has_failed = λ e. absurd (keeping_writes_none _ _ _ h e);
       unfailed = λ _. v.answered.unfailed;
+      counted = λ _. omega (arith, v.answered.written_is, length-append v.answered.text []);
     }) c.keep.ensures.err

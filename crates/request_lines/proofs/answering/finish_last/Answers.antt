@@ -13,4 +13,5 @@ returns-clause-err g c =
       stops = stops_at_last _ _ _ _ _ _ some stopped.stops;
       has_failed = stopped.has_failed;
       unfailed = stopped.unfailed;
+      counted = stopped.counted;
     }) c.finish_line.ensures.err

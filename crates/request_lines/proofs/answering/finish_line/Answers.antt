@@ -10,6 +10,7 @@ returns-in-Err-clause-err g c = λ others. record {
   stops = gave_up _ _ _ _ others (g.met.A.Answerer.answers_none _) c.in-Err.ensures.err;
   has_failed = search rules;
   unfailed = λ _. refl;
+  counted = λ _. omega arith;
 }
 
 pub returns-clause-err : goal.returns-clause-err
@@ -23,4 +24,5 @@ returns-clause-err g c =
       stops = (omega (arith, size), only_sent _ _ _ _ _ _ _ others (g.met.A.Answerer.answers_none _) c.requires.short c.as_slice.ensures.value c.in-Ok.ensures.ok below);
       has_failed = λ _. c.in-Err-write_all.ensures.failed;
       unfailed = search rules;
+      counted = search rules;
     }
