@@ -1,7 +1,10 @@
 -- The lines that were done under request ids, as a list.
-use Rattle.std.proofs.Common.{◌≡◌, ℕ, List, [], ◌∷◌, ◌++◌, Bool, true, false, cond, refl, ap, sym, ◌∙◌, Option, None, Some, map}
+use Rattle.std.proofs.Common.{◌≡◌, ◌&&◌, ℕ, List, [], ◌∷◌, ◌++◌, Bool, true, false, cond, refl, ap, ap₂, sym, ◌∙◌, Option, None, Some, map}
 use Rattle.std.specs.Prelude.{option_map}
 use Rattle.std.specs.Map.{lookup}
+use Rattle.std.specs.Str.{bytes_eq}
+use Rattle.std.specs.Cmp.Lexicographic.{bytes_decides}
+use Rattle.ocpi_json.specs.Folded.{folded, same_folded}
 use Rattle.indexmap.specs.IndexMap.{insert_entry}
 use Rattle.line_streams.specs.State.{Remembered, RememberedLines, RequestKey, same_key, same_request, shown_answered, shown_entry, shown_key}
 use Rattle.line_streams.specs.declared.answered.Answered.{Answered}
@@ -38,3 +41,24 @@ pub inserted_last : (key : IdKey) (answered : Answered) (entries : Entries) → 
 inserted_last key answered [] none = refl
 inserted_last key answered (entry ∷ entries) none =
     inserted_if (same_key key entry.0) key answered entry entries (insert_entry same_key entries key answered) none (inserted_last key answered entries)
+
+-- what is inserted is found under its key
+pub same_text : (text : List ℕ) → bytes_eq text text ≡ true
+same_text text = (bytes_decides text text).1 refl
+
+pub both_true : (one other : Bool) → one ≡ true → other ≡ true → (one && other) ≡ true
+both_true one other a b = ap₂ (λ (x y : Bool). x && y) a b
+
+same_itself : (key : IdKey) → same_key key key ≡ true
+same_itself key = both_true (same_folded key.platform key.platform) (bytes_eq key.id.bytes key.id.bytes) (same_text (folded key.platform)) (same_text key.id.bytes)
+
+found_if_inserted : (b : Bool) (key : IdKey) (answered : Answered) (entry : IdKey × Answered) (entries inserted : Entries) → same_key key entry.0 ≡ b
+    → lookup (same_key key) inserted ≡ Some answered
+    → lookup (same_key key) (cond b ((entry.0, answered) ∷ entries) (entry ∷ inserted)) ≡ Some answered
+found_if_inserted true key answered entry entries inserted is later = ap (λ (c : Bool). cond c (Some answered) (lookup (same_key key) entries)) is
+found_if_inserted false key answered entry entries inserted is later = ap (λ (c : Bool). cond c (Some entry.1) (lookup (same_key key) inserted)) is ∙ later
+
+pub found_inserted : (key : IdKey) (answered : Answered) (entries : Entries) → lookup (same_key key) (insert_entry same_key entries key answered) ≡ Some answered
+found_inserted key answered [] = ap (λ (b : Bool). cond b (Some answered) None) (same_itself key)
+found_inserted key answered (entry ∷ entries) =
+    found_if_inserted (same_key key entry.0) key answered entry entries (insert_entry same_key entries key answered) refl (found_inserted key answered entries)

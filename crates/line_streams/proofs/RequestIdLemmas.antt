@@ -1,10 +1,9 @@
 -- Lines that come again under their request ids.
-use Rattle.std.proofs.Common.{◌≡◌, ◌&&◌, ⊎_elim, inl, inr, ℕ, List, [], ◌∷◌, ◌++◌, Bool, true, false, cond, refl, ap, ap₂, sym, subst, ◌∙◌, Option, None, Some, Result, Ok, Err}
+use Rattle.std.proofs.Common.{◌≡◌, ⊎_elim, inl, inr, ℕ, List, [], ◌∷◌, ◌++◌, Bool, true, false, cond, refl, ap, ap₂, sym, subst, ◌∙◌, Option, None, Some, Result, Ok, Err}
 use Rattle.std.proofs.lemmas.List.{append-nil}
 use Rattle.std.specs.Prelude.{is_some, option_map}
 use Rattle.std.specs.Map.{lookup}
 use Rattle.std.specs.Str.{bytes_eq}
-use Rattle.std.specs.Cmp.Lexicographic.{bytes_decides}
 use Rattle.ocpi_json.specs.Folded.{folded, same_folded}
 use Rattle.ocpi_types.specs.declared.config.Config.{Config}
 use Rattle.ocpi_types.specs.declared.refusal.Refusal.{Refusal}
@@ -16,7 +15,7 @@ use Rattle.line_streams.specs.State.{Remembered, RememberedLines, RequestKey, St
 use Rattle.line_streams.specs.Stream.{AreAnswered, IsAnswered, IsAnsweredAs, IsDoneLine, IsDoneOnce, again_text, asking, found_under, key_of, remembered_if}
 use Rattle.line_streams.specs.declared.asked.Asked.{Asked}
 use Rattle.line_streams.specs.declared.asked.AskedLine.{AskedLine}
-use Rattle.line_streams.proofs.AnsweredLemmas.{some_is_none}
+use Rattle.line_streams.proofs.AnsweredLemmas.{both_true, same_text, some_is_none}
 
 -- ---- what is found
 
@@ -42,12 +41,6 @@ found_last : (test : RequestKey → Bool) (lines : RememberedLines) (key : Reque
 found_last test [] key found is none = ap (λ (b : Bool). cond b (Some found) None) is
 found_last test (line ∷ lines) key found is none =
     last_if (test line.0) line.1 (lookup test lines) (lookup test (lines ++ (key, found) ∷ [])) found (found_last test lines key found is) none
-
-same_text : (text : List ℕ) → bytes_eq text text ≡ true
-same_text text = (bytes_decides text text).1 refl
-
-both_true : (one other : Bool) → one ≡ true → other ≡ true → (one && other) ≡ true
-both_true one other a b = ap₂ (λ (x y : Bool). x && y) a b
 
 same_itself : (key : RequestKey) → same_request key key ≡ true
 same_itself key = both_true (same_folded key.platform key.platform) (bytes_eq key.id key.id) (same_text (folded key.platform)) (same_text key.id)

@@ -1,5 +1,6 @@
 pub mod Asked
 pub mod Change
+pub mod Given
 pub mod Inner
 pub mod Law
 pub mod State

@@ -80,6 +80,7 @@ remembered_text (Some one) = one.answer
 abbrev pub line_text : Config → RememberedLines → LineReply → List ℕ
 line_text config lines (given.Done reply) = reply_text config reply
 line_text config lines (given.Remembered key) = remembered_text (lookup (same_request (shown_key key)) lines)
+line_text config lines (given.Repeated key) = remembered_text (lookup (same_request (shown_key key)) lines)
 line_text config lines given.IdUsed = used_text
 
 -- the house of a stream: its list is legal under the house's own configuration

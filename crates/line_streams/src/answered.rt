@@ -34,6 +34,48 @@ impl Answered {
     }
 }
 
+/// A line that is to be done, and the configuration in force before it.
+#[derive(Drop)]
+pub struct Unanswered {
+    line: Vec<u8>,
+    config: Shared<Config>,
+}
+
+impl Unanswered {
+    ghost use Rattle.std.specs.Prelude.{◌≡◌, IfOk};
+
+    /// Copies the line.
+    ///
+    /// # Errors
+    ///
+    /// `AllocError` if an allocation fails.
+    pub fn new(
+        alloc: Global,
+        config: &Shared<Config>,
+        line: &[u8],
+    ) -> Result<Unanswered, AllocError>
+        ensures line { IfOk result (λ unanswered. unanswered.line.items ≡ line.now) }
+        ensures config { IfOk result (λ unanswered. unanswered.config ≡ config.now) }
+    {
+        Ok(Unanswered {
+            line: Vec::from_slice(alloc, line)?,
+            config: config.share()?,
+        })
+    }
+
+    /// Adds the reply, without an allocation.
+    pub fn with_reply(self, reply: StreamReply) -> Answered
+        ensures { result ≡ record { line = self.line; config = self.config; reply = reply } }
+    {
+        let Unanswered { line, config } = self;
+        Answered {
+            line,
+            config,
+            reply,
+        }
+    }
+}
+
 /// The lines that were done under request ids, the first one first.
 #[derive(Drop)]
 pub struct AnsweredLines {
@@ -41,10 +83,10 @@ pub struct AnsweredLines {
 }
 
 impl AnsweredLines {
-    ghost use Rattle.std.specs.Prelude.{◌≡◌, ◌<◌, [], ◌∷◌, ◌++◌, None, option_map, option_copied, OnOk};
+    ghost use Rattle.std.specs.Prelude.{◌≡◌, ◌<◌, [], ◌∷◌, ◌++◌, None, Some, option_map, option_copied, OnOk};
     ghost use Rattle.std.specs.Map.{lookup};
     ghost use Rattle.indexmap.specs.IndexMap.{spare};
-    ghost use Rattle.line_streams.specs.State.{same_request, shown_answered, shown_key, shown_lines};
+    ghost use Rattle.line_streams.specs.State.{same_key, same_request, shown_answered, shown_key, shown_lines};
 
     /// Returns no lines.
     pub fn new(alloc: Global) -> AnsweredLines
@@ -57,7 +99,8 @@ impl AnsweredLines {
 
     /// Returns the line that was done under a request id.
     pub fn find(&self, key: &IdKey) -> Option<&Answered>
-        ensures { option_map shown_answered (option_copied result) ≡ lookup (same_request (shown_key key.now)) (shown_lines self.now) }
+        ensures shown { option_map shown_answered (option_copied result) ≡ lookup (same_request (shown_key key.now)) (shown_lines self.now) }
+        ensures value { option_copied result ≡ lookup (same_key key.now) self.now.lines.entries }
     {
         self.lines.get(key)
     }
@@ -78,7 +121,8 @@ impl AnsweredLines {
     pub fn add(&mut self, key: IdKey, answered: Answered)
         requires room { 0 < spare self.old.lines }
         requires absent { lookup (same_request (shown_key key)) (shown_lines self.old) ≡ None }
-        ensures { shown_lines self.new ≡ shown_lines self.old ++ (shown_key key, shown_answered answered) ∷ [] }
+        ensures lines { shown_lines self.new ≡ shown_lines self.old ++ (shown_key key, shown_answered answered) ∷ [] }
+        ensures added { lookup (same_key key) self.new.lines.entries ≡ Some answered }
     {
         self.lines.insert(key, answered).unwrap();
     }

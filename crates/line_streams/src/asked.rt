@@ -12,9 +12,9 @@ use ocpi_json::ci_text::CiText;
 use ocpi_json::fields::{self, FieldFault};
 use ocpi_json::name::Name;
 use ocpi_json::objects::{FromNodeIn, FromText};
-use ocpi_json::{Node, ReadFault, Room};
-use ocpi_types::{Config, Refusal};
-use request_lines::read_request;
+use ocpi_json::{Node, ReadFault};
+use ocpi_types::{Config, KnownTariffs, Refusal};
+use request_lines::{LineRoom, read_request};
 use std::alloc::Global;
 
 /// The command of a change, as the member `do` names it.
@@ -75,7 +75,7 @@ pub struct AskedLine {
 fn is_change(node: &Node) -> bool
     ensures { result ≡ is_change node.now }
 {
-    fields::parsed::<ChangeName>(node, Name::Do).is_ok()
+    fields::parsed::<ChangeName, _>(node, Name::Do).is_ok()
 }
 
 fn has_hub(config: &Config) -> bool
@@ -108,28 +108,32 @@ fn read_changes(alloc: Global, node: &Node) -> Result<Asked, FieldFault>
     Ok(Asked::Change(change))
 }
 
-fn read_requests(alloc: Global, node: &Node) -> Result<Asked, FieldFault>
+fn read_requests(alloc: Global, known: &mut KnownTariffs, node: &Node) -> Result<Asked, FieldFault>
     ensures { Finds result (requests_at node.now) }
 {
-    let request = read_request(alloc, node)?;
+    let request = read_request(alloc, known, node)?;
     Ok(Asked::Request(request))
 }
 
-fn read_asked(alloc: Global, node: &Node) -> Result<Asked, FieldFault>
+fn read_asked(alloc: Global, known: &mut KnownTariffs, node: &Node) -> Result<Asked, FieldFault>
     ensures { Finds result (asked_at node.now) }
 {
     if is_change(node) {
         read_changes(alloc, node)
     } else {
-        read_requests(alloc, node)
+        read_requests(alloc, known, node)
     }
 }
 
-fn read_asked_line(alloc: Global, node: &Node) -> Result<AskedLine, FieldFault>
+fn read_asked_line(
+    alloc: Global,
+    known: &mut KnownTariffs,
+    node: &Node,
+) -> Result<AskedLine, FieldFault>
     ensures { Finds result (line_at node.now) }
 {
     let id = fields::parsed_or_none(node, Name::RequestId)?;
-    let asked = read_asked(alloc, node)?;
+    let asked = read_asked(alloc, known, node)?;
     Ok(AskedLine { id, asked })
 }
 
@@ -140,16 +144,17 @@ fn read_asked_line(alloc: Global, node: &Node) -> Result<AskedLine, FieldFault>
 /// `Syntax` if the line is no JSON, `Field` with the first member that is missing, of a wrong kind or out of bounds, the request id before
 /// all others, `NoMemory` if an allocation fails.
 #[tactic(auto, unfolding(crate::specs::Asked::asked_of))]
-pub fn asked_of(alloc: Global, room: &mut Room, line: &[u8]) -> Result<AskedLine, Refusal>
+pub fn asked_of(alloc: Global, room: &mut LineRoom, line: &[u8]) -> Result<AskedLine, Refusal>
     ensures asked { IfOk result (λ asked. asked_of line.now ≡ Ok asked) }
     ensures refusal { IfErr result (λ refusal. is_refusal_no_memory refusal ≡ false → asked_of line.now ≡ Err refusal) }
 {
+    let LineRoom { room, tariffs } = room;
     let read = match room.read(line) {
         Ok(read) => read,
         Err(ReadFault::Syntax) => return Err(Refusal::Syntax),
         Err(ReadFault::NoMemory) => return Err(Refusal::NoMemory),
     };
-    match read_asked_line(alloc, &read.value()) {
+    match read_asked_line(alloc, tariffs, &read.value()) {
         Ok(asked) => Ok(asked),
         Err(FieldFault::Field(name)) => Err(Refusal::Field { name }),
         Err(FieldFault::NoMemory) => Err(Refusal::NoMemory),

@@ -9,7 +9,9 @@ ghost use Rattle.plain_house.specs.Replies.{is_no_memory};
 ghost use Rattle.request_lines.specs.Script.{list_with, reply_to};
 ghost use Rattle.new_configuration.specs.TakenOver.{IsFirstOtherwise};
 ghost use Rattle.line_streams.specs.Change.{ByHub, IsChanged, IsDone, IsReplied};
+ghost use Rattle.line_streams.specs.Given.{IsReplyByHub, IsReplyTo, IsReplyToChange};
 ghost use Rattle.line_streams.specs.State.{reply_text, shown_house};
+ghost use Rattle.line_streams.specs.declared.reply.StreamReply.TheVariants.{House};
 ghost use Rattle.line_streams.specs.Inner.Base.{base_of};
 
 use crate::asked::{Asked, Change};
@@ -52,6 +54,7 @@ fn do_request(
     ensures base { house.new.config ≡ house.old.config }
     ensures ok { IfOk result (λ reply. IsReplied (shown_house in_force.now.config house.old) request (reply_text in_force.now.config reply)
         (shown_house in_force.now.config house.new)) }
+    ensures given { IfOk result (λ reply. reply ≡ House (reply_to in_force.now.config house.old.events (admission in_force.now.config request))) }
     ensures err { OnErr result (house.new ≡ house.old) }
 {
     let reply = reply_to_request(in_force, house, request);
@@ -84,6 +87,7 @@ fn lower_to(
     requires outside { IsFirstOtherwise change house.old.events outside }
     ensures base { house.new.config ≡ base_of in_force.new }
     ensures ok { IfOk result (λ reply. IsChanged (shown_house in_force.old.config house.old) change (reply_text in_force.old.config reply) (shown_house in_force.new.config house.new)) }
+    ensures given { IfOk result (λ reply. IsReplyToChange (shown_house in_force.old.config house.old) change reply) }
     ensures alike { IfOk result (λ reply. reply_text in_force.new.config reply ≡ reply_text in_force.old.config reply) }
     ensures unchanged { OnErr result (house.new ≡ house.old) }
     ensures in_force { OnErr result (in_force.new ≡ in_force.old) }
@@ -121,6 +125,7 @@ fn change_to(
     requires { house.old.config ≡ base_of in_force.old }
     ensures base { house.new.config ≡ base_of in_force.new }
     ensures ok { IfOk result (λ reply. IsChanged (shown_house in_force.old.config house.old) change (reply_text in_force.old.config reply) (shown_house in_force.new.config house.new)) }
+    ensures given { IfOk result (λ reply. IsReplyToChange (shown_house in_force.old.config house.old) change reply) }
     ensures alike { IfOk result (λ reply. reply_text in_force.new.config reply ≡ reply_text in_force.old.config reply) }
     ensures unchanged { OnErr result (house.new ≡ house.old) }
     ensures in_force { OnErr result (in_force.new ≡ in_force.old) }
@@ -154,6 +159,7 @@ fn do_change(
     requires { house.old.config ≡ base_of in_force.old }
     ensures base { house.new.config ≡ base_of in_force.new }
     ensures ok { IfOk result (λ reply. ByHub (is_hub in_force.old.config change.platform) (shown_house in_force.old.config house.old) change.config (reply_text in_force.old.config reply) (shown_house in_force.new.config house.new)) }
+    ensures given { IfOk result (λ reply. IsReplyByHub (is_hub in_force.old.config change.platform) (shown_house in_force.old.config house.old) change.config reply) }
     ensures alike { IfOk result (λ reply. reply_text in_force.new.config reply ≡ reply_text in_force.old.config reply) }
     ensures unchanged { OnErr result (house.new ≡ house.old) }
     ensures in_force { OnErr result (in_force.new ≡ in_force.old) }
@@ -182,6 +188,7 @@ pub fn do_asked(
     requires { house.old.config ≡ base_of in_force.old }
     ensures base { house.new.config ≡ base_of in_force.new }
     ensures ok { IfOk result (λ reply. IsDone (shown_house in_force.old.config house.old) asked (reply_text in_force.old.config reply) (shown_house in_force.new.config house.new)) }
+    ensures given { IfOk result (λ reply. IsReplyTo (shown_house in_force.old.config house.old) asked reply) }
     ensures alike { IfOk result (λ reply. reply_text in_force.new.config reply ≡ reply_text in_force.old.config reply) }
     ensures unchanged { OnErr result (house.new ≡ house.old) }
     ensures in_force { OnErr result (in_force.new ≡ in_force.old) }

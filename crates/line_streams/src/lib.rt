@@ -17,7 +17,7 @@ pub use laws::{
     repeats_add_nothing, repeats_are_answered_alike, streams_are_determined, streams_stay_legal,
     streams_stay_sound, unchanged_is_a_script,
 };
-pub use reply::LineReply;
+pub use reply::{LineReply, StreamReply};
 pub use request_id::RequestId;
-pub use running::run_stream;
+pub use running::{run_stream, run_stream_together};
 pub use stream::Stream;

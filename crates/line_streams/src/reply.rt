@@ -83,8 +83,10 @@ impl StreamReply {
 pub enum LineReply {
     /// To what the line asks for.
     Done(StreamReply),
-    /// The one that is remembered under this request id.
+    /// To what the line asks for, remembered under this request id.
     Remembered(IdKey),
+    /// The one that is remembered under this request id: the line is repeated, and nothing is done.
+    Repeated(IdKey),
     /// The request id was given to another line.
     IdUsed,
 }

@@ -24,6 +24,17 @@ impl Model for RequestId {
     ghost view = { λ id. id.text.bytes };
 }
 
+impl RequestId {
+    ghost use Rattle.std.specs.Prelude.{◌≡◌};
+
+    /// Returns the text.
+    pub fn as_str(&self) -> &str
+        ensures { result.now ≡ self.now }
+    {
+        self.text.as_str()
+    }
+}
+
 impl FromText for RequestId {
     ghost use Rattle.line_streams.specs.Asked.{request_id_of};
 

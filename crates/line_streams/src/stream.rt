@@ -8,13 +8,12 @@ use crate::asked::{AskedLine, asked_of};
 use crate::doing::do_asked;
 use crate::in_force::InForce;
 use crate::once::do_once;
-use crate::reply::{LineReply, used_line};
+use crate::reply::{LineReply, StreamReply, used_line};
 use crate::request_id::IdKey;
-use ocpi_json::Room;
 use ocpi_types::{Config, Refusal, Shared, TryCopy};
 use period_order::BookHouse;
 use plain_house::Event;
-use request_lines::Answerer;
+use request_lines::{Answerer, LineRoom};
 use std::alloc::{AllocError, Global};
 
 /// A house that answers the lines of a stream, under the configuration in force.
@@ -23,7 +22,7 @@ pub struct Stream {
     in_force: InForce,
     house: BookHouse,
     answered: AnsweredLines,
-    room: Room,
+    room: LineRoom,
     refused: u128,
     ghost base: { house.config ≡ base_of in_force },
 }
@@ -34,7 +33,8 @@ fn is_refusal(answer: &[u8]) -> bool {
 }
 
 impl Stream {
-    ghost use Rattle.std.specs.Prelude.{◌≡◌, IfOk, OnErr};
+    ghost use Rattle.std.specs.Prelude.{◌≡◌, ◌-◌, length, option_copied, slice_get, IfOk, OnErr};
+    ghost use Rattle.line_streams.specs.Given.{IsGiven, done_by};
     ghost use Rattle.line_streams.specs.State.{empty_under, line_text, shown_lines, state_of};
     ghost use Rattle.line_streams.specs.Stream.{IsAnswered};
 
@@ -50,7 +50,7 @@ impl Stream {
             },
             house,
             answered: AnsweredLines::new(alloc),
-            room: Room::new(alloc),
+            room: LineRoom::new(alloc),
             refused: 0,
         })
     }
@@ -77,6 +77,13 @@ impl Stream {
         self.house.events(alloc)
     }
 
+    /// Returns the last event, if there is one.
+    pub fn last_event(&self, alloc: Global) -> Result<Option<Event>, AllocError>
+        ensures { IfOk result (λ last. last ≡ slice_get (state_of self.now).house.events (length (state_of self.now).house.events - 1)) }
+    {
+        self.house.last_event(alloc)
+    }
+
     /// Returns how many answers were refusals.
     pub fn refused(&self) -> u128 {
         self.refused
@@ -89,6 +96,7 @@ impl Stream {
     /// `AllocError` if an allocation fails; the stream is as before.
     pub fn reply_to(&mut self, alloc: Global, line: &[u8]) -> Result<LineReply, AllocError>
         ensures ok { IfOk result (λ reply. IsAnswered (state_of self.old) line.now (line_text self.new.in_force.config (shown_lines self.new.answered) reply) (state_of self.new)) }
+        ensures given { IfOk result (λ reply. IsGiven (state_of self.old) line.now (done_by self.new reply) reply) }
         ensures err { OnErr result (state_of self.new ≡ state_of self.old) }
     {
         let AskedLine { id, asked } = match asked_of(alloc, &mut self.room, line) {
@@ -104,6 +112,18 @@ impl Stream {
         do_once(alloc, in_force, house, &mut self.answered, key, asked, line)
     }
 
+    /// Returns the reply to what the last line asked for, if that was done. It was not if the line was repeated or its request id was
+    /// given to another line.
+    pub fn done<'s>(&'s self, reply: &'s LineReply) -> Option<&'s StreamReply>
+        ensures { option_copied result ≡ done_by self.now reply.now }
+    {
+        match reply {
+            LineReply::Done(reply) => Some(reply),
+            LineReply::Remembered(key) => Some(&self.answered.find(key)?.reply),
+            LineReply::Repeated(_) | LineReply::IdUsed => None,
+        }
+    }
+
     /// Returns the answer line of the reply to the last line.
     ///
     /// # Errors
@@ -114,7 +134,7 @@ impl Stream {
     {
         match reply {
             LineReply::Done(reply) => reply.line(alloc, &self.in_force.config),
-            LineReply::Remembered(key) => match self.answered.find(key) {
+            LineReply::Remembered(key) | LineReply::Repeated(key) => match self.answered.find(key) {
                 Some(answered) => answered.answer(alloc),
                 None => Ok(Vec::new(alloc)),
             },
