@@ -1,0 +1,3 @@
+-- Words that private contracts and proofs alone use.
+pub mod Left
+pub mod Work
