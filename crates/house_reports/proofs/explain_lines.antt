@@ -1,2 +1,4 @@
 pub mod AddedLemmas
+pub mod StreamLemmas
+pub mod StreamTableLemmas
 pub mod TableLemmas

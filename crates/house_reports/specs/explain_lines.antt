@@ -10,6 +10,7 @@ pub mod Parties
 pub mod Rights
 pub mod Rows
 pub mod Settled
+pub mod StreamRows
 pub mod Table
 pub mod Tariffs
 pub mod Tokens

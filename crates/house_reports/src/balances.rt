@@ -1,5 +1,5 @@
-//! What of each period each provider owes each operator, how much of it is settled and how much is open, as CSV or as a table for a
-//! terminal.
+//! The amounts of each period that each provider owes each operator, how much of them is settled and how much is open, as CSV or as a
+//! table for a terminal.
 
 mod all_rows;
 mod booking;
@@ -32,7 +32,7 @@ fn print_house(
     Ok(())
 }
 
-/// Prints it of a house after the lines of a reader; how many lines were refused is told on standard error.
+/// Prints the balances of the house after the lines of a reader, and the number of refused lines on standard error.
 pub fn perform<'a, R: Source>(
     rt: &HostRuntime,
     is_gone: &Cell<bool>,

@@ -6,7 +6,7 @@ use request_lines::Source;
 use std::cell::Cell;
 use std::process::ExitCode;
 
-/// What is to be told of a house.
+/// A report on a house or its lines.
 #[derive(Clone, Copy)]
 pub enum Command {
     Statements,
@@ -14,17 +14,17 @@ pub enum Command {
     ExplainLines,
 }
 
-/// What the lines of a reader are.
+/// The lines of a reader.
 #[derive(Clone, Copy)]
 pub enum Lines<'a, 's> {
-    /// Those of a script under the configuration of this path.
+    /// The lines of a script under the configuration at this path.
     Script { config: &'a str },
-    /// Those of a stream that begins under the configuration in this text.
+    /// The lines of a stream that begins under the configuration in this text.
     Stream { config: &'s [u8] },
 }
 
 impl Command {
-    /// The command of this name.
+    /// Returns the command of this name.
     pub fn of(name: &str) -> Option<Command> {
         match name {
             "statements" => Some(Command::Statements),
@@ -34,7 +34,7 @@ impl Command {
         }
     }
 
-    // Does it by its options, and gives the exit status. It notes that the reader of the output has gone.
+    // Performs the command by its options, and returns the exit status. It notes that the reader of the output has gone.
     fn perform<'a, R: Source>(
         self,
         rt: &HostRuntime,
@@ -50,11 +50,11 @@ impl Command {
         }
     }
 
-    /// Does it by the options of the command line, over the lines of a reader, and returns the exit status.
+    /// Performs the command by its options over the lines of a reader, and returns the exit status.
     ///
     /// # Errors
     ///
-    /// The fault that ends the command early. If the reader of the output has gone, the fault is not told: its status is returned.
+    /// The error that ends the command early. If the reader of the output has gone, the error is not reported: its status is returned.
     pub fn done<'a, R: Source>(
         self,
         rt: &HostRuntime,

@@ -1,4 +1,4 @@
-//! Of each line that a house turns down, where it is at fault and why: a table of comma-separated values.
+//! Where and why each refused line fails: a table of comma-separated values.
 
 ghost use Rattle.std.specs.Prelude.{◌≡◌, ◌↔◌, false};
 
@@ -10,6 +10,7 @@ mod happened;
 mod line;
 mod member_path;
 mod row;
+mod streamed;
 mod table;
 mod telling;
 mod turned_down;
@@ -18,16 +19,37 @@ use crate::command::Lines;
 use command_line::{Fault, Output, read_config};
 use request_lines::{Device, Source};
 use std::cell::Cell;
+use streamed::explain_stream;
 use table::explain;
 
-// The exit status, by whether a line is turned down.
+// Returns the exit status, by whether a line is refused.
 fn status(is_any_turned_down: bool) -> u8
     ensures { (result ≡ 0) ↔ (is_any_turned_down ≡ false) }
 {
     if is_any_turned_down { 3 } else { 0 }
 }
 
-/// Prints it of the lines of a reader, and gives the exit status. A stream is not explained: its lines are a fault of usage.
+// Prints the rows of the lines of a reader, and returns whether there is one.
+fn print<'a, R: Source>(
+    rt: &HostRuntime,
+    is_gone: &Cell<bool>,
+    lines: Lines<'a, '_>,
+    reader: &mut R,
+) -> Result<bool, Fault<'a>> {
+    match lines {
+        Lines::Script { config } => {
+            let file = read_config(rt, config)?;
+            let mut writer = Device::new(Output::new(rt.stdout(), is_gone));
+            Ok(explain(rt.alloc(), file.as_slice(), reader, &mut writer)?)
+        }
+        Lines::Stream { config } => {
+            let mut writer = Device::new(Output::new(rt.stdout(), is_gone));
+            Ok(explain_stream(rt.alloc(), config, reader, &mut writer)?)
+        }
+    }
+}
+
+/// Prints the rows of the lines of a reader, and returns the exit status.
 pub fn perform<'a, R: Source>(
     rt: &HostRuntime,
     is_gone: &Cell<bool>,
@@ -35,14 +57,8 @@ pub fn perform<'a, R: Source>(
     lines: Lines<'a, '_>,
     reader: &mut R,
 ) -> Result<u8, Fault<'a>> {
-    let Lines::Script { config } = lines else {
-        return Err(Fault::Usage);
-    };
     if !options.is_empty() {
         return Err(Fault::Usage);
     }
-    let file = read_config(rt, config)?;
-    let mut writer = Device::new(Output::new(rt.stdout(), is_gone));
-    let is_any_turned_down = explain(rt.alloc(), file.as_slice(), reader, &mut writer)?;
-    Ok(status(is_any_turned_down))
+    Ok(status(print(rt, is_gone, lines, reader)?))
 }

@@ -1,4 +1,4 @@
-//! The order of what happened, and for each closed period the statement of each party, as CSV.
+//! The order of events, and for each closed period the statement of each party, as CSV.
 
 mod printed;
 
@@ -20,7 +20,7 @@ fn print_house(
     Ok(())
 }
 
-/// Prints them of a house after the lines of a reader; how many lines were refused is told on standard error.
+/// Prints the statements of the house after the lines of a reader, and the number of refused lines on standard error.
 pub fn perform<'a, R: Source>(
     rt: &HostRuntime,
     is_gone: &Cell<bool>,

@@ -1,4 +1,4 @@
--- The events that are kept behind a line.
+-- The events that are kept after a line.
 use Rattle.std.proofs.Common.{◌≡◌, ◌-◌, ℕ, List, [], ◌∷◌, ◌++◌, Bool, true, false, refl, sym, ap, ◌∙◌, arith, cond, length, slice_get, Option, Some, None, Result, Ok, Err, is_some, length-append}
 use Rattle.ocpi_types.specs.declared.config.Config.{Config}
 use Rattle.ocpi_types.specs.declared.refusal.Refusal.{Refusal}
@@ -34,18 +34,20 @@ kept_with events kept (Some event) true tells same =
     ap (with_event kept) (last_pushed events event) ∙ ap (λ (l : List Event). l ++ event ∷ []) same
 kept_with events kept (Some event) false tells same = absurd (cc)
 
--- where all events before a line were kept, all behind it are
+-- if all events before a command were kept, all after it are
+pub kept_with_command : RepliesTellEvents → (config : Config) (events now kept : List Event) (reply : Reply) (command : Result Command Refusal) →
+    reply ≡ reply_to config events command → now ≡ list_with config events command → kept ≡ events → kept_behind reply now kept ≡ now
+kept_with_command tells config events now kept reply (Err refusal) e f same = ap (λ (r : Reply). kept_behind r now kept) e ∙ same ∙ sym f
+kept_with_command tells config events now kept reply (Ok command) e f same =
+    let told = verdict config (known events) command in
+    ap (λ (r : Reply). kept_behind r now kept) e
+    ∙ ap (λ (n : List Event). kept_behind (stamped (length events) told.reply) n kept) f
+    ∙ kept_with events kept told.event (adds_event (stamped (length events) told.reply)) (tells config (known events) command ∙ sym (adds_stamped (length events) told.reply)) same
+    ∙ sym f
+
+-- if all events before a line were kept, all after it are
 pub all_kept_behind : RepliesTellEvents → (config : Config) (events now kept : List Event) (line : List ℕ) (reply : Reply) →
     reply ≡ reply_in config events line → now ≡ after config events line → kept ≡ events → kept_behind reply now kept ≡ now
 unfolding reply_in after
-all_kept_behind tells config events now kept line reply reply_is now_is same = by (command_in config line) reply_is now_is
-  where
-    by : (command : Result Command Refusal) → reply ≡ reply_to config events command → now ≡ list_with config events command →
-        kept_behind reply now kept ≡ now
-    by (Err refusal) e f = ap (λ (r : Reply). kept_behind r now kept) e ∙ same ∙ sym f
-    by (Ok command) e f =
-        let told = verdict config (known events) command in
-        ap (λ (r : Reply). kept_behind r now kept) e
-        ∙ ap (λ (n : List Event). kept_behind (stamped (length events) told.reply) n kept) f
-        ∙ kept_with events kept told.event (adds_event (stamped (length events) told.reply)) (tells config (known events) command ∙ sym (adds_stamped (length events) told.reply)) same
-        ∙ sym f
+all_kept_behind tells config events now kept line reply reply_is now_is same =
+    kept_with_command tells config events now kept reply (command_in config line) reply_is now_is same

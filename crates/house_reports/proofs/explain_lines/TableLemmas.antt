@@ -1,4 +1,4 @@
--- What all lines are told that a new house answers.
+-- The rows of all lines that a new house answers.
 use Rattle.std.proofs.Common.{◌≡◌, ℕ, ◌+◌, ◌<◌, ◌^◌, Bool, ◌||◌, List, [], length, sym, ap, ◌∙◌, subst, zero-add}
 use Rattle.plain_house.specs.declared.event.Event.{Event}
 use Rattle.house_reports.specs.explain_lines.Rows.{AreTold, is_any_turned_down}

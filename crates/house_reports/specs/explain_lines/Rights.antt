@@ -1,4 +1,4 @@
--- The right that the sender of a request has not.
+-- The right that the sender of a request lacks.
 use Rattle.std.specs.Prelude.{List, ℕ, Option, Some, None, is_some, if◌then◌else◌}
 use Rattle.ocpi_types.specs.declared.config.Config.{Config}
 use Rattle.ocpi_types.specs.declared.party.Party.{Party}
@@ -8,7 +8,7 @@ use Rattle.cdr_checks.specs.declared.request.Ask.TheVariants as ask
 use Rattle.house_reports.specs.declared.explain_lines.asked.rights.MissingRight.{MissingRight}
 use Rattle.house_reports.specs.declared.explain_lines.asked.rights.MissingRight.TheVariants as missing
 
--- the party for which its sender has to act; none where it has to be a hub
+-- the party for which its sender has to act; none if it has to be a hub
 abbrev pub acting_party : Ask → Option Party
 acting_party (ask.PutTariff tariff) = Some tariff.operator
 acting_party (ask.PutToken token) = Some token.provider

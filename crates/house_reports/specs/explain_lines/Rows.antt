@@ -1,4 +1,4 @@
--- What is told of lines that a house answers in turn.
+-- The rows of the lines that a house answers in turn.
 use Rattle.std.specs.Prelude.{◌≡◌, ℕ, ◌+◌, Bool, false, ◌||◌, List, [], ◌∷◌, ◌++◌, Option, Some, None, is_some}
 use Rattle.ocpi_types.specs.declared.config.Config.{Config}
 use Rattle.plain_house.specs.declared.event.Event.{Event}
@@ -6,12 +6,12 @@ use Rattle.request_lines.specs.Script.{after, reply_in}
 use Rattle.house_reports.specs.explain_lines.Table.{IsRow, header}
 use Rattle.house_reports.specs.explain_lines.TurnedDown.{turned_down}
 
--- a row of this number and this name, where the line is turned down, and otherwise nothing
+-- a row of this number and this name if the line is refused, and otherwise nothing
 abbrev pub IsTold : ℕ → Option (List ℕ) → List ℕ → Type 0
 IsTold number None text = text ≡ []
 IsTold number (Some refusal) text = IsRow number refusal text
 
--- of lines behind so many others, which a house answers after these events: of each in turn what it is told
+-- the rows of lines that come after this number of others, and that a house answers after these events
 abbrev pub AreTold : Config → List Event → ℕ → List (List ℕ) → List ℕ → Type 0
 AreTold config events number [] text = text ≡ []
 AreTold config events number (line ∷ lines) text =
@@ -19,13 +19,13 @@ AreTold config events number (line ∷ lines) text =
     × IsTold (number + 1) (turned_down (reply_in config events line)) first
     × AreTold config (after config events line) (number + 1) lines others
 
--- one of the lines is turned down
+-- one of the lines is refused
 abbrev pub is_any_turned_down : Config → List Event → List (List ℕ) → Bool
 is_any_turned_down config events [] = false
 is_any_turned_down config events (line ∷ lines) =
     is_some (turned_down (reply_in config events line)) || is_any_turned_down config (after config events line) lines
 
--- the names of the columns, and what all lines are told, from the first on
+-- the names of the columns, and the rows of all lines
 abbrev pub IsTable : Config → List (List ℕ) → Bool → List ℕ → Type 0
 IsTable config lines any text =
     (rows : List ℕ) × (text ≡ header ++ rows) × AreTold config [] 0 lines rows × (any ≡ is_any_turned_down config [] lines)

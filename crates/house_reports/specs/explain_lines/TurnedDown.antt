@@ -1,4 +1,4 @@
--- The replies that turn a line down.
+-- The replies that refuse a line.
 use Rattle.std.specs.Prelude.{ℕ, List, Option, Some, None, Ok, Err, codes}
 use Rattle.ocpi_types.specs.Refusal.{refusal_name}
 use Rattle.plain_house.specs.declared.answer.Answer.{Answer}
@@ -20,7 +20,7 @@ turned_down_by (answer.Exposure holds debts limit) = None
 turned_down_by (answer.Found amount period credited) = None
 turned_down_by (answer.Statement rows) = None
 
--- the name on the answer line of a reply that turns its line down
+-- the name on the answer line of a reply that is a refusal, BLOCKED or NO_CREDIT
 abbrev pub turned_down : Reply → Option (List ℕ)
 turned_down (Ok replied) = turned_down_by replied.answer
 turned_down (Err refused) = Some (refusal_name refused.refusal)

@@ -1,4 +1,4 @@
-//! The rows of all that is booked, by period, currency, operator and provider.
+//! The rows of all bookings, by period, currency, operator and provider.
 
 ghost use Rattle.std.specs.Prelude.{◌≡◌, ◌++◌, ◌<◌, ◌^◌, ℕ, IfOk, OnOk};
 ghost use Rattle.netting_positions.specs.Netting.{total_size};
@@ -15,7 +15,7 @@ use ocpi_types::{Config, Currency, Party};
 use plain_house::{Event, period_of};
 use std::alloc::{AllocError, Global};
 
-/// The parties and currencies of which there are rows, in their order.
+/// The parties and currencies that have rows, in order.
 #[derive(Drop)]
 struct Listed {
     currencies: Vec<Currency>,
@@ -96,7 +96,7 @@ fn add_period(
     Ok(())
 }
 
-// Adds the rows of those of these that are of the period.
+// Adds the rows of these bookings that are of the period.
 fn add_chosen(
     alloc: Global,
     rows: &mut Vec<Row>,
@@ -142,7 +142,7 @@ fn listed_in(alloc: Global, config: &Config) -> Result<Listed, AllocError>
     })
 }
 
-/// The rows, by period, currency, operator and provider.
+/// Returns the rows, by period, currency, operator and provider.
 pub fn rows(alloc: Global, config: &Config, events: &[Event]) -> Result<Vec<Row>, AllocError>
     requires { (period : ℕ) → total_size (obligations period (book_entries events.now)) < 2 ^ 63 }
     ensures { IfOk result (λ found. found.items ≡ rows config.now events.now) }

@@ -1,4 +1,4 @@
-//! What is booked in a list of events, and which of it a settlement ended.
+//! The bookings in a list of events, and which of their debts a settlement ended.
 
 ghost use Rattle.std.specs.Prelude.{◌≡◌, IfOk};
 ghost use Rattle.std.specs.Option.{option_to_list};
@@ -10,7 +10,7 @@ use ocpi_types::{Cdr, Currency, Party};
 use plain_house::{BookedAmount, Event, charge_of, period_after};
 use std::alloc::{AllocError, Global};
 
-/// A CDR or Credit CDR, as it counts in what its provider owes.
+/// The booking of a CDR or Credit CDR.
 #[derive(Clone, Copy)]
 pub struct Booking {
     pub period: u64,
@@ -19,7 +19,7 @@ pub struct Booking {
     pub provider: Party,
     /// The amount at which it is booked.
     pub amount: BookedAmount,
-    /// A settlement ended its debt. Of a Credit CDR none does.
+    /// Whether a settlement ended its debt; never of a Credit CDR.
     pub is_settled: bool,
 }
 
@@ -55,7 +55,7 @@ fn booking_in(endings: &[Ending], event: &Event, period: u64) -> Option<Booking>
     }
 }
 
-/// What is booked, in the order of the events. It takes time for each CDR by how many Credit CDRs and settlements there are.
+/// Returns the bookings, in the order of the events. The time for each CDR is linear in the number of Credit CDRs and settlements.
 pub fn bookings(alloc: Global, events: &[Event]) -> Result<Vec<Booking>, AllocError>
     ensures { IfOk result (λ found. found.items ≡ bookings events.now) }
 {

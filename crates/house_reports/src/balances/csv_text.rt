@@ -47,7 +47,7 @@ fn write_line(table: &mut Writer<Vec<u8>>, line: &Fields) -> Result<(), AllocErr
     }
 }
 
-/// The CSV text of the lines, a record for each.
+/// Returns the CSV text of the lines, a record for each.
 pub fn csv_of(alloc: Global, lines: &[Fields]) -> Result<Vec<u8>, AllocError>
     ensures { IfOk result (λ text. text.items ≡ table_text (map texts_of lines.now)) }
 {

@@ -1,4 +1,4 @@
-//! What ends the debts of CDRs.
+//! Credit CDRs and settlements, which end the debts of CDRs.
 
 ghost use Rattle.std.specs.Prelude.{◌≡◌, IfOk};
 ghost use Rattle.std.specs.Option.{option_to_list};
@@ -10,7 +10,7 @@ use ocpi_types::Party;
 use plain_house::{Charge, Event, names};
 use std::alloc::{AllocError, Global};
 
-/// What ends debts.
+/// A Credit CDR or a settlement.
 #[derive(Clone, Copy)]
 pub enum Ending {
     /// A Credit CDR takes back the CDR of that id of its operator.
@@ -40,7 +40,7 @@ fn ending_in(event: &Event) -> Option<Ending>
     }
 }
 
-/// The Credit CDRs and settlements, in order.
+/// Returns the Credit CDRs and settlements, in order.
 pub fn endings(alloc: Global, events: &[Event]) -> Result<Vec<Ending>, AllocError>
     ensures { IfOk result (λ found. found.items ≡ endings events.now) }
 {
@@ -79,7 +79,7 @@ fn is_settlement(ending: &Ending) -> bool
     }
 }
 
-/// The first that ends the debt of the charge is a settlement.
+/// Returns whether the first that ends the debt of the charge is a settlement.
 pub fn is_settled(endings: &[Ending], charge: &Charge) -> bool
     ensures { result ≡ is_settled_by endings.now charge.now }
 {

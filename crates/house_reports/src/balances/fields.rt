@@ -1,4 +1,4 @@
-//! What a row shows, column by column, and the heads of the columns.
+//! The texts of a row, column by column, and the heads of the columns.
 
 ghost use Rattle.std.specs.Prelude.{◌≡◌, ◌∷◌, IfOk, map};
 ghost use Rattle.house_reports.specs.balances.BalanceText.{amount_fields, amount_heads, header, key_fields, key_heads, row_fields};
@@ -7,7 +7,7 @@ ghost use Rattle.house_reports.specs.balances.Inner.Fields.{texts_of, texts_of_a
 use super::row::{Row, RowKey};
 use std::alloc::{AllocError, Global};
 
-/// How many columns there are.
+/// The number of columns.
 pub const COLUMNS: usize = 7;
 
 /// The number of the first column of amounts, from 0.
@@ -114,7 +114,7 @@ fn fields_of(alloc: Global, row: &Row) -> Result<Fields, AllocError>
     })
 }
 
-/// A line of heads, and a line for each row.
+/// Returns a line of heads, and a line for each row.
 pub fn lines_of(alloc: Global, rows: &[Row]) -> Result<Vec<Fields>, AllocError>
     ensures { IfOk result (λ lines. map texts_of lines.items ≡ header ∷ map row_fields rows.now) }
 {

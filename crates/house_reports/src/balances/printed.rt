@@ -1,4 +1,4 @@
-//! What is printed of a house after its last line.
+//! Printing the balances of a house after its last line.
 
 ghost use Rattle.std.specs.Prelude.{◌≡◌, ◌∷◌, IfOk, OnOk, map};
 ghost use Rattle.house_reports.specs.balances.BalanceText.{balance_text, header, row_fields};
@@ -36,7 +36,7 @@ fn text_of(alloc: Global, ended: &EndedHouse, form: Form) -> Result<Vec<u8>, All
     }
 }
 
-/// Prints what is owed, settled and open.
+/// Prints the amounts that are owed, settled and open.
 pub fn print<W: Sink>(
     alloc: Global,
     writer: &mut W,

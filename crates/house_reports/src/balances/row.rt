@@ -19,19 +19,19 @@ pub struct RowKey {
     pub provider: Party,
 }
 
-/// What is booked by one key.
+/// The bookings of one key.
 #[derive(Clone, Copy)]
 pub struct Row {
     pub key: RowKey,
     /// CDRs less Credit CDRs.
     pub owed: Amount,
-    /// What of it a settlement ended.
+    /// The part of the debts that settlements ended.
     pub settled: Amount,
     /// Owed less settled.
     pub outstanding: Amount,
 }
 
-// CDRs less Credit CDRs.
+// Returns the CDRs less the Credit CDRs.
 fn owed(bookings: &[Booking]) -> i128
     requires { size bookings.now < 2 ^ 63 }
     ensures value { result ≡ owed bookings.now }
@@ -46,7 +46,7 @@ fn owed(bookings: &[Booking]) -> i128
     total
 }
 
-// What of it settlements ended.
+// Returns the part of the debts that settlements ended.
 fn settled(bookings: &[Booking]) -> i128
     requires { size bookings.now < 2 ^ 63 }
     ensures value { result ≡ settled bookings.now }
@@ -94,7 +94,7 @@ fn sums_of(key: RowKey, bookings: &[Booking]) -> Row
     }
 }
 
-/// The row of what is booked by one key, if anything is.
+/// Returns the row of the bookings of one key, if there are any.
 pub fn row_of(key: RowKey, bookings: &[Booking]) -> Option<Row>
     requires { size bookings.now < 2 ^ 63 }
     ensures { option_to_list result ≡ row_of key bookings.now }

@@ -27,7 +27,7 @@ fn push_spaces(text: &mut String, count: usize) -> Result<(), AllocError> {
     Ok(())
 }
 
-// Amounts stand to the right of their column, all else to the left.
+// Aligns amounts to the right of their column, all else to the left.
 fn push_field(
     text: &mut String,
     width: usize,
@@ -59,7 +59,7 @@ fn push_line(
     text.push('\n')
 }
 
-/// The lines, their columns padded with spaces.
+/// Returns the lines, with their columns padded with spaces.
 pub fn table_of(alloc: Global, lines: &[Fields]) -> Result<String, AllocError> {
     let widths = widths_of(lines);
     let mut text = String::new(alloc);

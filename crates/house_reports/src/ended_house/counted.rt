@@ -2,7 +2,7 @@ use cdr_checks::Command;
 use period_order::BookHouse;
 use plain_house::{Refused, Replied, Sequential};
 
-/// A house of books that counts the commands that it accepts.
+/// A house that counts the commands that it accepts.
 #[derive(Drop)]
 pub struct CountedHouse {
     pub house: BookHouse,

@@ -14,7 +14,7 @@ use std::alloc::{AllocError, Global};
 use std::io;
 use std::marker::Model;
 
-/// What a house of books has after its last line.
+/// A house after its last line.
 #[derive(Drop)]
 pub struct EndedHouse {
     config: Config,
@@ -40,7 +40,7 @@ fn counted_house(alloc: Global, config: &Config) -> Result<CountedHouse, AllocEr
     Ok(CountedHouse { house, accepted: 0 })
 }
 
-/// What lines leave behind.
+/// The events after all lines, and the number of refused lines.
 #[derive(Drop)]
 struct Left {
     events: Vec<Event>,
@@ -118,7 +118,7 @@ impl EndedHouse {
     ghost use Rattle.plain_house.specs.Legal.{IsLegal};
     ghost use Rattle.house_reports.specs.ended_house.Ended.{HasRead, HasStreamed, IsFaultOf, IsStopped, IsStreamStopped};
 
-    /// A house of this configuration, after the lines of the reader. Their answers are not written.
+    /// Returns a house of this configuration after the lines of the reader. The answers are not written.
     pub fn of_lines<R: Source>(
         alloc: Global,
         config: Config,
@@ -138,7 +138,7 @@ impl EndedHouse {
         })
     }
 
-    /// A house of the configuration in this file, after the lines of the reader.
+    /// Returns a house of the configuration in this file after the lines of the reader.
     pub fn of_file<R: Source>(
         alloc: Global,
         file: &[u8],
@@ -176,7 +176,7 @@ impl EndedHouse {
         &self.config
     }
 
-    /// The events, the first one first.
+    /// Returns the events, the first one first.
     pub fn events(&self) -> &[Event]
         ensures value { result.now ≡ self.now.events }
         ensures legal { IsLegal self.now.config result.now }
@@ -184,7 +184,7 @@ impl EndedHouse {
         self.events.as_slice()
     }
 
-    /// How many lines were refused.
+    /// Returns the number of refused lines.
     pub fn refused(&self) -> u128 {
         self.refused
     }

@@ -1,4 +1,4 @@
-//! What a command writes beside its rows.
+//! Writing a text, and the number of refused lines.
 
 ghost use Rattle.std.specs.Prelude.{◌≡◌, true, IfErr, OnOk};
 
@@ -17,7 +17,7 @@ pub fn write_text<W: Sink>(writer: &mut W, text: &[u8]) -> Result<(), Fault<'sta
     }
 }
 
-/// Tells on standard error how many lines were refused, if any were.
+/// Reports the number of refused lines on standard error, if there are any.
 pub fn tell_refused<R: Eprint>(rt: &R, refused: u128) -> io::Result<()> {
     if refused == 0 {
         return Ok(());

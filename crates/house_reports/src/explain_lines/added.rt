@@ -1,6 +1,6 @@
 //! The events that lines add.
 
-ghost use Rattle.std.specs.Prelude.{◌≡◌, ◌-◌, length, slice_get, OnOk};
+ghost use Rattle.std.specs.Prelude.{◌≡◌, OnOk};
 ghost use Rattle.plain_house.specs.Replies.{with_event};
 ghost use Rattle.house_reports.specs.explain_lines.Added.{kept_behind};
 
@@ -8,17 +8,17 @@ use period_order::BookHouse;
 use plain_house::{Event, Refused, Replied, adds_event};
 use std::alloc::{AllocError, Global};
 
-// Copies the last event of the house, where there is one, behind these.
-fn keep_last(alloc: Global, house: &BookHouse, events: &mut Vec<Event>) -> Result<(), AllocError>
-    ensures { OnOk result (events.new.items ≡ with_event events.old.items (slice_get house.now.events (length house.now.events - 1))) }
+/// Adds an event to these, if there is one.
+pub fn keep(last: Option<Event>, events: &mut Vec<Event>) -> Result<(), AllocError>
+    ensures { OnOk result (events.new.items ≡ with_event events.old.items last) }
 {
-    match house.last_event(alloc)? {
+    match last {
         Some(event) => Ok(events.push(event)?),
         None => Ok(()),
     }
 }
 
-/// Copies the last event of the house behind these, where the reply tells of one that is added.
+/// Adds the last event of the house to these, if the reply reports one that was added.
 pub fn keep_added(
     alloc: Global,
     house: &BookHouse,
@@ -28,7 +28,7 @@ pub fn keep_added(
     ensures { OnOk result (events.new.items ≡ kept_behind reply.now house.now.events events.old.items) }
 {
     if adds_event(reply) {
-        keep_last(alloc, house, events)
+        keep(house.last_event(alloc)?, events)
     } else {
         Ok(())
     }

@@ -1,4 +1,4 @@
-//! What is refused by a request and the configuration alone.
+//! Refusals that depend on the request and the configuration alone.
 
 pub mod currencies;
 pub mod dates;

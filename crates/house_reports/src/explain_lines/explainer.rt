@@ -1,4 +1,4 @@
-//! A house that answers lines, of which those that are turned down are explained.
+//! A house that answers lines and explains the refused ones.
 
 ghost use Rattle.std.specs.Prelude.{◌≡◌};
 
@@ -6,25 +6,24 @@ use crate::explain_lines::added::keep_added;
 use crate::explain_lines::explaining::of_line;
 use crate::explain_lines::row::row;
 use crate::explain_lines::turned_down::turned_down;
-use ocpi_json::Room;
 use ocpi_types::{Config, TryCopy};
 use period_order::BookHouse;
 use plain_house::{Event, Refused, Replied, is_out_of_memory, out_of_memory, replies_tell_events};
-use request_lines::{Answerer, reply_to};
+use request_lines::{Answerer, LineRoom, reply_to};
 use std::alloc::{AllocError, Global};
 
-/// A house that answers lines.
+/// A house that writes the rows of its refused lines.
 #[derive(Drop)]
 pub(crate) struct Explainer<'c> {
     config: &'c Config,
     house: BookHouse,
     /// The events of the house.
     events: Vec<Event>,
-    /// Where each line is read.
-    room: Room,
-    /// How many lines are answered.
+    /// The memory in which a line is read.
+    room: LineRoom,
+    /// The number of answered lines.
     lines: u128,
-    /// One of them is turned down.
+    /// Whether one of them was refused.
     pub is_any_turned_down: bool,
     ghost same: { house.config ≡ config.now },
 }
@@ -35,7 +34,7 @@ impl<'c> Explainer<'c> {
     ghost use Rattle.plain_house.specs.Replies.{is_no_memory};
     ghost use Rattle.house_reports.specs.explain_lines.Table.{IsRow};
 
-    /// A new house of this configuration.
+    /// Returns a new house of this configuration.
     pub(crate) fn new(alloc: Global, config: &'c Config) -> Result<Explainer<'c>, AllocError>
         ensures config { IfOk result (λ explainer. explainer.config.now ≡ config.now) }
         ensures empty { IfOk result (λ explainer. (explainer.house.events ≡ []) × (explainer.events.items ≡ [])) }
@@ -46,13 +45,13 @@ impl<'c> Explainer<'c> {
             config,
             house,
             events: Vec::new(alloc),
-            room: Room::new(alloc),
+            room: LineRoom::new(alloc),
             lines: 0,
             is_any_turned_down: false,
         })
     }
 
-    // The reply of the house to a line. Where memory runs out, the house is as it was or as after the line.
+    // Returns the reply of the house to a line. If an allocation fails, the house is as before the line or after it.
     fn reply(&mut self, alloc: Global, line: &[u8]) -> Result<Replied, Refused>
         ensures rest { (self.new.config.now ≡ self.old.config.now) × (self.new.lines ≡ self.old.lines)
             × (self.new.is_any_turned_down ≡ self.old.is_any_turned_down) }
@@ -68,7 +67,7 @@ impl<'c> Explainer<'c> {
         }
     }
 
-    // The row of the line that was answered last, and was refused so.
+    // Returns the row of the last line, which was refused by this reply.
     fn row(
         &mut self,
         alloc: Global,

@@ -1,4 +1,4 @@
-//! Which refusal is explained how.
+//! The explanation of each refusal.
 
 use crate::explain_lines::asked::{currencies, dates, parties, rights, tariffs, volumes};
 use crate::explain_lines::happened::{
@@ -12,7 +12,7 @@ use ocpi_json::name::Name;
 use ocpi_json::{ReadFault, Room};
 use ocpi_types::{Cdr, Config, Refusal};
 use plain_house::{Answer, Event, Refused, Replied};
-use request_lines::request_of;
+use request_lines::{LineRoom, request_of};
 use std::alloc::{AllocError, Global};
 
 fn cdr_of(ask: &Ask) -> Option<&Cdr> {
@@ -43,7 +43,7 @@ fn settlement_of(ask: &Ask) -> Option<&Settlement> {
     Some(settlement)
 }
 
-// What is stored or booked otherwise.
+// Explains which object is stored or booked with another content.
 fn conflict(events: &[Event], ask: &Ask) -> Option<Told> {
     match ask {
         Ask::PutTariff(tariff) => versions::conflict(events, MemberPath::at(Name::Tariff), tariff),
@@ -59,7 +59,7 @@ fn conflict(events: &[Event], ask: &Ask) -> Option<Told> {
     }
 }
 
-// The period or the id by which a request asks.
+// Returns the period that a request names.
 fn period_of(ask: &Ask) -> Option<u64> {
     match ask {
         Ask::Close(close) => Some(close.period),
@@ -82,7 +82,7 @@ fn not_found(ask: &Ask) -> Option<Told> {
     Some(bookings::not_booked(MemberPath::at(Name::Id), find.id))
 }
 
-// Why a request is refused, after these events.
+// Explains why a request is refused after these events.
 fn of_refusal(
     config: &Config,
     events: &[Event],
@@ -125,7 +125,7 @@ fn of_refusal(
     }
 }
 
-// Why a request is answered so, where that turns it down.
+// Explains the answers `BLOCKED` and `NO_CREDIT`.
 fn of_answer(config: &Config, ask: &Ask, answer: &Answer) -> Option<Told> {
     match answer {
         Answer::Blocked => Some(tokens::blocked(authorize_of(ask)?)),
@@ -144,8 +144,8 @@ fn of_answer(config: &Config, ask: &Ask, answer: &Answer) -> Option<Told> {
     }
 }
 
-// Why a request is turned down by this reply, after these events.
-fn of_reply(
+/// Explains a request that is refused by this reply, after these events.
+pub fn of_reply(
     config: &Config,
     events: &[Event],
     request: &Request,
@@ -157,7 +157,7 @@ fn of_reply(
     }
 }
 
-// What is told of a member that is not as it has to be.
+// Explains which member of a line is missing, of a wrong kind or out of bounds.
 fn of_member(
     alloc: Global,
     room: &mut Room,
@@ -171,10 +171,10 @@ fn of_member(
     }
 }
 
-/// What is told of a line that is turned down by this reply, after these events.
+/// Explains a line that is refused by this reply after these events.
 pub fn of_line(
     alloc: Global,
-    room: &mut Room,
+    room: &mut LineRoom,
     config: &Config,
     events: &[Event],
     line: &[u8],
@@ -183,7 +183,7 @@ pub fn of_line(
     let told = match request_of(alloc, room, line) {
         Ok(request) => of_reply(config, events, &request, reply),
         Err(Refusal::NoMemory) => return Err(AllocError),
-        Err(Refusal::Field { name: at }) => of_member(alloc, room, line, at)?,
+        Err(Refusal::Field { name: at }) => of_member(alloc, &mut room.room, line, at)?,
         Err(_) => return no_json::told(alloc, line),
     };
     Ok(told.unwrap_or(Told::new(MemberPath::nowhere(), Cause::Untold, Value::Nothing)))

@@ -1,4 +1,4 @@
-//! What a house refuses by the events before a line.
+//! Refusals that depend on the events before the line.
 
 pub mod bookings;
 pub mod credits;

@@ -1,4 +1,4 @@
-//! What is wrong with a line's value by itself.
+//! Members of a line that are missing, of a wrong kind or out of bounds, and lines that are no JSON.
 
 pub mod failing;
 pub mod found;

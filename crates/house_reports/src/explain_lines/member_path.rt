@@ -1,9 +1,9 @@
-//! Where in a line something is at fault.
+//! A place in a line.
 
 use ocpi_json::name::Name;
 use std::fmt;
 
-/// How many objects stand in one another at most, the line not counted, and a member of the innermost.
+/// The greatest depth of nested objects in a line, without the line itself, and a member of the innermost.
 const DEEPEST: usize = 8;
 
 /// A member, or an item of a list that is one.
@@ -13,16 +13,16 @@ struct Step {
     item: Option<usize>,
 }
 
-/// The path of a member from the line on, or a column.
+/// The path of a member, which begins at the line, or a column.
 #[derive(Clone, Copy)]
 pub struct MemberPath {
-    /// From 1; none where a path is meant.
+    /// The column, from 1; none for a path.
     column: Option<usize>,
     steps: [Option<Step>; DEEPEST],
 }
 
 impl MemberPath {
-    /// No path in particular.
+    /// Returns the empty path.
     pub fn nowhere() -> MemberPath {
         MemberPath {
             column: None,
@@ -30,7 +30,7 @@ impl MemberPath {
         }
     }
 
-    /// A column of the line, from 1.
+    /// Returns a column of the line, from 1.
     pub fn column(column: usize) -> MemberPath {
         MemberPath {
             column: Some(column),
@@ -38,12 +38,12 @@ impl MemberPath {
         }
     }
 
-    /// The member of that name of the line.
+    /// Returns the path of the line's member of that name.
     pub fn at(name: Name) -> MemberPath {
         MemberPath::nowhere().then(name, None)
     }
 
-    /// The member of that name of what stands here, or that item of it.
+    /// Returns the path of the member of that name of the object at this path, or of that item of it.
     pub fn then(mut self, name: Name, item: Option<usize>) -> MemberPath {
         for step in &mut self.steps {
             if step.is_none() {

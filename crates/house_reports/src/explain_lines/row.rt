@@ -1,4 +1,4 @@
-//! The records of the table of lines that are turned down.
+//! The records of the table of refused lines.
 
 ghost use Rattle.std.specs.Prelude.{◌≡◌, IfOk, map};
 ghost use Rattle.house_reports.specs.explain_lines.Table.{IsRow, header, record_text};
@@ -8,7 +8,7 @@ use csv::WriterBuilder;
 use itoa::Buffer;
 use std::alloc::{AllocError, Global};
 
-// One record alone.
+// Returns the text of one record.
 #[tactic(auto, unfolding(crate::specs::explain_lines::Table::record_text))]
 fn record(alloc: Global, fields: &[&[u8]]) -> Result<Vec<u8>, AllocError>
     ensures { IfOk result (λ text. text.items ≡ record_text (map (λ field. field.now) fields.now)) }
@@ -23,7 +23,7 @@ fn record(alloc: Global, fields: &[&[u8]]) -> Result<Vec<u8>, AllocError>
     }
 }
 
-/// The first record: the names of the columns.
+/// Returns the first record: the names of the columns.
 #[tactic(auto, unfolding(crate::specs::explain_lines::Table::header))]
 pub fn header(alloc: Global) -> Result<Vec<u8>, AllocError>
     ensures { IfOk result (λ text. text.items ≡ header) }
@@ -41,7 +41,7 @@ fn event_text(alloc: Global, event: Option<usize>) -> Result<String, AllocError>
     }
 }
 
-/// The row of the line of this number, from 1, and of this refusal, by RFC 4180, but with a newline alone behind it.
+/// Returns the row of the line of this number, from 1, and of this refusal, by RFC 4180, but ended by a newline alone.
 pub fn row(
     alloc: Global,
     number: u128,

@@ -1,4 +1,4 @@
-//! The table of the lines that a house turns down.
+//! The table of the refused lines of a script.
 
 ghost use Rattle.std.specs.Prelude.{◌≡◌, ℕ, List, [], IfOk, OnOk, Ok};
 ghost use Rattle.ocpi_types.specs.ConfigText.{config_of};
@@ -17,15 +17,15 @@ use ocpi_types::Config;
 use request_lines::{ScriptFault, Sink, Source, run_lines};
 use std::alloc::Global;
 
-// Writes the names of the columns.
-fn write_header<W: Sink>(alloc: Global, writer: &mut W) -> Result<(), Fault<'static>>
+/// Writes the names of the columns.
+pub fn write_header<W: Sink>(alloc: Global, writer: &mut W) -> Result<(), Fault<'static>>
     ensures { OnOk result (W.writing.takes writer.old header writer.new) }
 {
     let header = header(alloc)?;
     write_text(writer, header.as_slice())
 }
 
-// Writes a row for each line of the reader that is turned down, until the reader ends, and tells whether there is one.
+// Writes a row for each refused line, until the reader ends, and returns whether there is one.
 fn write_rows<R: Source, W: Sink>(
     alloc: Global,
     explainer: &mut Explainer<'_>,
@@ -42,7 +42,7 @@ fn write_rows<R: Source, W: Sink>(
     Ok(explainer.is_any_turned_down)
 }
 
-// The same, by a new house of this configuration.
+// Writes the rows by a new house of this configuration.
 fn write_rows_under<R: Source, W: Sink>(
     alloc: Global,
     config: &Config,
@@ -74,8 +74,8 @@ fn write_table<R: Source, W: Sink>(
     Ok(write_rows_under(alloc, config, reader, writer)?)
 }
 
-/// Writes the table of the lines of the reader that a house of the configuration in this file turns down, until the reader ends,
-/// and tells whether there is one.
+/// Writes the table of the lines that a house of the configuration in this file refuses, until the reader ends, and returns whether there
+/// is one.
 pub fn explain<R: Source, W: Sink>(
     alloc: Global,
     file: &[u8],

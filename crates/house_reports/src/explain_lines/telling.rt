@@ -1,4 +1,4 @@
-//! What is told of a line: where it is at fault, why, and by which values.
+//! The explanation of a refused line: its place, its cause and the values.
 
 use crate::explain_lines::line::member::Expected;
 use crate::explain_lines::member_path::MemberPath;
@@ -8,7 +8,7 @@ use ocpi_json::ci_text::CiText;
 use ocpi_types::{Currency, Party, Store, TokenKind};
 use std::fmt;
 
-/// Why a reference is that of no open hold.
+/// Why no open hold has a reference.
 #[derive(Clone, Copy)]
 pub enum NoHold {
     NeverGiven,
@@ -26,7 +26,7 @@ pub enum PeriodCause {
     SettledAlready,
 }
 
-/// Why a line is turned down.
+/// Why a line is refused.
 #[derive(Clone, Copy)]
 pub enum Cause {
     NoJson,
@@ -66,7 +66,10 @@ pub enum Cause {
     FarFromNegated,
     Period(PeriodCause),
     Full(Store),
-    /// Nothing is found beside the refusal.
+    ComesOutOtherwise,
+    IdOfAnotherLine,
+    NotRead,
+    /// No cause is known beside the refusal.
     Untold,
 }
 
@@ -99,7 +102,7 @@ fn words_of_full(what: Store) -> &'static str {
 }
 
 impl Cause {
-    /// The cause in words.
+    /// Returns the cause in words.
     pub fn words(self) -> &'static str {
         match self {
             Cause::NoJson => "no JSON",
@@ -139,12 +142,15 @@ impl Cause {
             Cause::FarFromNegated => "farther from the negated amount than the tolerance",
             Cause::Period(why) => words_of_period(why),
             Cause::Full(what) => words_of_full(what),
+            Cause::ComesOutOtherwise => "an event would come out otherwise",
+            Cause::IdOfAnotherLine => "given to another line",
+            Cause::NotRead => "missing, of a wrong kind or out of bounds",
             Cause::Untold => "",
         }
     }
 }
 
-/// A value of a line, or one that it is compared with.
+/// A value of a line, or a value that it is compared with.
 #[derive(Clone, Copy)]
 pub enum Value {
     Nothing,
@@ -159,11 +165,15 @@ pub enum Value {
     Decimal(Millionths),
     /// A sum of energy in millionths of a kWh.
     Energy(u128),
-    /// What stands in the line, as text.
+    /// A value of the line, as text.
     Written(CiText<64>),
-    /// What a member has to be by itself.
+    /// The kind of a member.
     Expected(Expected),
     Day,
+    /// A request id.
+    IdText,
+    /// A command of a stream.
+    StreamCommand,
     /// An id of a CDR that is no Credit CDR.
     ShortId,
     /// A number of a CDR that is no Credit CDR.
@@ -181,7 +191,10 @@ fn word(kind: TokenKind) -> &'static str {
 
 const DAYS: &str = "one of MONDAY TUESDAY WEDNESDAY THURSDAY FRIDAY SATURDAY SUNDAY";
 
-/// Amounts with four decimals, volumes and declared costs with six.
+const STREAM_COMMANDS: &str =
+    "one of put_tariff put_token authorize release post close settle exposure find statement configure";
+
+/// Writes amounts with four decimals, volumes and declared costs with six.
 impl fmt::Display for Value {
     fn fmt<W: fmt::Write>(&self, f: &mut fmt::Formatter<W>) -> fmt::Result {
         match self {
@@ -203,6 +216,8 @@ impl fmt::Display for Value {
             Value::Written(text) => f.write_str(text.as_str()),
             Value::Expected(expected) => write!(f, "{expected}"),
             Value::Day => f.write_str(DAYS),
+            Value::IdText => f.write_str("a string of 1 to 64 bytes"),
+            Value::StreamCommand => f.write_str(STREAM_COMMANDS),
             Value::ShortId => f.write_str("at most 36 characters without credit true"),
             Value::NotBelow0 => f.write_str("at least 0 without credit true"),
         }
@@ -220,21 +235,21 @@ fn write_decimal<W: fmt::Write>(
     write!(f, "{sign}{whole}.{decimals:06}")
 }
 
-/// What is told of a line that is turned down.
+/// The explanation of a refused line.
 #[derive(Clone, Copy)]
 pub struct Told {
     pub path: MemberPath,
     pub cause: Cause,
-    /// What the line has there.
+    /// The value of the line.
     pub found: Value,
-    /// What it is compared with.
+    /// The value that it is compared with.
     pub against: Value,
-    /// The number of the event by which the house knows otherwise, from 0.
+    /// The number, from 0, of the event that contradicts the line.
     pub event: Option<usize>,
 }
 
 impl Told {
-    /// A path, a cause, and what the line has there.
+    /// Returns an explanation with this place, this cause and the value of the line there.
     pub fn new(path: MemberPath, cause: Cause, found: Value) -> Told {
         Told {
             path,
@@ -245,12 +260,12 @@ impl Told {
         }
     }
 
-    /// The same, with what it is compared with.
+    /// Returns the explanation with the value that the line's value is compared with.
     pub fn against(self, against: Value) -> Told {
         Told { against, ..self }
     }
 
-    /// The same, with the number of an event.
+    /// Returns the explanation with the number of an event.
     pub fn by_event(self, event: Option<usize>) -> Told {
         Told { event, ..self }
     }

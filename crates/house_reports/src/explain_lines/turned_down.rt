@@ -1,4 +1,4 @@
-//! The replies that turn a line down.
+//! The replies that refuse a line.
 
 ghost use Rattle.std.specs.Prelude.{◌≡◌, option_map};
 ghost use Rattle.house_reports.specs.explain_lines.TurnedDown.{turned_down, turned_down_by};
@@ -25,7 +25,7 @@ fn turned_down_by(answer: &Answer) -> Option<&'static str>
     }
 }
 
-/// The name on the answer line of a reply that turns its line down.
+/// Returns the name on the answer line of a reply that is a refusal, `BLOCKED` or `NO_CREDIT`.
 pub fn turned_down(reply: &Result<Replied, Refused>) -> Option<&'static str>
     ensures { option_map (λ name. name.now) result ≡ turned_down reply.now }
 {

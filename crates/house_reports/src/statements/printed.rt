@@ -1,4 +1,4 @@
-//! What is printed of a house after its last line.
+//! Printing the statements of a house after its last line.
 
 use crate::ended_house::{EndedHouse, write_text};
 use command_line::Fault;

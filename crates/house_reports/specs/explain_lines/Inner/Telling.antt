@@ -1,4 +1,4 @@
--- What is told of lines, one after another.
+-- How far an explainer of a script is, and the rows that it wrote on the way.
 use Rattle.std.specs.Prelude.{◌≡◌, ℕ, ◌+◌, ◌<◌, ◌^◌, Bool, true, false, ◌||◌, List, [], ◌∷◌, ◌++◌, length, is_some, refl}
 use Rattle.std.proofs.Common.{sym, ap, subst, ◌∙◌, append_assoc, length-append, add_assoc, add-zero, add-suc, suc-add, add-one, le-add_right, lt_of_le_of_lt}
 use Rattle.ocpi_types.specs.declared.config.Config.{Config}
@@ -7,7 +7,7 @@ use Rattle.request_lines.specs.Script.{after, list_after, reply_in}
 use Rattle.house_reports.specs.explain_lines.Rows.{AreTold, is_any_turned_down}
 use Rattle.house_reports.specs.explain_lines.TurnedDown.{turned_down}
 
--- the events of a house and those that are kept of it, how many lines were answered, and whether one of them is turned down
+-- the events of a house, the events that are kept of it, the number of answered lines, and whether one of them was refused
 pub record Standing : Type 0 where
   pub config : Config
   pub events : List Event
@@ -21,7 +21,8 @@ pub record IsNew (standing : Standing) : Type 0 where
   pub no_line : standing.lines ≡ 0
   pub no_refusal : standing.any ≡ false
 
--- on the way from one standing to another these lines were told so, while their count fits; all events are kept, if they were
+-- the lines were answered on the way from one standing to another, and this text is their rows if their count fits; all events are
+-- kept if they were
 pub record Tells (before behind : Standing) (lines : List (List ℕ)) (text : List ℕ) : Type 0 where
   pub same : behind.config ≡ before.config
   pub events_are : behind.events ≡ list_after before.config before.events lines
@@ -30,11 +31,11 @@ pub record Tells (before behind : Standing) (lines : List (List ℕ)) (text : Li
   pub lines_are : before.lines + length lines < 2 ^ 128 → behind.lines ≡ before.lines + length lines
   pub told : before.lines + length lines < 2 ^ 128 → AreTold before.config before.events before.lines lines text
 
-or_false : (b : Bool) → b ≡ (b || false)
+pub or_false : (b : Bool) → b ≡ (b || false)
 or_false true = refl
 or_false false = refl
 
-or_assoc : (a b c : Bool) → ((a || b) || c) ≡ (a || (b || c))
+pub or_assoc : (a b c : Bool) → ((a || b) || c) ≡ (a || (b || c))
 or_assoc true b c = refl
 or_assoc false b c = refl
 
@@ -61,8 +62,8 @@ any_more config events (x ∷ xs) ys =
     ap (λ (b : Bool). here || b) (any_more config behind xs ys)
     ∙ sym (or_assoc here (is_any_turned_down config behind xs) (is_any_turned_down config (list_after config behind xs) ys))
 
--- a number behind one line more, and those behind it
-behind_one : (number : ℕ) (lines : List (List ℕ)) (line : List ℕ) → number + length (line ∷ lines) ≡ number + 1 + length lines
+-- a number after one line more, and after the lines that follow it
+pub behind_one : (number : ℕ) (lines : List (List ℕ)) (line : List ℕ) → number + length (line ∷ lines) ≡ number + 1 + length lines
 behind_one number lines line =
     add-suc number (length lines) ∙ sym (suc-add number (length lines)) ∙ ap (λ (n : ℕ). n + length lines) (sym (add-one number))
 
@@ -80,7 +81,7 @@ told_more config events number reached (x ∷ xs) ys t u e h k = (
   told_more config (after config events x) (number + 1) reached xs ys h.1 u (e ∙ behind_one number xs x) h.4 k,
 )
 
--- what is told of some lines and then of others is told of all
+-- the rows of some lines and then of others are the rows of all
 pub tells_more : (a b c : Standing) (xs ys : List (List ℕ)) (t u : List ℕ) → Tells a b xs t → Tells b c ys u → Tells a c (xs ++ ys) (t ++ u)
 tells_more a b c xs ys t u p q =
     let joined : a.lines + length (xs ++ ys) ≡ a.lines + length xs + length ys = ap (λ (l : ℕ). a.lines + l) (length-append xs ys) ∙ sym (add_assoc a.lines (length xs) (length ys)) in

@@ -10,12 +10,12 @@ use cdr_checks::Ask;
 use ocpi_json::name::Name;
 use ocpi_types::{Cdr, Config, Currency};
 
-/// Which currency of a request is wrong.
+/// A wrong currency of a request.
 #[derive(Clone, Copy)]
 pub enum WrongCurrency {
     /// The request's own currency, which is not configured.
     Asked,
-    /// That of the embedded tariff of this number, which is not the CDR's.
+    /// The currency of the embedded tariff of this number, which is not the CDR's.
     OfTariff(usize),
 }
 
@@ -34,7 +34,7 @@ fn asked_currency(ask: &Ask) -> Option<Currency>
     }
 }
 
-// The first tariff of the CDR that has another currency.
+// Returns the first tariff of the CDR that has another currency.
 fn of_another_currency(cdr: &Cdr) -> Option<usize>
     ensures { result ≡ position (λ tariff. not (same_currency tariff.currency cdr.now.currency)) cdr.now.tariffs }
 {
@@ -44,7 +44,7 @@ fn of_another_currency(cdr: &Cdr) -> Option<usize>
         .position(|tariff| !tariff.currency.is(&cdr.currency))
 }
 
-// The same, where the CDR is no Credit CDR.
+// Returns the first tariff that has another currency than its CDR, unless that is a Credit CDR.
 fn other_than_its_own(cdr: &Cdr) -> Option<WrongCurrency>
     ensures { result ≡ of_another_currency cdr.now }
 {
@@ -54,7 +54,7 @@ fn other_than_its_own(cdr: &Cdr) -> Option<WrongCurrency>
     Some(WrongCurrency::OfTariff(of_another_currency(cdr)?))
 }
 
-/// The currency of the request that is not configured, or else the first tariff of its CDR that has another one.
+/// Returns the request's currency if it is not configured, or else the first tariff of its CDR that has another currency.
 pub fn wrong_currency(config: &Config, ask: &Ask) -> Option<WrongCurrency>
     ensures { result ≡ wrong_currency config.now ask.now }
 {
@@ -76,7 +76,7 @@ pub fn wrong_currency(config: &Config, ask: &Ask) -> Option<WrongCurrency>
     }
 }
 
-// Where the request's object stands that has the currency.
+// Returns the path of the object that has the request's currency.
 fn holder(ask: &Ask) -> MemberPath {
     match ask {
         Ask::PutTariff(_) => MemberPath::at(Name::Tariff),
@@ -103,7 +103,7 @@ fn of_tariff(ask: &Ask, number: usize) -> Option<Told> {
     Some(told.against(Value::Currency(cdr.currency)))
 }
 
-/// Which currency is wrong.
+/// Explains which currency is wrong.
 pub fn told(config: &Config, ask: &Ask) -> Option<Told> {
     let own = asked_currency(ask)?;
     match wrong_currency(config, ask)? {

@@ -1,4 +1,4 @@
-//! Which moment of a CDR comes before the one in front of it.
+//! A moment of a CDR that is before the preceding one.
 
 ghost use Rattle.std.specs.Prelude.{◌≡◌};
 ghost use Rattle.house_reports.specs.explain_lines.Dates.{out_of_order};
@@ -9,8 +9,8 @@ use jiff::Timestamp;
 use ocpi_json::name::Name;
 use ocpi_types::Cdr;
 
-/// The first moment of a CDR that is before the one in front of it: the session's start, the starts of the charging periods,
-/// the session's end.
+/// A moment of a CDR that is before the preceding one. The moments are the session's start, the starts of the charging periods, and the
+/// session's end.
 #[derive(Clone, Copy)]
 pub enum OutOfOrder {
     /// The start of the charging period of this number, from 0.
@@ -19,7 +19,7 @@ pub enum OutOfOrder {
     End,
 }
 
-/// The first moment that is before the one in front of it.
+/// Returns the first moment that is before the preceding one.
 pub fn out_of_order(cdr: &Cdr) -> Option<OutOfOrder>
     ensures { result ≡ out_of_order 0 cdr.now.start_date_time.nanosecond cdr.now.charging_periods cdr.now.end_date_time.nanosecond }
 {
@@ -42,7 +42,7 @@ pub fn out_of_order(cdr: &Cdr) -> Option<OutOfOrder>
     }
 }
 
-// The moment in front of the start of the period of that number, or in front of the end where there is none.
+// Returns the moment before the start of the period of that number, or before the end if there is no such period.
 fn in_front(cdr: &Cdr, number: usize) -> Timestamp {
     let Some(before) = number.checked_sub(1) else {
         return cdr.start_date_time;
@@ -58,7 +58,7 @@ fn before(path: MemberPath, found: Timestamp, against: Timestamp) -> Told {
     told.against(Value::Moment(against))
 }
 
-/// Which date is before which.
+/// Explains which moment is before which.
 pub fn told(cdr: &Cdr) -> Option<Told> {
     let periods = cdr.charging_periods.as_slice();
     let of_cdr = MemberPath::at(Name::Cdr);

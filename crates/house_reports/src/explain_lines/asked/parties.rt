@@ -9,7 +9,7 @@ use cdr_checks::Ask;
 use ocpi_json::name::Name;
 use ocpi_types::{Config, Party};
 
-/// The parties that a request names, each where it names one as such.
+/// The parties that a request names, by role.
 #[derive(Clone, Copy)]
 pub struct NamedParties {
     pub operator: Option<Party>,
@@ -18,12 +18,12 @@ pub struct NamedParties {
     pub either: Option<Party>,
 }
 
-/// A party that is not configured as what the request names it.
+/// A party that is not configured in the role in which the request names it.
 #[derive(Clone, Copy)]
 pub enum UnknownParty {
     Operator(Party),
     Provider(Party),
-    /// It is neither an operator nor a provider.
+    /// The party is neither an operator nor a provider.
     Either(Party),
 }
 
@@ -37,7 +37,7 @@ fn named(operator: Option<Party>, provider: Option<Party>, either: Option<Party>
     }
 }
 
-/// The parties that a request names.
+// Returns the parties that a request names.
 fn named_parties(ask: &Ask) -> NamedParties
     ensures { result ≡ named_parties ask.now }
 {
@@ -85,7 +85,7 @@ fn unknown_either(config: &Config, party: Option<Party>) -> Option<UnknownParty>
     Some(UnknownParty::Either(party))
 }
 
-/// The first of the parties that is not configured as what it is named, the operator before the provider.
+/// Returns the first party that is not configured in its role, the operator before the provider.
 pub fn unknown_party(config: &Config, named: &NamedParties) -> Option<UnknownParty>
     ensures { result ≡ unknown_party config.now named.now }
 {
@@ -94,7 +94,7 @@ pub fn unknown_party(config: &Config, named: &NamedParties) -> Option<UnknownPar
     ))
 }
 
-// Where the request names that party.
+// Returns the path at which the request names that party.
 fn path(ask: &Ask, unknown: &UnknownParty) -> MemberPath {
     match (ask, unknown) {
         (Ask::PutTariff(_), _) => MemberPath::at(Name::Tariff),
@@ -109,7 +109,7 @@ fn path(ask: &Ask, unknown: &UnknownParty) -> MemberPath {
     }
 }
 
-/// Which party is not configured.
+/// Explains which party is not configured.
 pub fn told(config: &Config, ask: &Ask) -> Option<Told> {
     let unknown = unknown_party(config, &named_parties(ask))?;
     let path = path(ask, &unknown);

@@ -1,4 +1,4 @@
-//! The right that a platform has not.
+//! The right that a platform lacks.
 
 ghost use Rattle.std.specs.Prelude.{◌≡◌};
 ghost use Rattle.house_reports.specs.explain_lines.Rights.{acting_party, missing_right};
@@ -15,13 +15,13 @@ use ocpi_types::{Config, Party};
 pub enum MissingRight {
     /// No platform of its name is configured.
     Unknown,
-    /// The request is a hub's, and it is none.
+    /// Only a hub may send the request, and the platform is no hub.
     Hub,
-    /// It does not act for this party.
+    /// The platform does not act for this party.
     ActFor(Party),
 }
 
-/// The party for which the sender of a request has to act; none where it has to be a hub.
+// Returns the party for which the sender of a request has to act, or none if the sender has to be a hub.
 fn acting_party(ask: &Ask) -> Option<Party>
     ensures { result ≡ acting_party ask.now }
 {
@@ -38,7 +38,7 @@ fn acting_party(ask: &Ask) -> Option<Party>
     }
 }
 
-/// The right that the platform has not, by the party for which it has to act.
+/// Returns the right that a platform lacks, by the party for which it has to act.
 pub fn missing_right(
     config: &Config,
     platform: &CiText<36>,
@@ -57,11 +57,11 @@ pub fn missing_right(
     }
 }
 
-/// Whose right is missing.
-pub fn told(config: &Config, request: &Request) -> Option<Told> {
-    let missing = missing_right(config, &request.platform, acting_party(&request.ask))?;
+/// Explains why a platform may not send a request, by the party for which it has to act: none if it has to be a hub.
+pub fn of_platform(config: &Config, name: &CiText<36>, party: Option<Party>) -> Option<Told> {
+    let missing = missing_right(config, name, party)?;
     let path = MemberPath::at(Name::Platform);
-    let platform = Value::Reference(request.platform);
+    let platform = Value::Reference(*name);
     match missing {
         MissingRight::Unknown => Some(Told::new(path, Cause::NotConfigured, platform)),
         MissingRight::Hub => Some(Told::new(path, Cause::NoHub, platform)),
@@ -70,4 +70,9 @@ pub fn told(config: &Config, request: &Request) -> Option<Told> {
             Some(told.against(Value::Party(party)))
         }
     }
+}
+
+/// Explains why the sender of a request may not send it.
+pub fn told(config: &Config, request: &Request) -> Option<Told> {
+    of_platform(config, &request.platform, acting_party(&request.ask))
 }

@@ -30,7 +30,7 @@ fn is_not_given(tariffs: &[Shared<Tariff>], id: &Option<CiText<36>>) -> bool
     }
 }
 
-/// The first charging period that names a tariff which is not among these.
+/// Returns the first charging period that names a tariff which is not among these.
 pub fn period_without_tariff(
     tariffs: &[Shared<Tariff>],
     periods: &[ChargingPeriod],
@@ -42,7 +42,7 @@ pub fn period_without_tariff(
         .position(|period| is_not_given(tariffs, &period.tariff_id))
 }
 
-/// The first of the bounds on current and power that is given.
+/// Returns the first bound on current or power that is given.
 pub fn electric_bound(given: ElectricBounds) -> Option<Name>
     ensures { result ≡ electric_bound given }
 {
@@ -68,7 +68,7 @@ fn has_electric_bound(element: &Element) -> bool
     }
 }
 
-/// The first element that is restricted by current or power.
+/// Returns the first element that has a bound on current or power.
 pub fn electric_element(elements: &[Element]) -> Option<usize>
     ensures { result ≡ position has_electric_bound elements.now }
 {
@@ -77,14 +77,14 @@ pub fn electric_element(elements: &[Element]) -> Option<usize>
         .position(|element| has_electric_bound(element))
 }
 
-/// The first tariff that is not supported.
+/// Returns the first tariff that is not supported.
 pub fn unsupported_tariff(tariffs: &[Shared<Tariff>]) -> Option<usize>
     ensures { result ≡ position (λ tariff. not (supported tariff)) tariffs.now }
 {
     tariffs.iter().position(|tariff| !supported(tariff))
 }
 
-/// Which charging period names a tariff that is not given.
+/// Explains which charging period names a tariff that is not given.
 pub fn not_given(cdr: &Cdr) -> Option<Told> {
     let periods = cdr.charging_periods.as_slice();
     let number = period_without_tariff(cdr.tariffs.as_slice(), periods)?;
@@ -94,7 +94,7 @@ pub fn not_given(cdr: &Cdr) -> Option<Told> {
     Some(Told::new(path, Cause::IdOfNoTariff, Value::Reference(id)))
 }
 
-// The restriction of the tariff that is not supported, by the tariff's path.
+// Explains which restriction of the tariff at this path is not supported.
 fn of_tariff(path: MemberPath, tariff: &Tariff) -> Option<Told> {
     let elements = tariff.elements.as_slice();
     let number = electric_element(elements)?;
@@ -107,7 +107,7 @@ fn of_tariff(path: MemberPath, tariff: &Tariff) -> Option<Told> {
     Some(Told::new(path, Cause::NotSupported, Value::Nothing))
 }
 
-/// Which restriction is not supported.
+/// Explains which restriction is not supported.
 pub fn not_supported(ask: &Ask) -> Option<Told> {
     match ask {
         Ask::PutTariff(tariff) => of_tariff(MemberPath::at(Name::Tariff), tariff),

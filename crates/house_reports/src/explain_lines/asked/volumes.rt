@@ -26,7 +26,7 @@ fn is_reservation(dimension: &Dimension) -> bool
     }
 }
 
-/// The first volume of reservation time above 0.
+/// Returns the first volume of reservation time above 0.
 pub fn reserved_volume(dimensions: &[Dimension]) -> Option<usize>
     ensures { result ≡ position is_reservation dimensions.now }
 {
@@ -42,14 +42,14 @@ fn reserves(period: &ChargingPeriod) -> bool
     dimensions.iter().any(|dimension| is_reservation(dimension))
 }
 
-/// The first charging period with reservation time.
+/// Returns the first charging period with reservation time.
 pub fn reserving_period(periods: &[ChargingPeriod]) -> Option<usize>
     ensures { result ≡ position (λ period. list_any is_reservation period.dimensions) periods.now }
 {
     periods.iter().position(|period| reserves(period))
 }
 
-/// Which volume is of reservation time.
+/// Explains which volume is reservation time.
 pub fn reserved(cdr: &Cdr) -> Option<Told> {
     let periods = cdr.charging_periods.as_slice();
     let number = reserving_period(periods)?;
@@ -62,7 +62,7 @@ pub fn reserved(cdr: &Cdr) -> Option<Told> {
     Some(Told::new(path, Cause::Reserved, Value::Decimal(found)))
 }
 
-/// How far the total energy is from that of the charging periods.
+/// Explains that the total energy is not the sum over the charging periods.
 pub fn energy(cdr: &Cdr) -> Told {
     let path = MemberPath::at(Name::Cdr).then(Name::TotalEnergy, None);
     let told = Told::new(
@@ -73,7 +73,7 @@ pub fn energy(cdr: &Cdr) -> Told {
     told.against(Value::Energy(energy_of(cdr)))
 }
 
-/// The CDR is rated at too much.
+/// Explains that the CDR is rated above the largest amount.
 pub fn too_large() -> Told {
     let told = Told::new(
         MemberPath::at(Name::Cdr),
@@ -83,13 +83,13 @@ pub fn too_large() -> Told {
     told.against(Value::Amount(Amount::from_ten_thousandths(MOST)))
 }
 
-/// The path of a CDR's declared cost.
+/// Returns the path of a CDR's declared cost.
 pub fn cost_path() -> MemberPath {
     let cost = MemberPath::at(Name::Cdr).then(Name::TotalCost, None);
     cost.then(Name::ExclVat, None)
 }
 
-/// How the declared cost and the rated one differ.
+/// Explains how the declared cost and the rated one differ.
 pub fn mismatch(cdr: &Cdr, rated: Amount) -> Told {
     let told = Told::new(
         cost_path(),

@@ -26,7 +26,7 @@ fn books(event: &Event, operator: &Party, id: &CiText<39>) -> bool
     }
 }
 
-/// The first event that books a CDR or Credit CDR of that operator and id.
+/// Returns the first event that books a CDR or Credit CDR of that operator and id.
 pub fn booked_at(events: &[Event], operator: &Party, id: &CiText<39>) -> Option<usize>
     ensures { result ≡ position (books operator.now id.now) events.now }
 {
@@ -48,14 +48,14 @@ fn credits(event: &Event, operator: &Party, id: &CiText<39>) -> bool
     }
 }
 
-/// The first event that books a Credit CDR for the CDR of that operator and id.
+/// Returns the first event that books a Credit CDR for the CDR of that operator and id.
 pub fn credited_at(events: &[Event], operator: &Party, id: &CiText<39>) -> Option<usize>
     ensures { result ≡ position (credits operator.now id.now) events.now }
 {
     events.iter().position(|event| credits(event, operator, id))
 }
 
-/// In which member a CDR differs from the one that is booked under its id.
+/// Explains in which member a CDR differs from the one that is booked under its id.
 pub fn conflict(events: &[Event], cdr: &Cdr) -> Option<Told> {
     let at = booked_at(events, &cdr.operator, &cdr.id)?;
     let of_cdr = MemberPath::at(Name::Cdr);
@@ -83,7 +83,7 @@ pub fn conflict(events: &[Event], cdr: &Cdr) -> Option<Told> {
     )
 }
 
-/// No CDR of the operator has the id that stands there.
+/// Explains that no CDR of the operator has the id at this path.
 pub fn not_booked(path: MemberPath, id: CiText<39>) -> Told {
     Told::new(path, Cause::IdOfNoCdr, Value::Id(id))
 }

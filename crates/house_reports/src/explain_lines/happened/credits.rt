@@ -14,7 +14,7 @@ use ocpi_json::name::Name;
 use ocpi_types::{Cdr, Config};
 use plain_house::{BookedAmount, Event};
 
-/// In what a Credit CDR differs from what it has to be.
+/// The way in which a Credit CDR is not as required.
 #[derive(Clone, Copy)]
 pub enum Difference {
     Provider,
@@ -32,7 +32,7 @@ fn is_taken_back_by(config: &Config, credit: &Cdr, amount: BookedAmount) -> bool
     is_within_tolerance(config.tolerance, credit.total_cost, taken_back)
 }
 
-/// In what the Credit CDR differs from what it has to be for an original that is booked at this amount.
+/// Returns the first way in which a Credit CDR is not as required for an original that is booked at this amount.
 pub fn difference_from(
     config: &Config,
     credit: &Cdr,
@@ -58,19 +58,19 @@ fn reference_path() -> MemberPath {
     MemberPath::at(Name::Cdr).then(Name::CreditReferenceId, None)
 }
 
-/// The Credit CDR names no CDR.
+/// Explains that the Credit CDR names no CDR.
 pub fn without_original(credit: &Cdr) -> Option<Told> {
     Some(not_booked(reference_path(), credit.credit?))
 }
 
-/// The Credit CDR names a Credit CDR.
+/// Explains that the Credit CDR names a Credit CDR.
 pub fn of_credit(events: &[Event], credit: &Cdr) -> Option<Told> {
     let id = credit.credit?;
     let told = Told::new(reference_path(), Cause::IdOfCredit, Value::Id(id));
     Some(told.by_event(booked_at(events, &credit.operator, &id)))
 }
 
-// The id of the Credit CDR that the event books.
+// Returns the id of the Credit CDR that the event books.
 fn credit_id(events: &[Event], at: usize) -> Option<CiText<39>> {
     match events.get(at)? {
         Event::Credit { cdr, .. } => Some(cdr.id),
@@ -84,7 +84,7 @@ fn credit_id(events: &[Event], at: usize) -> Option<CiText<39>> {
     }
 }
 
-/// The CDR that is named is credited already.
+/// Explains that the named CDR is credited already.
 pub fn credited_already(events: &[Event], credit: &Cdr) -> Option<Told> {
     let id = credit.credit?;
     let at = credited_at(events, &credit.operator, &id)?;
@@ -93,7 +93,7 @@ pub fn credited_already(events: &[Event], credit: &Cdr) -> Option<Told> {
     Some(told.against(earlier).by_event(Some(at)))
 }
 
-/// The credit window of the CDR that is named is over.
+/// Explains that the credit window of the named CDR is over.
 pub fn too_late(original: u64, current: u64) -> Told {
     let told = Told::new(
         reference_path(),
@@ -127,7 +127,7 @@ fn told_of(credit: &Cdr, original: &Cdr, amount: BookedAmount, difference: Diffe
     }
 }
 
-/// In what the Credit CDR differs from what it has to be.
+/// Explains in what the Credit CDR is not as required.
 pub fn differs(config: &Config, events: &[Event], credit: &Cdr) -> Option<Told> {
     let at = booked_at(events, &credit.operator, &credit.credit?)?;
     let Event::Cdr { cdr, cost } = events.get(at)? else {

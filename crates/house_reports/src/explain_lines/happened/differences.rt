@@ -1,4 +1,4 @@
-//! In which member two CDRs, or two tariffs, are not of the same content: the first, in the order in which they are read.
+//! The first member, in the order of reading, in which two CDRs or two tariffs differ.
 
 use ocpi_json::name::Name;
 use ocpi_json::same::Same;
@@ -66,7 +66,7 @@ fn differing_behind_tariffs(one: &Cdr, other: &Cdr) -> Name {
     }
 }
 
-/// The first member in which a CDR differs from another of its operator and id.
+/// Returns the first member in which a CDR differs from another of its operator and id.
 pub fn differing_in_cdr(one: &Cdr, other: &Cdr) -> Name {
     if !one.start_date_time.is_same(&other.start_date_time) {
         Name::StartDateTime
@@ -87,7 +87,7 @@ pub fn differing_in_cdr(one: &Cdr, other: &Cdr) -> Name {
     }
 }
 
-/// The first member in which a tariff differs from another of its operator, id and moment.
+/// Returns the first member in which a tariff differs from another of its operator, id and moment.
 pub fn differing_in_tariff(one: &Tariff, other: &Tariff) -> Name {
     if !one.currency.is(&other.currency) {
         Name::Currency

@@ -1,4 +1,4 @@
-//! The hold that a release means.
+//! The hold that a release names.
 
 ghost use Rattle.std.specs.Prelude.{◌≡◌, ◌&&◌, position};
 ghost use Rattle.ocpi_types.specs.Currency.{same_currency};
@@ -30,7 +30,7 @@ fn authorises(event: &Event, release: &Release) -> bool
     }
 }
 
-/// The first event that gives a hold of the provider and the reference of the release.
+/// Returns the first event that adds a hold of the release's provider and reference.
 pub fn authorised_at(events: &[Event], release: &Release) -> Option<usize>
     ensures { result ≡ position (authorises release.now) events.now }
 {
@@ -66,14 +66,14 @@ fn ends(event: &Event, hold: &Hold) -> bool
     }
 }
 
-/// The first event that ends the hold.
+/// Returns the first event that ends the hold.
 pub fn ended_at(events: &[Event], hold: &Hold) -> Option<usize>
     ensures { result ≡ position (ends hold.now) events.now }
 {
     events.iter().position(|event| ends(event, hold))
 }
 
-// By the event that ended the hold.
+// Explains which event ended the hold.
 fn told_of_end(told: Told, event: &Event) -> Option<Told> {
     match event {
         Event::Cdr { cdr, .. } => {
@@ -96,7 +96,7 @@ fn told_of_end(told: Told, event: &Event) -> Option<Told> {
     }
 }
 
-// By the hold that the event of that number gave.
+// Explains what became of the hold that the event of that number added.
 fn told_of_hold(events: &[Event], at: usize, told: Told, release: &Release) -> Option<Told> {
     let Event::Authorised(hold) = events.get(at)? else {
         return None;
@@ -112,7 +112,7 @@ fn told_of_hold(events: &[Event], at: usize, told: Told, release: &Release) -> O
     Some(told_of_end(told, events.get(at)?)?.by_event(Some(at)))
 }
 
-/// Why no open hold has this reference.
+/// Explains why no open hold has this reference.
 pub fn told(events: &[Event], release: &Release) -> Option<Told> {
     let found = Value::Reference(release.reference);
     let never = Cause::NoHold(NoHold::NeverGiven);

@@ -1,4 +1,4 @@
-//! Credit limits that would be passed.
+//! Credit limits that would be exceeded.
 
 ghost use Rattle.std.specs.Prelude.{◌≡◌, ◌≤◌, pos};
 
@@ -20,7 +20,7 @@ fn over(name: Name, cause: Cause, found: Amount, limit: Amount) -> Told {
     Told::new(MemberPath::at(name), cause, Value::Amount(found)).against(Value::Amount(limit))
 }
 
-/// A CDR would lead to an exposure above a limit.
+/// Explains that a CDR would lead to an exposure above a limit.
 pub fn over_limit(exposure: Amount, limit: Amount, pair: bool) -> Told {
     let cause = if pair {
         Cause::AbovePairLimit
@@ -30,7 +30,7 @@ pub fn over_limit(exposure: Amount, limit: Amount, pair: bool) -> Told {
     over(Name::Cdr, cause, exposure, limit)
 }
 
-/// An authorisation would pass a limit: its hold, and its provider's limit.
+/// Explains that an authorisation would exceed a limit, by its hold and its provider's limit.
 pub fn no_credit(config: &Config, asked: &Authorize) -> Told {
     let hold = amount(&config.hold(&asked.provider, &asked.currency));
     let limit = amount(&config.limit(&asked.provider, &asked.currency));

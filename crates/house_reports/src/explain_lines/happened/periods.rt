@@ -28,7 +28,7 @@ fn settles(event: &Event, settlement: &Settlement) -> bool
     }
 }
 
-/// The first event that settles that period of the provider in the currency.
+/// Returns the first event that settles that period of the provider in the currency.
 pub fn settled_at(events: &[Event], settlement: &Settlement) -> Option<usize>
     ensures { result ≡ position (settles settlement.now) events.now }
 {
@@ -40,7 +40,7 @@ fn told(period: u64, why: PeriodCause) -> Told {
     Told::new(MemberPath::at(Name::Period), cause, Value::Number(period))
 }
 
-/// The period to close is not the current one.
+/// Explains that the period to close is not the current one.
 pub fn not_current(period: u64, current: u64) -> Told {
     let why = if period < current {
         PeriodCause::ClosedAlready
@@ -50,7 +50,7 @@ pub fn not_current(period: u64, current: u64) -> Told {
     told(period, why).against(Value::Number(current))
 }
 
-/// The period to settle or to state is not closed.
+/// Explains that the period to settle or to state is not closed.
 pub fn open(events: &[Event], period: u64) -> Told {
     let mut current: u64 = 0;
     for event in events {
@@ -61,7 +61,7 @@ pub fn open(events: &[Event], period: u64) -> Told {
     told(period, PeriodCause::NotClosedYet).against(Value::Number(current))
 }
 
-/// The period is settled.
+/// Explains that the period is settled.
 pub fn settled(events: &[Event], settlement: &Settlement) -> Told {
     told(settlement.period, PeriodCause::SettledAlready).by_event(settled_at(events, settlement))
 }

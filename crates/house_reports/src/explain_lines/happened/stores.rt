@@ -1,11 +1,11 @@
-//! What has reached its limit.
+//! Stores that have reached their limit.
 
 use crate::explain_lines::member_path::MemberPath;
 use crate::explain_lines::telling::{Cause, Told, Value};
 use cdr_checks::Ask;
 use ocpi_types::{Config, Party, Store};
 
-// Whose book it is.
+// Returns the operator whose book the request is for.
 fn operator_of(ask: &Ask) -> Option<Party> {
     match ask {
         Ask::PutTariff(tariff) => Some(tariff.operator),
@@ -21,7 +21,7 @@ fn operator_of(ask: &Ask) -> Option<Party> {
     }
 }
 
-// Whose account it is.
+// Returns the provider whose account the request is for.
 fn provider_of(ask: &Ask) -> Option<Party> {
     match ask {
         Ask::PutToken(token) => Some(token.provider),
@@ -41,7 +41,7 @@ fn of_party(party: Option<Party>) -> Value {
     }
 }
 
-/// Whose store is full, and what its limit is.
+/// Explains whose store is full, and its limit.
 pub fn full(config: &Config, ask: &Ask, what: Store) -> Told {
     let limits = &config.limits;
     let (limit, found) = match what {

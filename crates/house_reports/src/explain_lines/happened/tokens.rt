@@ -25,14 +25,14 @@ fn puts(event: &Event, asked: &Authorize) -> bool
     }
 }
 
-/// The first event that puts a token of the provider and the uid that are asked for, of whatever type.
+/// Returns the first event that puts a token of the request's provider and uid, of any type.
 pub fn put_at(events: &[Event], asked: &Authorize) -> Option<usize>
     ensures { result ≡ position (puts asked.now) events.now }
 {
     events.iter().position(|event| puts(event, asked))
 }
 
-// The type of the token that the event puts.
+// Returns the type of the token that the event puts.
 fn kind_at(events: &[Event], at: usize) -> Option<TokenKind> {
     match events.get(at)? {
         Event::Token(token) => Some(token.kind),
@@ -46,7 +46,7 @@ fn kind_at(events: &[Event], at: usize) -> Option<TokenKind> {
     }
 }
 
-/// Why the provider has no such token.
+/// Explains why the provider has no such token.
 pub fn unknown(events: &[Event], asked: &Authorize) -> Option<Told> {
     match put_at(events, asked) {
         Some(at) => {
@@ -65,7 +65,7 @@ pub fn unknown(events: &[Event], asked: &Authorize) -> Option<Told> {
     }
 }
 
-/// The token is not valid.
+/// Explains that the token is not valid.
 pub fn blocked(asked: &Authorize) -> Told {
     Told::new(
         MemberPath::at(Name::Uid),

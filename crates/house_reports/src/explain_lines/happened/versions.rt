@@ -1,4 +1,4 @@
-//! The tariff versions that are stored.
+//! The stored versions of tariffs.
 
 ghost use Rattle.std.specs.Prelude.{◌≡◌, not, position};
 ghost use Rattle.std.specs.List.{list_any};
@@ -30,7 +30,7 @@ fn stores(event: &Event, tariff: &Tariff) -> bool
     }
 }
 
-/// The first event that stores a version of the tariff's operator, id and moment.
+/// Returns the first event that stores a version of the tariff's operator, id and moment.
 pub fn stored_at(events: &[Event], tariff: &Tariff) -> Option<usize>
     ensures { result ≡ position (stores tariff.now) events.now }
 {
@@ -60,7 +60,7 @@ fn is_registered(events: &[Event], operator: &Party, tariff: &Tariff) -> bool
         .any(|event| registers(event, operator, tariff))
 }
 
-/// The first tariff of the CDR that is no stored version of its operator with the same content.
+/// Returns the first tariff of the CDR that is no stored version of its operator with the same content.
 pub fn unregistered(events: &[Event], cdr: &Cdr) -> Option<usize>
     ensures { result ≡ position (λ tariff. not (list_any (registers cdr.now.operator tariff) events.now)) cdr.now.tariffs }
 {
@@ -70,7 +70,7 @@ pub fn unregistered(events: &[Event], cdr: &Cdr) -> Option<usize>
         .position(|tariff| !is_registered(events, &cdr.operator, tariff))
 }
 
-/// The member in which a version that is stored differs from the tariff at this path.
+/// Explains in which member a stored version differs from the tariff at this path.
 pub fn conflict(events: &[Event], path: MemberPath, tariff: &Tariff) -> Option<Told> {
     let at = stored_at(events, tariff)?;
     let Event::Tariff(stored) = events.get(at)? else {
@@ -97,7 +97,7 @@ fn why_unregistered(events: &[Event], path: MemberPath, operator: Party, tariff:
     }
 }
 
-/// Which tariff of a CDR is not registered.
+/// Explains which tariff of a CDR is not registered.
 pub fn not_registered(events: &[Event], cdr: &Cdr) -> Option<Told> {
     let number = unregistered(events, cdr)?;
     let tariff = cdr.tariffs.as_slice().get(number)?;

@@ -1,4 +1,4 @@
-//! Where the member stands that is not as it has to be, what stands there, and what has to.
+//! The path of a member that is missing, of a wrong kind or out of bounds; its value; and the value that it has to have.
 
 use crate::explain_lines::line::found::found;
 use crate::explain_lines::line::member::{Shape, meets, members_of, shape_of, unmet};
@@ -14,10 +14,10 @@ use ocpi_types::{
 };
 use std::alloc::{AllocError, Global};
 
-/// How many objects stand in one another at most, the line included.
+/// The greatest depth of nested objects, the line included.
 const DEEPEST: usize = 6;
 
-// The member at which something is not read.
+// Returns the member at which reading fails.
 fn fault<T: Drop>(found: Result<T, FieldFault>) -> Result<Option<Name>, AllocError> {
     match found {
         Ok(_) => Ok(None),
@@ -26,7 +26,7 @@ fn fault<T: Drop>(found: Result<T, FieldFault>) -> Result<Option<Name>, AllocErr
     }
 }
 
-// The member at which an object is not read.
+// Returns the member at which reading an object fails.
 fn fault_in(alloc: Global, shape: Shape, node: &Node) -> Result<Option<Name>, AllocError> {
     match shape {
         Shape::Line | Shape::Asked(_) => Ok(None),
@@ -53,7 +53,7 @@ struct Inner<'a> {
     node: Node<'a>,
 }
 
-// The first item of a list that fails at a member of that name.
+// Returns the first item of a list that fails at a member of that name.
 fn failing_item<'a>(
     alloc: Global,
     items: Nodes<'a>,
@@ -75,7 +75,7 @@ fn failing_item<'a>(
     Ok(None)
 }
 
-// What stands in a member and fails at a member of that name.
+// Returns the object in a member, or the item of its list, that fails at a member of that name.
 fn failing_in<'a>(
     alloc: Global,
     node: &Node<'a>,
@@ -100,8 +100,8 @@ fn failing_in<'a>(
     }))
 }
 
-// The first of what stands in an object that fails at a member of that name; none where the object's own member of that name
-// comes before it and is not as it has to be.
+// Returns the first inner object that fails at a member of that name. There is none if the object's own member of that name comes first
+// and is malformed.
 fn first_failing<'a>(
     alloc: Global,
     shape: Shape,
@@ -124,7 +124,7 @@ fn first_failing<'a>(
     Ok(None)
 }
 
-// The first of the dimensions whose volume is out of range, and that volume.
+// Returns the first dimension whose volume is out of range, and that volume.
 fn negative_dimension(
     alloc: Global,
     dimensions: Nodes,
@@ -141,7 +141,7 @@ fn negative_dimension(
     Ok(None)
 }
 
-// The first volume of a CDR that is below 0, where its members are all as they have to be.
+// Explains the first volume below 0 of a CDR whose members are well-formed.
 fn negative_volume(
     alloc: Global,
     path: MemberPath,
@@ -165,7 +165,7 @@ fn negative_volume(
     Ok(None)
 }
 
-// The first of the days that is none.
+// Explains the first item of the days that is no day.
 fn wrong_day(
     alloc: Global,
     path: MemberPath,
@@ -184,7 +184,7 @@ fn wrong_day(
     Ok(None)
 }
 
-/// What stands at a path of a line.
+/// An object at a path of a line.
 #[derive(Drop)]
 struct Standing<'a> {
     path: MemberPath,
@@ -192,7 +192,7 @@ struct Standing<'a> {
     node: Node<'a>,
 }
 
-// The first of what stands in it that fails at a member of that name, or itself where nothing does.
+// Returns the first inner object that fails at a member of that name, or the object itself if none does.
 fn deeper<'a>(
     alloc: Global,
     standing: Standing<'a>,
@@ -208,7 +208,7 @@ fn deeper<'a>(
     }
 }
 
-// What is told of a member that is not as it has to be.
+// Explains a malformed member.
 fn of_member(
     alloc: Global,
     standing: &Standing,
@@ -224,7 +224,7 @@ fn of_member(
     Ok(Told::new(standing.path.then(name, None), cause, found).against(against))
 }
 
-// What is told of a member that is by itself as it has to be: an item of it is not, or it is not that of a CDR that is no Credit CDR.
+// Explains a member that is well-formed by itself: an item of it is malformed, or only a Credit CDR may have its value.
 fn beyond_itself(
     alloc: Global,
     standing: &Standing,
@@ -245,7 +245,7 @@ fn beyond_itself(
     Ok(Some(of_member(alloc, standing, name, against)?))
 }
 
-/// Where in the value of a line the member of that name stands that is at fault, what stands there, and what has to.
+/// Explains which member of that name in a line is malformed, its value, and the value that it has to have.
 pub fn told(alloc: Global, line: Node, name: Name) -> Result<Option<Told>, AllocError> {
     let mut standing = Standing {
         path: MemberPath::nowhere(),

@@ -1,4 +1,4 @@
-//! What a line has in the place of a value, as text.
+//! A value of a line, as text.
 
 use crate::explain_lines::telling::Value;
 use command_line::text_of_found;
@@ -6,7 +6,7 @@ use ocpi_json::Node;
 use ocpi_json::ci_text::CiText;
 use std::alloc::{AllocError, Global};
 
-/// What stands there, as `text_of_found` writes it.
+/// Returns the value, as `text_of_found` writes it.
 pub fn found(alloc: Global, value: Option<&Node>) -> Result<Value, AllocError> {
     match CiText::new(text_of_found(alloc, value)?.as_str()) {
         Some(text) => Ok(Value::Written(text)),

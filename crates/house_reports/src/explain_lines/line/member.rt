@@ -1,4 +1,4 @@
-//! The objects of a line and their members: what each has to be.
+//! The objects of a line, and the kinds of their members.
 
 ghost use Rattle.std.specs.Prelude.{◌≡◌};
 ghost use Rattle.house_reports.specs.explain_lines.Members.{expected_of, meets, member_named, members_of, members_of_command, shape_of, unmet};
@@ -13,7 +13,7 @@ use std::fmt;
 /// An object in a line.
 #[derive(Clone, Copy)]
 pub enum Shape {
-    /// The line itself, where its platform or its command is not read.
+    /// The line itself, if its platform or its command cannot be read.
     Line,
     /// The line itself, as a request of this command.
     Asked(CommandName),
@@ -32,7 +32,7 @@ pub enum Shape {
     Cost,
 }
 
-/// What a member has to be, by itself.
+/// The kind of a member.
 #[derive(Clone, Copy)]
 pub enum Expected {
     Ascii2,
@@ -282,11 +282,11 @@ pub fn members_of(shape: Shape) -> &'static [(Name, Expected)]
     }
 }
 
-/// What the line itself is, by the command that its `do` names.
+/// Returns the shape of the line itself, by the command that its `do` names.
 pub fn shape_of(line: &Node) -> Shape
     ensures { result ≡ shape_of line.now }
 {
-    if fields::ci_text::<36>(line, Name::Platform).is_err() {
+    if fields::ci_text::<36, _>(line, Name::Platform).is_err() {
         return Shape::Line;
     }
     match fields::parsed(line, Name::Do) {
@@ -304,7 +304,7 @@ fn member_named(shape: Shape, name: Name) -> Option<(Name, Expected)>
         .find(|member| member.0.key() == name.key())
 }
 
-/// What the member of that name has to be, if the object has one.
+// Returns the kind of the member of that name, if the object has one.
 fn expected_of(shape: Shape, name: Name) -> Option<Expected>
     ensures { result ≡ expected_of shape name }
 {
@@ -339,15 +339,15 @@ impl Expected {
     }
 }
 
-/// The member is there, and what it has to be by itself: of an object or a list not yet what is in it.
+/// Returns whether the member is present and of its kind. The members of an object or a list are not checked.
 pub fn meets(expected: Expected, node: &Node, name: Name) -> bool
     ensures { result ≡ meets expected name node.now }
 {
     match expected {
-        Expected::Ascii2 => fields::ci_text::<2>(node, name).is_ok(),
-        Expected::Ascii3 => fields::ci_text::<3>(node, name).is_ok(),
-        Expected::Ascii36 => fields::ci_text::<36>(node, name).is_ok(),
-        Expected::Ascii39 => fields::ci_text::<39>(node, name).is_ok(),
+        Expected::Ascii2 => fields::ci_text::<2, _>(node, name).is_ok(),
+        Expected::Ascii3 => fields::ci_text::<3, _>(node, name).is_ok(),
+        Expected::Ascii36 => fields::ci_text::<36, _>(node, name).is_ok(),
+        Expected::Ascii39 => fields::ci_text::<39, _>(node, name).is_ok(),
         Expected::Text => fields::word(node, name).is_ok(),
         Expected::Currency => members::currency(node, name).is_ok(),
         Expected::Party => members::party(node, name).is_ok(),
@@ -355,20 +355,20 @@ pub fn meets(expected: Expected, node: &Node, name: Name) -> bool
         Expected::Number => fields::number(node, name).is_ok(),
         Expected::AtLeast0 => fields::unsigned(node, name).is_ok(),
         Expected::Date => fields::date(node, name).is_ok(),
-        Expected::Clock => fields::parsed::<Time>(node, name).is_ok(),
+        Expected::Clock => fields::parsed::<Time, _>(node, name).is_ok(),
         Expected::Moment => fields::instant(node, name).is_ok(),
         Expected::Flag => fields::flag(node, name).is_ok(),
-        Expected::Command => fields::parsed::<CommandName>(node, name).is_ok(),
-        Expected::TokenKind => fields::parsed::<TokenKind>(node, name).is_ok(),
-        Expected::ComponentKind => fields::parsed::<ComponentKind>(node, name).is_ok(),
-        Expected::AuthMethod => fields::parsed::<AuthMethod>(node, name).is_ok(),
+        Expected::Command => fields::parsed::<CommandName, _>(node, name).is_ok(),
+        Expected::TokenKind => fields::parsed::<TokenKind, _>(node, name).is_ok(),
+        Expected::ComponentKind => fields::parsed::<ComponentKind, _>(node, name).is_ok(),
+        Expected::AuthMethod => fields::parsed::<AuthMethod, _>(node, name).is_ok(),
         Expected::Days => fields::list(node, name, 0, 1_048_576).is_ok(),
         Expected::Object(_) => fields::object(node, name).is_ok(),
         Expected::List { least, most, .. } => fields::list(node, name, least, most).is_ok(),
     }
 }
 
-/// What the member of that name has to be by itself and is not.
+/// Returns the kind of the member of that name if the member is not of it.
 pub fn unmet(shape: Shape, node: &Node, name: Name) -> Option<Expected>
     ensures { result ≡ unmet shape name node.now }
 {

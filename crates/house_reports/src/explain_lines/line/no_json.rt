@@ -1,4 +1,4 @@
-//! Where a line stops being JSON.
+//! The column at which a line stops being JSON.
 
 use crate::explain_lines::member_path::MemberPath;
 use crate::explain_lines::telling::{Cause, Told, Value};
@@ -6,14 +6,14 @@ use json::{Reader, Scratch};
 use std::alloc::{AllocError, Global};
 use std::str;
 
-/// How deep arrays and objects may nest.
+/// The greatest depth of nested arrays and objects.
 const MAX_DEPTH: usize = 127;
 
 fn begins_character(byte: &u8) -> bool {
     *byte < 0x80 || 0xc0 <= *byte
 }
 
-// How many bytes are read when the reader stops: it stands at what is no JSON, or behind a mark that cannot stand there.
+// Returns the number of bytes that are read when the reader stops: at text that is no JSON, or after a mark that cannot be there.
 fn read_bytes(alloc: Global, text: &str) -> Result<usize, AllocError> {
     let mut scratch = Scratch::new(alloc);
     let mut reader = Reader::new(text, &mut scratch)?;
@@ -21,7 +21,7 @@ fn read_bytes(alloc: Global, text: &str) -> Result<usize, AllocError> {
     Ok(reader.offset())
 }
 
-/// The column at which a line that is no JSON stops being so, in characters.
+/// Explains at which column, in characters, a line stops being JSON.
 pub fn told(alloc: Global, line: &[u8]) -> Result<Told, AllocError> {
     let (read, cause) = match str::from_utf8(line) {
         Ok(text) => (read_bytes(alloc, text)?, Cause::NoJson),

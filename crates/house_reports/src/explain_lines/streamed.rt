@@ -1,0 +1,10 @@
+//! The refused lines of a stream.
+
+mod added;
+mod explainer;
+mod explaining;
+mod members;
+mod refused;
+mod table;
+
+pub use table::explain_stream;

@@ -1,0 +1,103 @@
+//! The explanation of each refusal of a stream.
+
+use crate::explain_lines::asked::rights;
+use crate::explain_lines::explaining::of_reply;
+use crate::explain_lines::line::found::found;
+use crate::explain_lines::line::no_json;
+use crate::explain_lines::member_path::MemberPath;
+use crate::explain_lines::streamed::members;
+use crate::explain_lines::telling::{Cause, Told, Value};
+use line_streams::{Asked, RequestId, StreamReply, asked_of};
+use ocpi_json::ci_text::CiText;
+use ocpi_json::name::Name;
+use ocpi_json::{ReadFault, Room};
+use ocpi_types::{Config, Refusal};
+use plain_house::Event;
+use request_lines::LineRoom;
+use std::alloc::{AllocError, Global};
+
+// Returns a word as a value.
+fn word(text: &str) -> Value {
+    match CiText::new(text) {
+        Some(text) => Value::Written(text),
+        None => Value::Nothing,
+    }
+}
+
+// Explains why a request or a change is refused by this reply after these events.
+fn of_done(config: &Config, events: &[Event], asked: &Asked, reply: &StreamReply) -> Option<Told> {
+    match (asked, reply) {
+        (Asked::Request(request), StreamReply::House(reply)) => {
+            of_reply(config, events, request, reply)
+        }
+        (Asked::Change(change), StreamReply::House(_)) => {
+            rights::of_platform(config, &change.platform, None)
+        }
+        (Asked::Change(_), StreamReply::Otherwise { event, kind, .. }) => {
+            let path = MemberPath::at(Name::Configuration);
+            let told = Told::new(path, Cause::ComesOutOtherwise, word(kind));
+            Some(told.by_event(Some(*event as usize)))
+        }
+        _ => None,
+    }
+}
+
+// Returns the request id of a line, as it is written in reports.
+fn written_id(alloc: Global, room: &mut Room, line: &[u8]) -> Result<Value, AllocError> {
+    match room.read(line) {
+        Ok(read) => found(alloc, read.value().get(Name::RequestId.key()).as_ref()),
+        Err(ReadFault::NoMemory) => Err(AllocError),
+        Err(ReadFault::Syntax) => Ok(Value::Nothing),
+    }
+}
+
+// The request id was given to another line.
+fn of_used_id(
+    alloc: Global,
+    room: &mut Room,
+    line: &[u8],
+    id: &RequestId,
+) -> Result<Told, AllocError> {
+    let found = match CiText::new(id.as_str()) {
+        Some(text) => Value::Written(text),
+        None => written_id(alloc, room, line)?,
+    };
+    let path = MemberPath::at(Name::RequestId);
+    Ok(Told::new(path, Cause::IdOfAnotherLine, found))
+}
+
+// The member of a line that cannot be read.
+fn of_member(
+    alloc: Global,
+    room: &mut Room,
+    line: &[u8],
+    at: Name,
+) -> Result<Option<Told>, AllocError> {
+    match room.read(line) {
+        Ok(read) => members::told(alloc, read.value(), at),
+        Err(ReadFault::NoMemory) => Err(AllocError),
+        Err(ReadFault::Syntax) => Ok(None),
+    }
+}
+
+/// Explains a refused line of a stream, by the reply to what was done for it, under the configuration in force and after these events.
+pub fn of_line(
+    alloc: Global,
+    room: &mut LineRoom,
+    config: &Config,
+    events: &[Event],
+    line: &[u8],
+    reply: Option<&StreamReply>,
+) -> Result<Told, AllocError> {
+    let told = match asked_of(alloc, room, line) {
+        Ok(asks) => match (reply, &asks.id) {
+            (Some(reply), _) => of_done(config, events, &asks.asked, reply),
+            (None, Some(id)) => Some(of_used_id(alloc, &mut room.room, line, id)?),
+            (None, None) => None,
+        },
+        Err(Refusal::NoMemory) => return Err(AllocError),
+        Err(Refusal::Field { name: at }) => of_member(alloc, &mut room.room, line, at)?,
+        Err(_) => return no_json::told(alloc, line),
+    };
+    Ok(told.unwrap_or(Told::new(MemberPath::nowhere(), Cause::Untold, Value::Nothing)))
+}
