@@ -1,4 +1,7 @@
-/* The clearing house inside a program: a house that answers request lines, one at a time. README.md, "From other programs".
+/* The clearing house inside a program: a house that answers lines, one at a time. See docs/EMBEDDING.md.
+   It takes the lines of `clear stream` (docs/FORMATS.md): those of a script, the line `configure`, by which a hub changes the
+   configuration, and lines with a `request_id`. A line with a request id that comes again gets the same bytes, and is not done again;
+   the house remembers such lines and their answers until it is closed.
    Link libclear_embedded.a and, of the kit, liblibc_c.a. They take memory by the program's malloc, realloc and free, and read and
    write nothing but what they are handed. */
 #ifndef CLEAR_H
@@ -45,7 +48,8 @@ uint32_t clear_embedded_answer(struct clear_house *house, const unsigned char *l
 uint32_t clear_embedded_again(struct clear_house *house, unsigned char *buffer, size_t capacity, size_t *length);
 void clear_embedded_close(struct clear_house *house);
 
-/* Opens an empty house of the configuration that these bytes say. They are not used after the call. */
+/* Opens an empty house under the configuration that these bytes are. The bytes are not used after the call. A line `configure` may
+   change the configuration later. */
 static inline enum clear_code clear_open(struct clear_house *house, const unsigned char *config, size_t config_length)
 {
     if (house == NULL || config == NULL)
@@ -54,9 +58,9 @@ static inline enum clear_code clear_open(struct clear_house *house, const unsign
 }
 
 /* Answers a line, which stands without its newline; one of length 0 is answered too. At CLEAR_DONE the answer stands at the
-   buffer's beginning, with its newline. At CLEAR_TOO_SMALL and CLEAR_NOT_WRITTEN the line is done: do not send it again, but take
-   its answer by clear_again. *length is the length of the answer at CLEAR_DONE and at CLEAR_TOO_SMALL, as it was at CLEAR_NULL, and
-   else 0. A buffer of capacity 0 may be NULL. */
+   buffer's beginning, with its newline. At CLEAR_TOO_SMALL and CLEAR_NOT_WRITTEN the line is done, and a change of the configuration
+   is in force: do not send the line again, but take its answer by clear_again. *length is the length of the answer at CLEAR_DONE and
+   at CLEAR_TOO_SMALL, as it was at CLEAR_NULL, and else 0. A buffer of capacity 0 may be NULL. */
 static inline enum clear_code clear_answer(struct clear_house *house, const unsigned char *line, size_t line_length,
                                            unsigned char *buffer, size_t capacity, size_t *length)
 {

@@ -1,35 +1,32 @@
--- What an open house is asked and how it stands then.
-use Rattle.std.specs.Prelude.{◌≡◌, ℕ, ◌<◌, ◌≤◌, List, [], ◌++◌, length, drop, Some, None, IsSome}
+-- The state of an open house before a line and after it.
+use Rattle.std.specs.Prelude.{◌≡◌, ℕ, ◌<◌, ◌≤◌, List, ◌++◌, length, drop, Option, Some, None, IsSome}
+use Rattle.line_streams.specs.State.{empty_under}
+use Rattle.line_streams.specs.Stream as stream
 use Rattle.ocpi_types.specs.declared.config.Config.{Config}
-use Rattle.plain_house.specs.Replies.{Reply}
-use Rattle.request_lines.specs.AnswerText.{answer_text}
 use Rattle.request_lines.specs.Lines.{IsShort, HasNoNewline}
-use Rattle.request_lines.specs.Script.{answer_of, after, reply_in}
 use Rattle.clear_embedded.specs.Standing.{Standing}
 use Rattle.clear_embedded.specs.declared.code.Code.{Code}
 use Rattle.clear_embedded.specs.declared.code.Code.TheVariants.{Done, NoMemory, Closed, Open, NoJson, Member, NoLine, Kept, TooSmall, NotWritten, NothingKept}
 
 -- ---- the house
 
--- an empty house of this configuration
+-- an empty house under this configuration
 abbrev pub opened : Config → Standing
-opened config = record { config = config; events = []; kept = None }
-
--- the line has been answered, and its reply is kept
-abbrev pub with_line : Standing → List ℕ → Standing
-with_line house line = record {
-  config = house.config;
-  events = after house.config house.events line;
-  kept = Some (reply_in house.config house.events line);
-}
+opened config = record { stream = empty_under config; kept = None }
 
 -- nothing is kept any more
 abbrev pub given : Standing → Standing
-given house = record { config = house.config; events = house.events; kept = None }
+given house = record { stream = house.stream; kept = None }
 
 -- at most 1,048,576 bytes, and none of them a newline
 abbrev pub IsLine : List ℕ → Type 0
 IsLine line = IsShort line × HasNoNewline line
+
+-- the stream answered the line with this text, and nothing was kept before
+pub record IsLineDone (house : Standing) (line text : List ℕ) (kept : Option (List ℕ)) (house' : Standing) : Type 0 where
+  pub nothing_kept : house.kept ≡ None
+  pub answered : stream.IsAnswered house.stream line text house'.stream
+  pub kept_is : house'.kept ≡ kept
 
 -- ---- the caller's buffer
 
@@ -58,14 +55,12 @@ pub record IsUnwritten (buffer : Buffer) : Type 0 where
 
 -- ---- a line
 
--- The line is answered, once, at `Done`, `TooSmall` and `NotWritten`; the answer is in the buffer or kept. At any other
+-- The stream answers the line, once, at `Done`, `TooSmall` and `NotWritten`; the answer is in the buffer or kept. At any other
 -- code the house is as it was.
 abbrev pub IsAnswered : Code → Standing → List ℕ → Standing → Buffer → Type 0
-IsAnswered Done house line house' buffer = (house.kept ≡ None) × (house' ≡ given (with_line house line))
-    × IsWritten (answer_of house.config house.events line) buffer
-IsAnswered TooSmall house line house' buffer = (house.kept ≡ None) × (house' ≡ with_line house line)
-    × IsTooLong (answer_of house.config house.events line) buffer
-IsAnswered NotWritten house line house' buffer = (house.kept ≡ None) × (house' ≡ with_line house line) × IsUnwritten buffer
+IsAnswered Done house line house' buffer = (text : List ℕ) × IsLineDone house line text None house' × IsWritten text buffer
+IsAnswered TooSmall house line house' buffer = (text : List ℕ) × IsLineDone house line text (Some text) house' × IsTooLong text buffer
+IsAnswered NotWritten house line house' buffer = (text : List ℕ) × IsLineDone house line text (Some text) house' × IsUnwritten buffer
 IsAnswered NoMemory house line house' buffer = (house' ≡ house) × IsUnwritten buffer
 IsAnswered Kept house line house' buffer = IsSome house.kept × (house' ≡ house) × IsUnwritten buffer
 IsAnswered NoLine house line house' buffer = (IsLine line → ⊥) × (house' ≡ house) × IsUnwritten buffer
@@ -75,14 +70,12 @@ IsAnswered NoJson house line house' buffer = ⊥
 IsAnswered Member house line house' buffer = ⊥
 IsAnswered NothingKept house line house' buffer = ⊥
 
--- ---- what is kept
+-- ---- the kept answer
 
 -- at `Done` the kept answer is in the buffer; else it stays kept
 abbrev pub IsGivenAgain : Code → Standing → Standing → Buffer → Type 0
-IsGivenAgain Done house house' buffer = (reply : Reply) × (house.kept ≡ Some reply) × (house' ≡ given house)
-    × IsWritten (answer_text house.config reply) buffer
-IsGivenAgain TooSmall house house' buffer = (reply : Reply) × (house.kept ≡ Some reply) × (house' ≡ house)
-    × IsTooLong (answer_text house.config reply) buffer
+IsGivenAgain Done house house' buffer = (text : List ℕ) × (house.kept ≡ Some text) × (house' ≡ given house) × IsWritten text buffer
+IsGivenAgain TooSmall house house' buffer = (text : List ℕ) × (house.kept ≡ Some text) × (house' ≡ house) × IsTooLong text buffer
 IsGivenAgain NotWritten house house' buffer = IsSome house.kept × (house' ≡ house) × IsUnwritten buffer
 IsGivenAgain NothingKept house house' buffer = (house.kept ≡ None) × (house' ≡ house) × IsUnwritten buffer
 IsGivenAgain NoMemory house house' buffer = ⊥

@@ -1,11 +1,13 @@
--- How a house stands that answers a line at a time.
-use Rattle.std.specs.Prelude.{List, Option}
-use Rattle.ocpi_types.specs.declared.config.Config.{Config}
-use Rattle.plain_house.specs.declared.event.Event.{Event}
-use Rattle.plain_house.specs.Replies.{Reply}
+-- The state of a house that answers the lines of a stream one at a time.
+use Rattle.std.specs.Prelude.{ℕ, List, Option, option_map}
+use Rattle.line_streams.specs.State.{StreamState, line_text}
+use Rattle.line_streams.specs.declared.reply.LineReply.{LineReply}
 
--- its configuration, what has happened, and the reply whose answer has not been given yet
+-- the stream, and the answer that the caller has not taken yet
 pub record Standing : Type 0 where
-  pub config : Config
-  pub events : List Event
-  pub kept : Option Reply
+  pub stream : StreamState
+  pub kept : Option (List ℕ)
+
+-- the answer of a kept reply, as the stream writes it
+abbrev pub kept_answer : StreamState → Option LineReply → Option (List ℕ)
+kept_answer stream kept = option_map (line_text stream.house.config stream.remembered) kept

@@ -1,49 +1,43 @@
-//! A house that answers a line at a time into a buffer.
+//! A house that answers the lines of a stream one at a time, into a buffer.
 
-ghost use Rattle.std.specs.Prelude.{◌≡◌, ◌≢◌, ◌++◌, ◌≤◌, ◌<◌, ◌↔◌, true, false, None, [], Ok, Err, length, drop, IfOk, IfErr};
+ghost use Rattle.std.specs.Prelude.{◌≡◌, ◌≢◌, ◌++◌, ◌≤◌, ◌↔◌, ℕ, List, true, None, Some, Ok, Err, length, drop, IfOk, IfErr, OnErr, OnOk};
 ghost use Rattle.ocpi_types.specs.ConfigText.{config_of};
 ghost use Rattle.ocpi_types.specs.declared.config.Config.{Config as ConfigValue};
 ghost use Rattle.ocpi_types.specs.declared.config.reading.ConfigFault.TheVariants.{NoMemory};
-ghost use Rattle.clear_embedded.specs.Answering.{IsAnswered, IsGivenAgain, IsLine, opened, with_line};
+ghost use Rattle.clear_embedded.specs.Answering.{IsAnswered, IsGivenAgain, IsLine, IsLineDone, opened};
 
 use super::code::{Code, Told};
+use line_streams::{LineReply, Stream};
 use memchr::memchr;
-use ocpi_json::Room;
-use ocpi_types::{Config, ConfigFault, TryCopy};
-use period_order::BookHouse;
-use plain_house::{Refused, Replied, is_out_of_memory};
-use request_lines::{MOST_LINE_BYTES, NEWLINE, answer_line, reply_to};
+use ocpi_types::{Config, ConfigFault};
+use request_lines::{MOST_LINE_BYTES, NEWLINE};
 use std::alloc::{AllocError, Global};
 use std::marker::Model;
 
-/// A house that answers a line at a time, and keeps the reply until its answer is given.
+/// A house that answers one line at a time, and keeps the reply until the caller has its answer.
 #[derive(Drop)]
 pub struct AnsweringHouse {
-    config: Config,
-    house: BookHouse,
-    room: Room,
-    kept: Option<Result<Replied, Refused>>,
+    stream: Stream,
+    kept: Option<LineReply>,
 }
 
 impl Model for AnsweringHouse {
-    ghost use Rattle.std.specs.Prelude.{◌≡◌};
-    ghost use Rattle.clear_embedded.specs.Standing.{Standing};
+    ghost use Rattle.line_streams.specs.State.{state_of};
+    ghost use Rattle.clear_embedded.specs.Standing.{Standing, kept_answer};
 
     ghost Value = { Standing };
 
-    ghost view = { λ it. record { config = it.config; events = it.house.events; kept = it.kept } };
-
-    ghost invariant = { λ it. it.house.config ≡ it.config };
+    ghost view = { λ it. record { stream = state_of it.stream; kept = kept_answer (state_of it.stream) it.kept } };
 }
 
-// The bytes are one line: not too many, and no newline.
+/// Whether the bytes are one line: not too many, and none of them a newline.
 fn is_line(bytes: &[u8]) -> bool
     ensures { (result ≡ true) ↔ IsLine bytes.now }
 {
     bytes.len() <= MOST_LINE_BYTES && memchr(NEWLINE, bytes).is_none()
 }
 
-// Writes the text at the buffer's beginning.
+/// Writes the text at the buffer's beginning.
 fn write_front(buffer: &mut [u8], text: &[u8])
     requires { length text.now ≤ length buffer.old }
     ensures { buffer.new ≡ text.now ++ drop (length text.now) buffer.old }
@@ -52,10 +46,14 @@ fn write_front(buffer: &mut [u8], text: &[u8])
     front.copy_from_slice(text);
 }
 
-fn house_of(alloc: Global, config: &Config) -> Result<BookHouse, AllocError>
-    ensures { IfOk result (λ house. house ≡ record { config = config.now; events = [] }) }
+/// Returns an empty house under a configuration.
+fn house_of(alloc: Global, config: Config) -> Result<AnsweringHouse, AllocError>
+    ensures { IfOk result (λ house. house ≡ opened config) }
 {
-    BookHouse::new(alloc, config.copy(alloc)?)
+    Ok(AnsweringHouse {
+        stream: Stream::new(alloc, config)?,
+        kept: None,
+    })
 }
 
 fn boxed(alloc: Global, house: AnsweringHouse) -> Result<Box<AnsweringHouse>, ConfigFault>
@@ -69,24 +67,19 @@ fn boxed(alloc: Global, house: AnsweringHouse) -> Result<Box<AnsweringHouse>, Co
 }
 
 impl AnsweringHouse {
-    // An empty house of the configuration that these bytes say.
+    /// Returns an empty house under the configuration that these bytes are.
     fn of_bytes(alloc: Global, bytes: &[u8]) -> Result<AnsweringHouse, ConfigFault>
-        ensures ok { IfOk result (λ house. (config_of bytes.now ≡ Ok house.config) × (house ≡ opened house.config)) }
+        ensures ok { IfOk result (λ house. (config : ConfigValue) × (config_of bytes.now ≡ Ok config) × (house ≡ opened config)) }
         ensures err { IfErr result (λ fault. fault ≢ NoMemory → config_of bytes.now ≡ Err fault) }
     {
         let config = Config::read(alloc, bytes)?;
-        match house_of(alloc, &config) {
-            Ok(house) => Ok(AnsweringHouse {
-                config,
-                house,
-                room: Room::new(alloc),
-                kept: None,
-            }),
+        match house_of(alloc, config) {
+            Ok(house) => Ok(house),
             Err(AllocError) => Err(ConfigFault::NoMemory),
         }
     }
 
-    /// An empty house of the configuration that these bytes say, in memory of its own.
+    /// Returns an empty house under the configuration that these bytes are, in a box.
     pub(crate) fn open(alloc: Global, bytes: &[u8]) -> Result<Box<AnsweringHouse>, ConfigFault>
         ensures ok { IfOk result (λ house. (config : ConfigValue) × (config_of bytes.now ≡ Ok config) × (house.value ≡ opened config)) }
         ensures err { IfErr result (λ fault. fault ≢ NoMemory → config_of bytes.now ≡ Err fault) }
@@ -94,20 +87,18 @@ impl AnsweringHouse {
         boxed(alloc, AnsweringHouse::of_bytes(alloc, bytes)?)
     }
 
-    // Answers the line and keeps the reply, or gives `false` where memory was refused.
-    fn keep_reply(&mut self, alloc: Global, line: &[u8]) -> bool
-        ensures kept { result ≡ true → self.new ≡ with_line self.old line.now }
-        ensures refused { result ≡ false → self.new ≡ self.old }
+    /// Keeps the stream's reply to the line. Nothing changes if an allocation fails.
+    fn keep_reply(&mut self, alloc: Global, line: &[u8]) -> Result<(), AllocError>
+        requires { self.old.kept ≡ None }
+        ensures ok { OnOk result ((text : List ℕ) × IsLineDone self.old line.now text (Some text) self.new) }
+        ensures err { OnErr result (self.new ≡ self.old) }
     {
-        let reply = reply_to(alloc, &mut self.room, &self.config, &mut self.house, line);
-        if is_out_of_memory(&reply) {
-            return false;
-        }
+        let reply = self.stream.reply_to(alloc, line)?;
         self.kept = Some(reply);
-        true
+        Ok(())
     }
 
-    /// Writes the answer of the reply that is kept.
+    /// Writes the answer of the kept reply.
     pub(crate) fn again(&mut self, alloc: Global, buffer: &mut [u8]) -> Told
         ensures { IsGivenAgain result.code self.old self.new
             (record { before = buffer.old; after = buffer.new; told = result.length }) }
@@ -115,7 +106,7 @@ impl AnsweringHouse {
         let Some(reply) = &self.kept else {
             return Told::of(Code::NothingKept);
         };
-        let Ok(text) = answer_line(alloc, &self.config, reply) else {
+        let Ok(text) = self.stream.line_of(alloc, reply) else {
             return Told::of(Code::NotWritten);
         };
         let length = text.len();
@@ -145,7 +136,7 @@ impl AnsweringHouse {
         if !is_line(line) {
             return Told::of(Code::NoLine);
         }
-        if !self.keep_reply(alloc, line) {
+        if self.keep_reply(alloc, line).is_err() {
             return Told::of(Code::NoMemory);
         }
         self.again(alloc, buffer)
