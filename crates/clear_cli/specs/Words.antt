@@ -1,5 +1,5 @@
 -- What the words of a command line ask for.
-use Rattle.std.specs.Prelude.{ℕ, ◌==◌, ◌||◌, Bool, false, List, [], ◌∷◌, Option, Some, None, if◌then◌else◌, codes, length, map, nat_lt, option_map, option_and_then}
+use Rattle.std.specs.Prelude.{ℕ, ◌+◌, ◌-◌, ◌==◌, ◌||◌, ◌&&◌, not, Bool, false, List, [], ◌∷◌, Option, Some, None, if◌then◌else◌, codes, length, map, nat_lt, option_map, option_and_then}
 use Rattle.std.specs.List.{list_any}
 use Rattle.std.specs.Option.{option_or}
 use Rattle.std.specs.Str.{bytes_eq}
@@ -23,8 +23,8 @@ plain_words (word ∷ rest) =
 
 -- what a command line asks for
 pub data Asked : Type 0 where
-  -- the answers to the lines of standard input, under the configuration of this path
-  Script : (config : List ℕ) → Asked
+  -- the answers to the lines of standard input, under the configuration of this path, by so many threads if they are given
+  Script : (config : List ℕ) (threads : Option ℕ) → Asked
   -- the calls and steps of the file of the second path, under the configuration of the first
   Schedule : (config file : List ℕ) → Asked
   -- the answers to the lines of the files of these paths, and what their house leaves, in the folder of the second path and under
@@ -82,9 +82,22 @@ abbrev pub reported : List (List ℕ) → Option Asked
 reported (name ∷ words) = if is_report name then Some (Report (name ∷ words)) else None
 reported [] = None
 
+-- the number from 1 to 16 that these digits write
+abbrev pub threads_of : List ℕ → Option ℕ
+threads_of (digit ∷ []) = if nat_lt 48 digit && nat_lt digit 58 then Some (digit - 48) else None
+threads_of (ten ∷ digit ∷ []) = if (ten == 49) && (nat_lt 47 digit && nat_lt digit 55) then Some (10 + (digit - 48)) else None
+threads_of word = None
+
+-- what the words behind the program's name ask for, if they are `script`, a path, `--threads` and a number of threads
+abbrev pub threaded : List (List ℕ) → Option Asked
+threaded (name ∷ config ∷ option ∷ count ∷ []) =
+    if bytes_eq name (codes "script") && (bytes_eq option (codes "--threads") && not (is_flag config))
+    then option_map (λ threads. Script config (Some threads)) (threads_of count) else None
+threaded words = None
+
 -- what the plain words behind `script` ask for
 abbrev pub script_of : List (List ℕ) → Option Asked
-script_of (config ∷ []) = Some (Script config)
+script_of (config ∷ []) = Some (Script config None)
 script_of words = None
 
 -- what the plain words behind `schedule` ask for
@@ -107,11 +120,11 @@ asked_of_house words = None
 
 -- what the words ask for, the program's name first
 abbrev pub asked : List (List ℕ) → Option Asked
-asked (program ∷ words) = option_or (shown words) (option_or (reported words) (asked_of_house (program ∷ words)))
+asked (program ∷ words) = option_or (shown words) (option_or (reported words) (option_or (threaded words) (asked_of_house (program ∷ words))))
 asked [] = None
 
 abbrev pub asked_by : Job → Asked
-asked_by (job.Script config) = Script config.now
+asked_by (job.Script config threads) = Script config.now threads
 asked_by (job.Schedule config file) = Schedule config.now file.now
 asked_by (job.Run config folder files) = Run config.now folder.now (map (λ file. file.now) files.items)
 asked_by (job.Report words) = Report (map string_bytes words.now)

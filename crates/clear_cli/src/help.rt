@@ -38,6 +38,12 @@ const CONFIG: Argument = Argument::Given {
     help: "The path of the configuration, a JSON file",
 };
 
+const THREADS: Argument = Argument::Value {
+    name: "threads",
+    value: "N",
+    help: "How many threads read lines, 1 to 16; without it one for each processor, at most 4",
+};
+
 const FILE: Argument = Argument::Given {
     name: "FILE",
     help: "The path of the schedule",
@@ -107,9 +113,9 @@ struct Entry {
 
 const SCRIPT: Entry = Entry {
     name: "script",
-    form: "clear script CONFIG < LINES",
+    form: "clear script CONFIG [--threads N] < LINES",
     about: "Answers the request lines of standard input, in their order",
-    arguments: [Some(CONFIG), None, None],
+    arguments: [Some(CONFIG), Some(THREADS), None],
 };
 
 const SCHEDULE: Entry = Entry {
@@ -135,9 +141,9 @@ const CHECK_CONFIG: Entry = Entry {
 
 const EXPLAIN_LINES: Entry = Entry {
     name: "explain_lines",
-    form: "clear explain_lines CONFIG < LINES",
+    form: "clear explain_lines CONFIG < LINES, or clear explain_lines --store STORE",
     about: "Prints where and why request lines are refused, as CSV",
-    arguments: [Some(CONFIG), None, None],
+    arguments: [Some(CONFIG), Some(FROM_STORE), None],
 };
 
 const STATEMENTS: Entry = Entry {

@@ -31,22 +31,44 @@ use std::cell::Cell;
 use std::fs::File;
 use std::process::ExitCode;
 use std::sync::Wait;
-use std::thread::Threads;
+use std::thread::{Threads, available_parallelism};
 use words::{Job, read_words};
 
-// Answers standard input, and returns the exit status.
-fn answer_input<'a>(rt: &HostRuntime, config: &'a str) -> Result<u8, Fault<'a>> {
+/// How many threads read and answer the lines of a script at most, if no number is given.
+const MOST_READING_THREADS: usize = 4;
+
+// As many threads as there are processors, at most 4.
+fn default_threads(threads: &impl Threads) -> usize {
+    match available_parallelism(threads) {
+        Ok(count) => count.get().min(MOST_READING_THREADS),
+        Err(_) => 1,
+    }
+}
+
+// Answers standard input by so many threads, and returns the exit status.
+fn answer_input<'a>(
+    rt: &HostRuntime,
+    threads: &(impl Threads + Sync),
+    config: &'a str,
+    count: Option<usize>,
+) -> Result<u8, Fault<'a>> {
     let file = read_config(rt, config)?;
     let is_gone = Cell::new(false);
     let mut reader = Device::new(rt.stdin());
     let mut writer = Device::new(Output::new(rt.stdout(), &is_gone));
     let mut faults = Device::new(Errors::new(rt.stderr(), &is_gone));
+    let count = match count {
+        Some(count) => count,
+        None => default_threads(threads),
+    };
     Ok(script(
+        threads,
         rt.alloc(),
         file.as_slice(),
         &mut reader,
         &mut writer,
         &mut faults,
+        count,
     ))
 }
 
@@ -138,7 +160,10 @@ fn perform<'a>(
     words: &'a [String],
 ) -> Result<ExitCode, Fault<'a>> {
     let status = match read_words(rt.alloc(), words)? {
-        Job::Script { config } => answer_input(rt, config)?,
+        Job::Script {
+            config,
+            threads: count,
+        } => answer_input(rt, threads, config, count)?,
         Job::Schedule { config, file } => replay_file(rt, config, file)?,
         Job::Run {
             config,

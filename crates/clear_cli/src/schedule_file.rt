@@ -10,9 +10,10 @@ ghost use Rattle.clear_cli.specs.ScheduleRead.{FailsToRead};
 use crate::step_line::add_steps;
 use cdr_checks::Command;
 use house_core::Step;
-use ocpi_json::Room;
 use ocpi_types::{Config, Refusal};
-use request_lines::{Answerer, Count, Device, ScriptFault, Source, command_of, run_lines};
+use request_lines::{
+    Answerer, Count, Device, LineRoom, ScriptFault, Source, command_of, run_lines,
+};
 use std::alloc::{AllocError, Global};
 use std::io;
 use std::marker::Model;
@@ -54,7 +55,7 @@ fn begins_request(line: &[u8]) -> bool
 fn command_said(
     alloc: Global,
     config: &Config,
-    room: &mut Room,
+    room: &mut LineRoom,
     line: &[u8],
 ) -> Result<Option<Command>, AllocError>
     ensures { IfOk result (λ command. command ≡ command_said config.now line.now) }
@@ -70,7 +71,7 @@ fn command_said(
 fn add_call(
     alloc: Global,
     config: &Config,
-    room: &mut Room,
+    room: &mut LineRoom,
     commands: &mut Vec<Command>,
     line: &[u8],
 ) -> Result<bool, AllocError>
@@ -89,7 +90,7 @@ fn add_call(
 fn add_line(
     alloc: Global,
     config: &Config,
-    room: &mut Room,
+    room: &mut LineRoom,
     schedule: &mut Schedule,
     line: &[u8],
 ) -> Result<bool, AllocError>
@@ -107,7 +108,7 @@ fn add_line(
 fn fault_with(
     alloc: Global,
     config: &Config,
-    room: &mut Room,
+    room: &mut LineRoom,
     schedule: &mut Schedule,
     fault: Option<u128>,
     number: u128,
@@ -129,7 +130,7 @@ fn fault_with(
 #[derive(Drop)]
 struct Reading<'c, 'r> {
     config: &'c Config,
-    room: &'r mut Room,
+    room: &'r mut LineRoom,
     schedule: Schedule,
     lines: u128,
     fault: Option<u128>,
@@ -163,6 +164,8 @@ impl Answerer for Reading<'_, '_> {
         )?;
         Ok(Vec::new(alloc))
     }
+
+    fn look_ahead(&mut self, _alloc: Global, _bytes: &[u8]) {}
 }
 
 // What a run over the lines of a file has come to.
@@ -204,7 +207,7 @@ pub fn read_schedule<R: Source>(
     ensures end { OnOk result (R.reading.at_end reader.new) }
     ensures kept { OnOk result (R.reading.failed reader.new ≡ R.reading.failed reader.old) }
 {
-    let mut room = Room::new(alloc);
+    let mut room = LineRoom::new(alloc);
     let mut reading = Reading {
         config,
         room: &mut room,

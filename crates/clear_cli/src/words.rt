@@ -7,7 +7,7 @@ ghost use Rattle.clap.specs.Walk.{rule_of};
 ghost use Rattle.clap.specs.Words.{app_of, found_of, kind_of, rows_of, subcommand_rows_of};
 ghost use Rattle.clap.specs.declared.builder.command.Command.TheViews.{out-Command as fields_of};
 ghost use Rattle.clear_cli.specs.Inner.Commands.{asked_in, asked_under, clear_command, clear_script, clear_script_schedule, files_rule, path_rule, run_command, schedule_command, script_command};
-ghost use Rattle.clear_cli.specs.Words.{asked, asked_by, asked_of_house, help_of, is_answering, is_command, is_help_flag, is_report, is_version_flag, reported, shown, shown_alone, shown_by_two};
+ghost use Rattle.clear_cli.specs.Words.{asked, asked_by, asked_of_house, help_of, is_answering, is_command, is_flag, is_help_flag, is_report, is_version_flag, reported, shown, shown_alone, shown_by_two, threaded, threads_of};
 
 use clap::error::ErrorKind;
 use clap::{Arg, ArgAction, ArgMatches, Command, Error};
@@ -17,9 +17,10 @@ use std::alloc::{AllocError, Global};
 /// One of the program's commands.
 #[derive(Drop)]
 pub enum Job<'a> {
-    /// Answers the lines of standard input under the configuration of this path.
+    /// Answers the lines of standard input under the configuration of this path, by so many threads, 1 to 16, if they are given.
     Script {
         config: &'a str,
+        threads: Option<usize>,
     },
     /// Replays the calls and steps of the file of this path under the configuration of the other.
     Schedule {
@@ -173,7 +174,10 @@ fn job_under<'a>(
     ensures { IfOk result (λ job. option_map asked_by job ≡ asked_under name.now (rows_of (found_of words.now)) config.now) }
 {
     match name {
-        "script" => Ok(Some(Job::Script { config })),
+        "script" => Ok(Some(Job::Script {
+            config,
+            threads: None,
+        })),
         "schedule" => Ok(schedule_of(config, words)),
         "run" => run_of(alloc, config, words),
         _ => Ok(None),
@@ -309,6 +313,42 @@ fn reported<'a>(words: &'a [String]) -> Option<Job<'a>>
     }
 }
 
+// Whether the word is a hyphen with more after it.
+fn is_flag(word: &str) -> bool
+    ensures { result ≡ is_flag word.now }
+{
+    matches!(word.as_bytes(), [b'-', _, ..])
+}
+
+// The number from 1 to 16 that these digits write.
+fn threads_of(word: &str) -> Option<usize>
+    ensures { result ≡ threads_of word.now }
+{
+    match word.as_bytes() {
+        [digit @ b'1'..=b'9'] => Some((*digit - b'0') as usize),
+        [b'1', digit @ b'0'..=b'6'] => Some(10 + (*digit - b'0') as usize),
+        _ => None,
+    }
+}
+
+// The lines of standard input answered by a number of threads, if these words after the program's name ask for it.
+fn threaded<'a>(words: &'a [String]) -> Option<Job<'a>>
+    ensures { option_map asked_by result ≡ threaded (map string_bytes words.now) }
+{
+    match words {
+        [name, config, option, count]
+            if name.as_str() == "script"
+                && option.as_str() == "--threads"
+                && !is_flag(config.as_str()) => {
+            Some(Job::Script {
+                config: config.as_str(),
+                threads: Some(threads_of(count.as_str())?),
+            })
+        }
+        _ => None,
+    }
+}
+
 /// Reads what the words ask for, the program's name first.
 ///
 /// # Errors
@@ -326,7 +366,10 @@ pub fn read_words<'a>(alloc: Global, words: &'a [String]) -> Result<Job<'a>, Fau
     if let Some(job) = shown(behind) {
         return Ok(job);
     }
-    match reported(behind) {
+    if let Some(job) = reported(behind) {
+        return Ok(job);
+    }
+    match threaded(behind) {
         Some(job) => Ok(job),
         None => parsed(alloc, words),
     }

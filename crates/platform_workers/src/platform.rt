@@ -6,9 +6,8 @@ ghost use Rattle.plain_house.specs.Replies.{is_no_memory};
 ghost use Rattle.platform_workers.specs.Platforms.{GivesUp, LineReplied};
 
 use cdr_checks::Command;
-use ocpi_json::Room;
 use plain_house::{Refused, Replied, is_out_of_memory};
-use request_lines::{Answerer, answer_line, command_of};
+use request_lines::{Answerer, LineRoom, answer_line, command_of};
 use shared_house::{Configured, Gate, House, Names, Part, Pass};
 use std::alloc::{AllocError, Global};
 use std::sync::Wait;
@@ -20,7 +19,7 @@ pub struct Platform<'r, 'h, 'g, 'p, 'm, N: Names, R: Wait, G: Gate> {
     pub house: &'h House<N>,
     pub gate: &'g G,
     pub pass: &'p mut Pass<N>,
-    pub room: &'m mut Room,
+    pub room: &'m mut LineRoom,
 }
 
 impl<N: Names, R: Wait, G: Gate> Platform<'_, '_, '_, '_, '_, N, R, G> {
@@ -61,4 +60,6 @@ impl<N: Names, R: Wait, G: Gate> Answerer for Platform<'_, '_, '_, '_, '_, N, R,
         }
         answer_line(alloc, self.house.config(), &reply)
     }
+
+    fn look_ahead(&mut self, _alloc: Global, _bytes: &[u8]) {}
 }

@@ -6,8 +6,7 @@ ghost use Rattle.platform_workers.specs.Workers.{EachRan, WorkerRan, end_of, str
 
 use super::jobs::{Job, NotBegun, WorkerEnd, ended, jobs_of, to_take};
 use super::platform::Platform;
-use ocpi_json::Room;
-use request_lines::{Count, ScriptFault, Sink, Source, run_lines};
+use request_lines::{Count, LineRoom, ScriptFault, Sink, Source, run_lines};
 use shared_house::{Configured, Gate, House, Names, Part, Pass};
 use std::alloc::Global;
 use std::sync::Wait;
@@ -26,7 +25,7 @@ fn run_platform<N: Names, I: Source, O: Sink, R: Wait, G: Gate>(
 ) -> Result<Count, ScriptFault>
     ensures { WorkerRan (streams_of I.reading O.writing) N.BookEntries.config pass.old (reader.old, writer.old) pass.new (end_of result) }
 {
-    let mut room = Room::new(alloc);
+    let mut room = LineRoom::new(alloc);
     let mut platform = Platform {
         rt,
         house,

@@ -1,7 +1,7 @@
 //! The command `stream`: answers lines as `script` does, and lines that change the configuration.
 
 use command_line::{Errors, Fault, Output, only_word, read_config, tell};
-use line_streams::{Stream, run_stream};
+use line_streams::{Stream, run_stream_together};
 use ocpi_types::Config;
 use request_lines::{Device, Sink, Source};
 use std::alloc::Global;
@@ -16,7 +16,7 @@ fn answer_lines<R: Source, W: Sink>(
     writer: &mut W,
 ) -> Result<(), Fault<'static>> {
     let mut stream = Stream::new(alloc, Config::read(alloc, config)?)?;
-    let answered = run_stream(alloc, reader, writer, &mut stream);
+    let answered = run_stream_together(alloc, reader, writer, &mut stream);
     // The process ends now, and the system takes its memory back at once.
     mem::forget(stream);
     answered?;

@@ -6,7 +6,6 @@ ghost use Rattle.cdr_checks.specs.Admission.{IsAdmitted};
 ghost use Rattle.plain_house.specs.Laws.{most_rows};
 
 use cdr_checks::{Command, Request, admit};
-use ocpi_json::Room;
 use ocpi_json::same::{Same, are_same};
 use ocpi_types::{Config, Refusal, TryCopy};
 use period_order::BookHouse;
@@ -14,7 +13,7 @@ use plain_house::{
     Event, PlainHouse, Refused, Replied, ReplyRoom, Sequential, legal_lists_can_be_netted,
     replies_fit,
 };
-use request_lines::{answer_line, request_of};
+use request_lines::{LineRoom, answer_line, request_of};
 use std::alloc::{AllocError, Global};
 use std::io::Write;
 use std::str::Lines;
@@ -25,7 +24,7 @@ struct Copying {
     config: Config,
     house: PlainHouse,
     books: BookHouse,
-    room: Room,
+    room: LineRoom,
     ghost same: { house.config ≡ config },
     ghost books_same: { books.config ≡ config },
 }
@@ -47,7 +46,7 @@ fn is_command_copied(alloc: Global, config: &Config, request: Request) -> bool {
 }
 
 // A line that is refused has no request.
-fn is_line_copied(alloc: Global, room: &mut Room, config: &Config, line: &str) -> bool {
+fn is_line_copied(alloc: Global, room: &mut LineRoom, config: &Config, line: &str) -> bool {
     match request_of(alloc, room, line.as_bytes()) {
         Ok(request) => is_request_copied(alloc, &request)
             && is_command_copied(alloc, config, request),
@@ -104,7 +103,7 @@ impl Copying {
             config,
             house,
             books,
-            room: Room::new(alloc),
+            room: LineRoom::new(alloc),
         })
     }
 

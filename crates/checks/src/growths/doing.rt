@@ -6,11 +6,10 @@ ghost use Rattle.cdr_checks.specs.Admission.{IsAdmitted};
 use super::telling::{announce, told};
 use super::trial::Trial;
 use cdr_checks::Command;
-use ocpi_json::Room;
 use ocpi_types::Config;
 use period_order::BookHouse;
 use plain_house::{PlainHouse, Refused, Replied, Sequential};
-use request_lines::command_of;
+use request_lines::{LineRoom, command_of};
 use std::alloc::Global;
 
 /// What does commands under a configuration.
@@ -44,7 +43,7 @@ impl Doing for BookHouse {
 fn command_in(alloc: Global, config: &Config, line: &str) -> Option<Command>
     ensures { IfSome result (IsAdmitted config.now) }
 {
-    let mut room = Room::new(alloc);
+    let mut room = LineRoom::new(alloc);
     match command_of(alloc, &mut room, config, line.as_bytes()) {
         Ok(command) => Some(command),
         Err(_) => None,

@@ -6,12 +6,11 @@ use super::doing::{Doing, announced_reply, do_lines, is_done_again};
 use super::telling::tell;
 use super::trial::{Outcome, Trial};
 use crate::check_fault::CheckFault;
-use ocpi_json::Room;
 use ocpi_json::same::are_same;
 use ocpi_types::{Config, TryCopy};
 use period_order::BookHouse;
 use plain_house::{Event, PlainHouse, Refused, Replied, is_out_of_memory};
-use request_lines::reply_to;
+use request_lines::{LineRoom, reply_to};
 use std::alloc::{AllocError, Global};
 
 /// A house whose events can be listed.
@@ -41,7 +40,7 @@ pub struct Lists {
     config: Config,
     before: PlainHouse,
     behind: PlainHouse,
-    room: Room,
+    room: LineRoom,
     ghost before_same: { before.config ≡ config },
     ghost behind_same: { behind.config ≡ config },
 }
@@ -54,7 +53,7 @@ impl Lists {
             config: config.copy(alloc)?,
             before,
             behind,
-            room: Room::new(alloc),
+            room: LineRoom::new(alloc),
         })
     }
 

@@ -10,9 +10,8 @@ use crate::check_fault::CheckFault;
 use cdr_checks::Command;
 use command_line::Fault;
 use house_core::{Action, Step, World};
-use ocpi_json::Room;
 use ocpi_types::Config;
-use request_lines::command_of;
+use request_lines::{LineRoom, command_of};
 use std::alloc::{AllocError, Global};
 use std::io;
 
@@ -25,7 +24,7 @@ fn add_command(
     requires { All (IsAdmitted config.now) commands.old.items }
     ensures { All (IsAdmitted config.now) commands.new.items }
 {
-    let mut room = Room::new(alloc);
+    let mut room = LineRoom::new(alloc);
     match command_of(alloc, &mut room, config, line.as_bytes()) {
         Ok(command) => Ok(commands.push(command)?),
         Err(_) => Ok(()),

@@ -5,16 +5,15 @@ ghost use Rattle.plain_house.specs.Replies.{is_no_memory};
 ghost use Rattle.request_lines.specs.AnswerText.{answer_text};
 ghost use Rattle.request_lines.specs.Script.{after, reply_in};
 
-use ocpi_json::Room;
 use ocpi_types::Config;
 use plain_house::{Refused, Replied, Sequential, is_out_of_memory};
-use request_lines::{Respond, answer_line, reply_to};
+use request_lines::{LineRoom, Respond, answer_line, reply_to};
 use std::alloc::{AllocError, Global};
 
 // Where memory is refused, the house is as it was, so the line is read and its command done once more.
 fn reply_again<S: Sequential>(
     alloc: Global,
-    room: &mut Room,
+    room: &mut LineRoom,
     config: &Config,
     house: &mut S,
     line: &[u8],
@@ -53,7 +52,7 @@ impl Respond for Again {
     fn respond<S: Sequential>(
         &self,
         alloc: Global,
-        room: &mut Room,
+        room: &mut LineRoom,
         config: &Config,
         house: &mut S,
         line: &[u8],

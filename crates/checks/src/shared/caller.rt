@@ -1,8 +1,7 @@
 //! Lines answered by the calls of one pass.
 
-use ocpi_json::Room;
 use plain_house::{Refused, Replied, is_out_of_memory};
-use request_lines::{Answerer, answer_line, command_of};
+use request_lines::{Answerer, LineRoom, answer_line, command_of};
 use shared_house::{House, Names, NoGate, Pass};
 use std::alloc::{AllocError, Global};
 use std::sync::Wait;
@@ -13,7 +12,7 @@ pub struct Caller<'l, 'h, 'p, 'r, N: Names, R: Wait> {
     pub locks: &'l R,
     pub house: &'h House<N>,
     pub pass: &'p mut Pass<N>,
-    pub room: &'r mut Room,
+    pub room: &'r mut LineRoom,
 
     /// Whether a line at which memory was refused is done once more.
     pub is_again: bool,
@@ -59,4 +58,6 @@ impl<N: Names, R: Wait> Answerer for Caller<'_, '_, '_, '_, N, R> {
         }
         self.text(alloc, &reply)
     }
+
+    fn look_ahead(&mut self, _alloc: Global, _bytes: &[u8]) {}
 }

@@ -2,8 +2,7 @@
 
 use super::caller::Caller;
 use crate::check_fault::CheckFault;
-use ocpi_json::Room;
-use request_lines::{Sink, Source, run_lines};
+use request_lines::{LineRoom, Sink, Source, run_lines};
 use shared_house::{House, Names, Pass};
 use std::alloc::Global;
 use std::sync::Wait;
@@ -21,7 +20,7 @@ pub fn answer<N: Names, R: Wait, S: Source, W: Sink>(
     let Some(pass) = passes.last_mut() else {
         return Ok(());
     };
-    let mut room = Room::new(alloc);
+    let mut room = LineRoom::new(alloc);
     let mut caller = Caller {
         locks,
         house,

@@ -44,7 +44,7 @@ run_in config files folder = option_map (Run config folder) files
 -- what a command of this name with this configuration asks for, by its rows
 abbrev pub asked_under : Text → List Row → Text → Option Asked
 asked_under name rows config =
-    if bytes_eq name (codes "script") then Some (Script config)
+    if bytes_eq name (codes "script") then Some (Script config None)
     else (if bytes_eq name (codes "schedule") then option_map (Schedule config) (first_of (codes "file") rows)
     else (if bytes_eq name (codes "run") then option_and_then (run_in config (all_of (codes "files") rows)) (first_of (codes "folder") rows) else None))
 

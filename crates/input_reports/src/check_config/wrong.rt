@@ -89,10 +89,10 @@ fn hold(node: &Node) -> Result<HoldAmount, Name> {
 pub fn wrong_value(whole: &Node, node: &Node, name: Name) -> Option<Wrong> {
     match name {
         Name::Party => unfit_if(party(node, name).is_err()),
-        Name::Zone => unfit_if(fields::parsed::<Zone>(node, name).is_err()),
+        Name::Zone => unfit_if(fields::parsed::<Zone, _>(node, name).is_err()),
         Name::Limit => unfit_if(limit(node).is_err()),
         Name::Hold => unfit_if(hold(node).is_err()),
-        Name::Name => unfit_if(fields::ci_text::<36>(node, name).is_err()),
+        Name::Name => unfit_if(fields::ci_text::<36, _>(node, name).is_err()),
         Name::Hub => unfit_if(fields::flag_or_none(node, name).is_err()),
         Name::Currency => wrong_currency(whole, node),
         Name::Operator => wrong_party_of(whole, node, Listing::Operators, name),

@@ -1,8 +1,7 @@
 //! The commands of a file's lines, as a house admits them.
 
 use cdr_checks::Command;
-use ocpi_json::Room;
-use request_lines::command_of;
+use request_lines::{LineRoom, command_of};
 use shared_house::{Configured, House, Names, Part};
 use std::alloc::{AllocError, Global};
 use std::io::{BufRead, BufReader};
@@ -29,7 +28,7 @@ impl<N: Names> Model for Admitted<N> {
 
 fn admitted_of<N: Names>(
     alloc: Global,
-    room: &mut Room,
+    room: &mut LineRoom,
     house: &House<N>,
     line: &[u8],
 ) -> Option<Admitted<N>> {
@@ -45,7 +44,7 @@ fn admitted_of<N: Names>(
 // Adds the command of the line; a line without one is passed over.
 fn add_command<N: Names>(
     alloc: Global,
-    room: &mut Room,
+    room: &mut LineRoom,
     house: &House<N>,
     line: &[u8],
     commands: &mut Vec<Admitted<N>>,
@@ -59,7 +58,7 @@ fn add_command<N: Names>(
 // Adds the command of the reader's next line, if there is one more.
 fn add_next<N: Names, R: BufRead>(
     alloc: Global,
-    room: &mut Room,
+    room: &mut LineRoom,
     house: &House<N>,
     reader: &mut R,
     line: &mut Vec<u8>,
@@ -81,7 +80,7 @@ fn add_commands<N: Names, R: BufRead>(
     line: &mut Vec<u8>,
     commands: &mut Vec<Admitted<N>>,
 ) -> io::Result<()> {
-    let mut room = Room::new(alloc);
+    let mut room = LineRoom::new(alloc);
     for _number in 0..u64::MAX {
         if !add_next(alloc, &mut room, house, reader, line, commands)? {
             break;
