@@ -1,0 +1,74 @@
+"""The command lines of the service: `python3 -m clear_service CONFIG STORE`, and `tokens ..`."""
+
+from __future__ import annotations
+
+import gc
+import logging
+import resource
+import sys
+
+import uvicorn
+
+from clear_service.app import create_app
+from clear_service.senders import TokenFile
+from clear_service.settings import SettingError, Settings, settings_of
+
+USAGE = "usage: service/start CONFIG STORE"
+TOKENS_USAGE = "usage: service/tokens add PLATFORM | list | remove PLATFORM-OR-NAME"
+KEEP_ALIVE = 75  # seconds
+COLLECTED = (50_000, 20, 100)  # the registers are many objects that stay, so the collector runs more rarely
+
+
+def serve(settings: Settings) -> None:
+    """Serves until the process gets a signal to end."""
+    gc.set_threshold(*COLLECTED)
+    _, most = resource.getrlimit(resource.RLIMIT_NOFILE)
+    resource.setrlimit(resource.RLIMIT_NOFILE, (most, most))
+    config = uvicorn.Config(
+        create_app(settings),
+        host=settings.host,
+        port=settings.port,
+        access_log=False,
+        log_level="warning",
+        server_header=False,
+        timeout_keep_alive=KEEP_ALIVE,
+        lifespan="on",
+    )
+    uvicorn.Server(config).run()
+
+
+def tokens(words: list[str], path: str) -> int:
+    """Adds, lists or removes tokens."""
+    file = TokenFile(path)
+    match words:
+        case ["add", platform] if 0 < len(platform) <= 36 and platform.isascii() and platform.isprintable():
+            print(file.add(platform))
+        case ["list"]:
+            for row in file.rows():
+                print(row.name, row.made, row.platform)
+        case ["remove", name]:
+            print(f"{file.remove(name)} removed")
+        case _:
+            print(TOKENS_USAGE, file=sys.stderr)
+            return 2
+    return 0
+
+
+def main(words: list[str]) -> int:
+    """Runs the command line; returns the exit status."""
+    logging.basicConfig(level=logging.INFO, format="%(asctime)s %(levelname)s %(message)s", stream=sys.stderr)
+    try:
+        if words[:1] == ["tokens"]:
+            return tokens(words[1:], settings_of("", "").tokens)
+        if len(words) != 2 or words[0].startswith("-"):
+            print(USAGE, file=sys.stderr)
+            return 2
+        serve(settings_of(words[0], words[1]))
+    except SettingError as error:
+        print(f"service: {error}", file=sys.stderr)
+        return 2
+    return 0
+
+
+if __name__ == "__main__":
+    sys.exit(main(sys.argv[1:]))

@@ -1,0 +1,141 @@
+"""Answer lines of the house, and the status that HTTP and OCPI give to each refusal."""
+
+from __future__ import annotations
+
+from dataclasses import dataclass
+from functools import cached_property
+from typing import Any
+
+from clear_service.json_text import object_of
+
+BEGINNING = b'{"status_code":1000,"answer":"'
+
+
+@dataclass(frozen=True)
+class RefusalStatus:
+    """A refusal by its number and name, the HTTP status under /ocpi and under /clearing, and OCPI's status code."""
+
+    number: int
+    name: str
+    ocpi_http: int
+    clearing_http: int
+    status_code: int
+
+
+# OCPI 2.2.1, chapter Status codes: text that is not JSON is 400, what is not there is 404, and any other refusal of the
+# OCPI layer comes with HTTP status 200. Under /clearing the statuses are those of RFC 9110.
+REFUSALS = tuple(
+    RefusalStatus(*row)
+    for row in (
+        (1, "Syntax", 400, 400, 2001),
+        (2, "Field", 200, 400, 2001),
+        (3, "UnknownParty", 200, 404, 2000),
+        (4, "NotYours", 404, 403, 2000),
+        (5, "WrongCurrency", 200, 422, 2000),
+        (6, "BadDates", 200, 422, 2000),
+        (7, "TariffNotGiven", 200, 422, 2000),
+        (8, "UnsupportedRestriction", 200, 422, 2000),
+        (9, "Reservation", 200, 422, 2000),
+        (10, "EnergyMismatch", 200, 422, 2000),
+        (11, "AmountTooLarge", 200, 422, 2000),
+        (12, "CostMismatch", 200, 422, 2000),
+        (13, "Conflict", 200, 409, 2000),
+        (14, "TariffNotRegistered", 200, 422, 2000),
+        (15, "UnknownToken", 404, 404, 2004),
+        (16, "UnknownHold", 404, 404, 2000),
+        (17, "UnknownOriginal", 200, 422, 2000),
+        (18, "CreditOfCredit", 200, 409, 2000),
+        (19, "AlreadyCredited", 200, 409, 2000),
+        (20, "CreditDiffers", 200, 409, 2000),
+        (21, "NotCurrent", 200, 409, 2000),
+        (22, "PeriodOpen", 200, 409, 2000),
+        (23, "AlreadySettled", 200, 409, 2000),
+        (24, "UnknownCdr", 404, 404, 2000),
+        (25, "Full", 200, 507, 3000),
+        (26, "OverLimit", 200, 409, 2000),
+        (28, "TooLate", 200, 409, 2000),
+        (29, "ComesOutOtherwise", 200, 409, 2000),
+        (30, "RequestIdUsed", 200, 409, 2000),
+    )
+)
+BY_NUMBER = {row.number: row for row in REFUSALS}
+
+
+def name_of(line: bytes) -> str:
+    """The name of the answer or the refusal on the line."""
+    return line.split(b'"', 6)[5].decode()
+
+
+class AnswerParts:
+    """The first members of an answer line, whose bytes docs/FORMATS.md states: found by its quotes, without reading JSON."""
+
+    __slots__ = ("_parts",)
+
+    def __init__(self, line: bytes) -> None:
+        self._parts = line.split(b'"', 15)
+
+    @property
+    def name(self) -> str:
+        """The name of the answer or the refusal."""
+        return self._parts[5].decode()
+
+    @property
+    def at(self) -> int:
+        """The number of events before the answer, which is no refusal."""
+        return int(self._parts[8].strip(b":,}"))
+
+    @property
+    def text(self) -> str:
+        """The member after `at`, which is a text: an amount or a reference."""
+        return self._parts[11].decode()
+
+    @property
+    def period(self) -> int:
+        """The member after that, which is a number."""
+        return int(self._parts[14].strip(b":}"))
+
+
+@dataclass(frozen=True)
+class Answer:
+    """An answer line without its newline."""
+
+    line: bytes
+
+    @property
+    def is_refusal(self) -> bool:
+        """Whether the request was refused."""
+        return not self.line.startswith(BEGINNING)
+
+    @property
+    def name(self) -> str:
+        """The name of the answer or the refusal."""
+        return name_of(self.line)
+
+    @property
+    def at(self) -> int:
+        """The number of events before the answer, which is no refusal."""
+        return AnswerParts(self.line).at
+
+    @cached_property
+    def members(self) -> dict[str, Any]:
+        """The members of the answer; numbers are texts."""
+        return object_of(self.line)
+
+    @property
+    def refusal(self) -> RefusalStatus:
+        """The row of the refusal; the answer has to be one."""
+        return BY_NUMBER[int(self.members["number"])]
+
+    @property
+    def clearing_status(self) -> int:
+        """The HTTP status of the answer under /clearing."""
+        return self.refusal.clearing_http if self.is_refusal else 200
+
+    @property
+    def message(self) -> str:
+        """The refusal's name with its own values, as `OverLimit: exposure 30.2500, limit 30.0000`."""
+        values = [f"{name} {value}" for name, value in self.members.items() if name not in PLAIN]
+        return self.name + (": " + ", ".join(values) if values else "")
+
+
+PLAIN = ("status_code", "refusal", "number", "at")

@@ -1,0 +1,116 @@
+"""A child process that answers lines: `clear keep` or another command of the program."""
+
+from __future__ import annotations
+
+import asyncio
+import contextlib
+import tempfile
+from asyncio.subprocess import PIPE, Process
+from collections import deque
+from collections.abc import AsyncIterator, Sequence
+
+PIECE = 1 << 18
+
+
+class ChildEnded(Exception):
+    """The child ended or closed its output."""
+
+
+class Child:
+    """A started process. Its standard error is read all the time, and its last lines are kept."""
+
+    def __init__(self, process: Process) -> None:
+        assert process.stdin is not None and process.stdout is not None and process.stderr is not None
+        self._process = process
+        self._input, self._output, self._errors = process.stdin, process.stdout, process.stderr
+        self._rest = b""
+        self._said: deque[str] = deque(maxlen=5)
+        self._listener = asyncio.create_task(self._listen())
+
+    @classmethod
+    async def start(cls, words: Sequence[str]) -> Child:
+        """Starts the program. Raises OSError."""
+        process = await asyncio.create_subprocess_exec(*words, stdin=PIPE, stdout=PIPE, stderr=PIPE)
+        return cls(process)
+
+    @property
+    def pid(self) -> int:
+        """The process's id."""
+        return self._process.pid
+
+    async def _listen(self) -> None:
+        while line := await self._errors.readline():
+            self._said.append(line.decode(errors="replace").strip()[:500])
+
+    async def write(self, lines: Sequence[bytes]) -> None:
+        """Writes the lines. Raises ChildEnded."""
+        try:
+            self._input.write(b"\n".join(lines) + b"\n")
+            await self._input.drain()
+        except (OSError, RuntimeError):
+            raise ChildEnded("the program ended") from None
+
+    async def first_line(self) -> bytes:
+        """The first line of its output. Raises ChildEnded."""
+        while b"\n" not in self._rest:
+            self._rest += await self._piece()
+        line, _, self._rest = self._rest.partition(b"\n")
+        return line
+
+    async def pieces(self) -> AsyncIterator[list[bytes]]:
+        """Its further lines, those of one piece of output together. Raises ChildEnded at the end."""
+        while True:
+            lines = self._rest.split(b"\n")
+            self._rest = lines.pop()
+            if lines:
+                yield lines
+            self._rest += await self._piece()
+
+    async def _piece(self) -> bytes:
+        piece = await self._output.read(PIECE)
+        if not piece:
+            raise ChildEnded(await self._end())
+        return piece
+
+    async def _end(self) -> str:
+        with contextlib.suppress(TimeoutError, ProcessLookupError):
+            async with asyncio.timeout(5):
+                await self._process.wait()
+                await self._listener
+        said = "; ".join(self._said)
+        return f"the program ended with status {self._process.returncode}" + (f": {said}" if said else "")
+
+    async def stop(self, seconds: float) -> None:
+        """Closes its input, waits for its end at most so long, and then kills it."""
+        with contextlib.suppress(OSError, RuntimeError):
+            self._input.close()
+        try:
+            async with asyncio.timeout(seconds):
+                await self._process.wait()
+        except TimeoutError:
+            self.kill()
+            await self._process.wait()
+        self._listener.cancel()
+
+    def kill(self, reason: str = "") -> None:
+        """Kills it at once; what is reported of its end has the reason."""
+        if reason:
+            self._said.append(reason)
+        with contextlib.suppress(ProcessLookupError):
+            self._process.kill()
+
+
+async def output_of(words: Sequence[str], given: bytes = b"", seconds: float = 600) -> tuple[int, bytes, str]:
+    """Runs a program to its end: its status, output, and what it wrote on standard error. It is killed after so long."""
+    with tempfile.TemporaryFile() as file:
+        file.write(given)
+        file.seek(0)
+        process = await asyncio.create_subprocess_exec(*words, stdin=file, stdout=PIPE, stderr=PIPE)
+    try:
+        async with asyncio.timeout(seconds):
+            out, err = await process.communicate()
+    except BaseException:
+        with contextlib.suppress(ProcessLookupError):
+            process.kill()
+        raise
+    return process.returncode or 0, out, err.decode(errors="replace").strip()

@@ -1,0 +1,81 @@
+"""The configuration in force, as far as the service needs it: who acts for whom, currencies, zones and holds."""
+
+from __future__ import annotations
+
+from typing import Any
+
+from clear_service.lines import folded
+
+SMALLEST_HOLD = 1  # ten-thousandths: the hold of a provider without a row for the currency
+
+
+def written(amount: int) -> str:
+    """Ten-thousandths with four decimals."""
+    return f"{'-' if amount < 0 else ''}{abs(amount) // 10_000}.{abs(amount) % 10_000:04d}"
+
+
+def ten_thousandths(amount: str) -> int:
+    """The ten-thousandths of an amount that is written with four decimals."""
+    return int(amount.replace(".", ""))
+
+
+class Configuration:
+    """A configuration that the program has accepted. Parties and names are compared ignoring letter case.
+
+    `limits` has the credit limit of a folded provider and a currency, in ten-thousandths.
+    """
+
+    def __init__(self, members: dict[str, Any]) -> None:
+        self.currencies: list[str] = members["currencies"]
+        self.operators = {folded(item["party"]): item["party"] for item in members["operators"]}
+        self.providers = {folded(item["party"]): item["party"] for item in members["providers"]}
+        self._zones = {folded(item["party"]): item["zone"] for item in members["operators"]}
+        self._holds = {
+            (folded(item["party"]), row["currency"]): int(row["hold"])
+            for item in members["providers"]
+            for row in item.get("limits") or []
+        }
+        self.limits: dict[tuple[str, str], int] = {
+            (folded(item["party"]), row["currency"]): int(row["limit"])
+            for item in members["providers"]
+            for row in item.get("limits") or []
+        }
+        self._platforms = {folded(item["name"]): item for item in members["platforms"]}
+
+    def parties_of(self, platform: str) -> set[str]:
+        """The folded parties for which the platform acts."""
+        item = self._platforms.get(folded(platform), {})
+        return {folded(party) for party in item.get("parties") or []}
+
+    def is_hub(self, platform: str) -> bool:
+        """Whether the platform is a hub."""
+        return self._platforms.get(folded(platform), {}).get("hub") is True
+
+    def has_platform(self, platform: str) -> bool:
+        """Whether the platform is configured."""
+        return folded(platform) in self._platforms
+
+    def platform_for(self, party: str) -> str | None:
+        """The first platform that acts for the party, or None."""
+        for item in self._platforms.values():
+            if folded(party) in {folded(each) for each in item.get("parties") or []}:
+                return str(item["name"])
+        return None
+
+    def operators_of(self, platform: str) -> list[str]:
+        """The operators for which the platform acts, as configured and in that order."""
+        parties = self.parties_of(platform)
+        return [party for key, party in self.operators.items() if key in parties]
+
+    def spelled(self, party: str) -> str | None:
+        """The party as answers write it, or None if it is not configured."""
+        key = folded(party)
+        return self.operators.get(key) or self.providers.get(key)
+
+    def zone(self, operator: str) -> str:
+        """The operator's zone."""
+        return str(self._zones[folded(operator)])
+
+    def hold(self, provider: str, currency: str) -> str:
+        """The amount of a hold of the provider in the currency."""
+        return written(self._holds.get((folded(provider), currency), SMALLEST_HOLD))

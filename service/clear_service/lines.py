@@ -1,0 +1,124 @@
+"""Request lines: those that the service makes, and those that a sender gives in bulk.
+
+The platform of a line is always that of the sender's token.
+"""
+
+from __future__ import annotations
+
+import re
+from collections.abc import Iterator, Sequence
+
+from clear_service.json_text import NotJson, object_of, text_of
+from clear_service.settings import LONGEST_LINE
+
+
+COMMAND = re.compile(rb'"do"\s*:\s*"([a-z_]{1,20})"')
+COMMANDS = frozenset(
+    "put_tariff put_token authorize release post close settle exposure find statement configure".split()
+)
+
+# A line that changes the configuration has the command's name, plain or with one of its letters as an escape of JSON.
+LONG = (b"configure", b"\\u006", b"\\u007")
+
+
+class LineError(Exception):
+    """A line that the service does not send to the house."""
+
+    def __init__(self, status: int, message: str) -> None:
+        super().__init__(message)
+        self.status = status
+        self.message = message
+
+
+def command_of(line: bytes) -> str:
+    """The command of the line for a figure, by the first text that looks as its member `do`; `other` if it is no command."""
+    found = COMMAND.search(line)
+    command = found[1].decode() if found else ""
+    return command if command in COMMANDS else "other"
+
+
+def may_take_long(line: bytes) -> bool:
+    """Whether the line may change the configuration, which takes the house as long as all its lines did."""
+    return any(part in line for part in LONG)
+
+
+def in_one_line(body: bytes) -> bytes:
+    """The JSON value on one line. In JSON, a newline can only be white space between tokens."""
+    return body.strip(b" \t\r\n").replace(b"\n", b" ")
+
+
+def request_line(
+    platform: str, do: str, members: Sequence[tuple[str, bytes]], request_id: str | None = None
+) -> bytes:
+    """A request line of the platform with these members, whose values are JSON.
+
+    Raises LineError if it is longer than a line may be.
+    """
+    parts = [b'{"platform":', text_of(platform)]
+    if request_id is not None:
+        parts += [b',"request_id":', text_of(request_id)]
+    parts += [b',"do":', text_of(do)]
+    for name, value in members:
+        parts += [b",", text_of(name), b":", value]
+    line = b"".join(parts) + b"}"
+    if len(line) > LONGEST_LINE:
+        raise LineError(413, f"the line is longer than {LONGEST_LINE} bytes")
+    return line
+
+
+def folded(text: str) -> str:
+    """The text for comparisons that ignore the case of ASCII letters."""
+    return text.lower() if text.isascii() else "".join(c.lower() if c.isascii() else c for c in text)
+
+
+class BulkLines:
+    """The lines of a body, each checked to be of one platform."""
+
+    def __init__(self, platform: str) -> None:
+        self._platform = platform
+        self._folded = folded(platform)
+        self._name = b'"platform":' + text_of(platform)
+        self._beginning = b"{" + self._name + b","
+
+    def read(self, body: bytes, most: int) -> list[bytes]:
+        """The lines of the body, at most `most`. A line without a platform gets the sender's.
+
+        Raises LineError for the first line that is too long, is no JSON object, or names another platform.
+        """
+        lines = body.split(b"\n")
+        if not lines[-1]:
+            lines.pop()
+        if len(lines) > most:
+            raise LineError(413, f"more than {most} lines")
+        return list(self._checked(lines))
+
+    def _checked(self, lines: list[bytes]) -> Iterator[bytes]:
+        for number, line in enumerate(lines, 1):
+            if not self._is_plainly_ours(line):
+                line = self._ours(number, line)
+            if len(line) > LONGEST_LINE:
+                raise LineError(413, f"line {number} is longer than {LONGEST_LINE} bytes")
+            yield line
+
+    def _is_plainly_ours(self, line: bytes) -> bool:
+        """Whether the line begins with the sender's platform and has no other member of that name, without reading it as JSON.
+
+        A key can only be spelled otherwise with an escape of the form \\u.
+        """
+        return line.startswith(self._beginning) and line.count(b'"platform"') == 1 and b"\\u" not in line
+
+    def _ours(self, number: int, line: bytes) -> bytes:
+        try:
+            members = object_of(line)
+        except NotJson:
+            raise LineError(400, f"line {number} is no JSON object") from None
+        if "platform" not in members:
+            return self._with_platform(line, bool(members))
+        named = members["platform"]
+        if not isinstance(named, str) or folded(named) != self._folded:
+            raise LineError(403, f"line {number} names another platform than that of the token")
+        return line
+
+    def _with_platform(self, line: bytes, has_members: bool) -> bytes:
+        rest = line.lstrip(b" \t\r")[1:]
+        return b"{" + self._name + (b"," if has_members else b"") + rest

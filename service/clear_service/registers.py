@@ -1,0 +1,276 @@
+"""What the service keeps of requests and answers, in order: CDRs, debts, open holds, tokens, periods, the configuration.
+
+A register decides nothing: each entry is there because the house answered that it is. It is made anew from the lines of
+the store at a start. An answer of the house adds an event if its `at` is the number of events so far; an answer with a
+smaller `at` is that of a line that came again under its request id, and changes nothing.
+"""
+
+from __future__ import annotations
+
+import time
+from collections import Counter, deque
+from collections.abc import Callable, Iterable
+from dataclasses import dataclass
+from typing import Any
+
+from clear_service.answers import BEGINNING, AnswerParts
+from clear_service.configuration import Configuration, ten_thousandths
+from clear_service.json_text import NotJson, object_of
+from clear_service.lines import command_of, folded
+from clear_service.owed import Debtor, Owed
+
+EVENTS = frozenset(("Stored", "ALLOWED", "Released", "Accepted", "Closed", "Settled"))
+KEPT_REFUSALS = 10_000
+DECLINED = ("BLOCKED", "NO_CREDIT")
+
+
+@dataclass(slots=True)
+class CdrEntry:
+    """An accepted CDR or Credit CDR."""
+
+    number: int
+    operator: str
+    provider: str
+    id: str
+    session: str
+    start: str
+    end: str
+    energy: str
+    currency: str
+    amount: str
+    period: int
+    credits: str
+    credited: bool = False
+
+    @property
+    def debtor(self) -> Debtor:
+        """Who owes it."""
+        return Debtor(folded(self.provider), self.currency, self.period)
+
+
+@dataclass(slots=True)
+class Hold:
+    """An open hold. `since` is when the house answered, or None if that is not known."""
+
+    reference: str
+    operator: str
+    provider: str
+    currency: str
+    amount: str
+    since: float | None
+
+
+@dataclass(slots=True)
+class Period:
+    """A closed period with the positions of its close."""
+
+    period: int
+    positions: list[dict[str, str]]
+
+
+@dataclass(slots=True)
+class RefusedRequest:
+    """A refusal, or a declined authorisation, that the house answered while the service ran."""
+
+    time: float
+    platform: str
+    name: str
+
+
+@dataclass(slots=True)
+class Followed:
+    """A line with its answer."""
+
+    number: int
+    line: bytes
+    answer: bytes
+    parts: AnswerParts
+    time: float | None
+
+
+def party(members: dict[str, Any]) -> str:
+    """The party of an OCPI object, as `NL/CPA`."""
+    return f"{members['country_code']}/{members['party_id']}"
+
+
+class CdrRegister:
+    """CDRs by operator and id, and by period and party."""
+
+    def __init__(self) -> None:
+        self._by_id: dict[tuple[str, str], CdrEntry] = {}
+        self._by_party: dict[tuple[int, str], list[CdrEntry]] = {}
+
+    def __len__(self) -> int:
+        return len(self._by_id)
+
+    def add(self, entry: CdrEntry) -> None:
+        """Adds an accepted CDR; a Credit CDR marks the CDR that it credits."""
+        self._by_id[(folded(entry.operator), folded(entry.id))] = entry
+        for each in {folded(entry.operator), folded(entry.provider)}:
+            self._by_party.setdefault((entry.period, each), []).append(entry)
+        if entry.credits:
+            original = self.find(entry.operator, entry.credits)
+            if original is not None:
+                original.credited = True
+
+    def entries(self) -> Iterable[CdrEntry]:
+        """All of them, in the order of the events."""
+        return self._by_id.values()
+
+    def find(self, operator: str, cdr_id: str) -> CdrEntry | None:
+        """The CDR of this id, or None."""
+        return self._by_id.get((folded(operator), folded(cdr_id)))
+
+    def of(self, period: int, of_party: str) -> list[CdrEntry]:
+        """The CDRs of the period in which the party is operator or provider, in the order of the events."""
+        return self._by_party.get((period, folded(of_party)), [])
+
+
+class Registers:
+    """All registers, and the dispatch of answers to them."""
+
+    def __init__(self) -> None:
+        self.configuration: Configuration | None = None
+        self.cdrs = CdrRegister()
+        self.owed = Owed()
+        self.holds: dict[str, Hold] = {}
+        self.tokens: dict[tuple[str, str, str], int] = {}
+        self.periods: list[Period] = []
+        self.refusals: deque[RefusedRequest] = deque(maxlen=KEPT_REFUSALS)
+        self.answers: Counter[str] = Counter()
+        self.commands: Counter[tuple[str, str]] = Counter()
+        self.events = 0
+        self.are_complete = False
+        self.lines = 0
+        self.changes = 0
+        self._changed_by: set[tuple[str, str]] = set()
+        self._follow: dict[str, Callable[[Followed], None]] = {
+            "Accepted": self._cdr,
+            "ALLOWED": self._hold,
+            "Released": self._released,
+            "Stored": self._stored,
+            "Closed": self._closed,
+            "Settled": self._settled,
+            "Configured": self._configured,
+        }
+
+    def begin(self, configuration: dict[str, Any]) -> None:
+        """The configuration under which the house begins."""
+        self.configuration = Configuration(configuration)
+
+    @property
+    def in_force(self) -> Configuration:
+        """The configuration in force; there has to be one."""
+        assert self.configuration is not None
+        return self.configuration
+
+    def fold(self, number: int, line: bytes, answer: bytes, answered: float | None) -> None:
+        """Takes the next line and its answer."""
+        self.lines = number
+        parts = AnswerParts(answer)
+        name = parts.name
+        self.answers[name] += 1
+        self.commands[command_of(line), name] += 1
+        if name in EVENTS:
+            if parts.at < self.events:
+                return
+            self.events += 1
+        elif not answer.startswith(BEGINNING) or name in DECLINED:
+            self._refused(line, name, answered)
+            return
+        follow = self._follow.get(name)
+        if follow is not None:
+            follow(Followed(number, line, answer, parts, answered))
+
+    def _cdr(self, followed: Followed) -> None:
+        cdr = object_of(followed.line)["cdr"]
+        operator, provider = party(cdr), party(cdr["cdr_token"])
+        entry = CdrEntry(
+            followed.number,
+            self.in_force.spelled(operator) or operator,
+            self.in_force.spelled(provider) or provider,
+            cdr["id"],
+            _plain(cdr.get("session_id")),
+            cdr["start_date_time"],
+            cdr["end_date_time"],
+            cdr["total_energy"],
+            cdr["currency"],
+            followed.parts.text,
+            followed.parts.period,
+            cdr["credit_reference_id"] if cdr.get("credit") is True else "",
+        )
+        self.cdrs.add(entry)
+        self._owe(entry)
+        if cdr.get("credit") is not True:
+            self._use_up(cdr, operator, provider)
+
+    def _owe(self, entry: CdrEntry) -> None:
+        """A CDR is owed from now on; a Credit CDR ends the debt of the CDR that it credits."""
+        if not entry.credits:
+            self.owed.add(entry.debtor, ten_thousandths(entry.amount))
+            return
+        original = self.cdrs.find(entry.operator, entry.credits)
+        if original is not None:
+            self.owed.credit(original.debtor, ten_thousandths(original.amount))
+
+    def _use_up(self, cdr: dict[str, Any], operator: str, provider: str) -> None:
+        """A CDR ends the open hold of its operator, provider and currency that it names."""
+        hold = self.holds.get(folded(_plain(cdr.get("authorization_reference"))))
+        if hold is not None and hold.currency == cdr["currency"]:
+            if folded(hold.operator) == folded(operator) and folded(hold.provider) == folded(provider):
+                del self.holds[folded(hold.reference)]
+
+    def _hold(self, followed: Followed) -> None:
+        asked = object_of(followed.line)
+        reference = followed.parts.text
+        self.holds[folded(reference)] = Hold(
+            reference,
+            self.in_force.spelled(asked["operator"]) or asked["operator"],
+            self.in_force.spelled(asked["provider"]) or asked["provider"],
+            asked["currency"],
+            self.in_force.hold(asked["provider"], asked["currency"]),
+            followed.time,
+        )
+
+    def _released(self, followed: Followed) -> None:
+        self.holds.pop(folded(object_of(followed.line)["reference"]), None)
+
+    def _stored(self, followed: Followed) -> None:
+        if b"put_token" not in followed.line:
+            return
+        members = object_of(followed.line)
+        if members["do"] == "put_token":
+            token = members["token"]
+            self.tokens[(folded(party(token)), folded(token["uid"]), token["type"])] = followed.number
+
+    def _closed(self, followed: Followed) -> None:
+        answer = object_of(followed.answer)
+        self.periods.append(Period(int(answer["period"]), answer["positions"]))
+
+    def _settled(self, followed: Followed) -> None:
+        members = object_of(followed.line)
+        self.owed.settle(Debtor(folded(members["provider"]), members["currency"], int(members["period"])))
+
+    def _configured(self, followed: Followed) -> None:
+        """A change adds no event, so one that came again is known by its request id."""
+        members = object_of(followed.line)
+        request_id = members.get("request_id")
+        if request_id is not None:
+            key = (folded(members["platform"]), request_id)
+            if key in self._changed_by:
+                return
+            self._changed_by.add(key)
+        self.changes += 1
+        self.configuration = Configuration(members["configuration"])
+
+    def _refused(self, line: bytes, name: str, answered: float | None) -> None:
+        try:
+            platform = _plain(object_of(line).get("platform"))
+        except NotJson:
+            platform = ""
+        if answered is not None and answered > time.time() - 86_400:
+            self.refusals.append(RefusedRequest(answered, platform, name))
+
+
+def _plain(value: object) -> str:
+    return value if isinstance(value, str) else ""

@@ -1,0 +1,184 @@
+"""Parts of the service alone: lines and their platforms, texts of JSON, tokens, rates, the store's file."""
+
+from __future__ import annotations
+
+import json
+import subprocess
+from pathlib import Path
+
+import pytest
+from clear_service.configuration import Configuration
+from clear_service.json_text import NotJson, member_text, object_of
+from clear_service.lines import BulkLines, LineError, in_one_line, may_take_long, request_line
+from clear_service.senders import Rates, Sender, Senders, TokenFile
+from clear_service.settings import SettingError, settings_of
+from clear_service.store_file import StoreFile, TimeMarks
+from hypothesis import given, settings
+from hypothesis import strategies as st
+
+from examples import CONFIG, CONFIGURATION, TOKEN, line
+
+JSON = st.recursive(
+    st.none()
+    | st.booleans()
+    | st.integers()
+    | st.floats(allow_nan=False, allow_infinity=False)
+    | st.text(max_size=5),
+    lambda inner: st.lists(inner, max_size=3) | st.dictionaries(st.text(max_size=4), inner, max_size=3),
+    max_leaves=8,
+)
+KEYS = st.sampled_from(["platform", "plat\\u0066orm", "Platform", "do", "x"])
+NAMES = st.sampled_from(["emp", "EMP", "hub", "e\\u006dp", "emp ", ""])
+SPACES = st.sampled_from(["", " ", "\t", "\r"])
+
+
+@st.composite
+def objects(draw: st.DrawFn) -> str:
+    """Objects with members named and spelled in many ways, some of them named `platform`."""
+    members = []
+    for _ in range(draw(st.integers(0, 4))):
+        value = draw(st.one_of(NAMES.map(lambda it: f'"{it}"'), JSON.map(json.dumps)))
+        members.append(f'{draw(SPACES)}"{draw(KEYS)}"{draw(SPACES)}:{draw(SPACES)}{value}')
+    return draw(SPACES) + "{" + ",".join(members) + draw(SPACES) + "}" + draw(SPACES)
+
+
+@settings(max_examples=1500, deadline=None)
+@given(objects())
+def test_a_line_that_is_taken_is_of_the_platform(text: str) -> None:
+    try:
+        (taken,) = BulkLines("emp").read(text.encode(), 1)
+    except LineError as error:
+        assert error.status == 403
+        assert json.loads(text).get("platform", "emp") not in ("emp", "EMP")
+        return
+    members = json.loads(taken)
+    assert members["platform"] in ("emp", "EMP")
+    assert {**members, "platform": 0} == {**json.loads(text), "platform": 0}
+
+
+@settings(max_examples=500, deadline=None)
+@given(st.binary(max_size=40) | st.text(alphabet='{}[]",:\\ platformemhub', max_size=40).map(str.encode))
+def test_bytes_that_are_taken_are_an_object_or_begin_plainly(body: bytes) -> None:
+    try:
+        taken = BulkLines("emp").read(body, 100)
+    except LineError as error:
+        assert error.status in (400, 403)
+        return
+    for each in taken:
+        assert each.startswith(b'{"platform":"emp"') or object_of(each)["platform"].lower() == "emp"
+
+
+@settings(max_examples=500, deadline=None)
+@given(JSON, st.sampled_from([None, 1, 2]))
+def test_an_object_inside_a_line(value: object, indent: int | None) -> None:
+    body = json.dumps({"a": value}, indent=indent, ensure_ascii=False).encode("utf-8", "surrogatepass")
+    try:
+        object_of(body)
+    except NotJson:
+        return
+    made = request_line("emp", "put_token", [("token", in_one_line(body))], 'r"\n')
+    assert b"\n" not in made
+    members = json.loads(made)
+    assert members == {"platform": "emp", "request_id": 'r"\n', "do": "put_token", "token": {"a": value}}
+    assert json.loads(member_text(made, "token")) == {"a": value}
+    assert member_text(made, "token") == in_one_line(body)
+
+
+@pytest.mark.parametrize(
+    "body", [b"{} {}", b'{"a":1},"platform":"hub"', b'{"a":1}}', b"\xef\xbb\xbf{}", b"{'a':1}"]
+)
+def test_what_is_no_object(body: bytes) -> None:
+    with pytest.raises(NotJson):
+        object_of(body)
+
+
+def test_a_number_of_many_digits_is_read() -> None:
+    text = b'{"platform":"hub","x":' + b"9" * 5000 + b"}"
+    assert object_of(text)["platform"] == "hub"
+    with pytest.raises(LineError):
+        BulkLines("emp").read(text, 1)
+    with pytest.raises(LineError):
+        BulkLines("emp").read(b'{"x":' + b"[" * 100_000 + b"]" * 100_000 + b',"platform":"hub"}', 1)
+
+
+def test_a_line_that_may_take_long() -> None:
+    lines = ('{"do":"configure"}', '{"do":"\\u0063onfigure"}', '{"do":"configu\\u0072e"}')
+    assert all(may_take_long(each.encode()) for each in lines)
+    assert not may_take_long('{"do":"post","x":"M\\u00fcller"}'.encode())
+
+
+def test_the_last_of_equal_members() -> None:
+    assert member_text(b'{"a":1, "b" : [1, 2.50] ,"a":{"x":1.0}}', "a") == b'{"x":1.0}'
+    assert member_text(b'{"a":1, "b" : [1, 2.50] }', "b") == b"[1, 2.50]"
+    with pytest.raises(KeyError):
+        member_text(b"{}", "a")
+
+
+def test_tokens(tmp_path: Path) -> None:
+    path = str(tmp_path / "tokens")
+    file = TokenFile(path)
+    tokens = {file.add("a platform"): "a platform", file.add("hub"): "hub"}
+    senders = Senders(path)
+    for token, platform in tokens.items():
+        found = senders.of("Token " + token)
+        assert found is not None and found.platform == platform
+    assert senders.of("Token " + "x" * 43) is None
+    assert senders.of("Token é") is None
+    assert [row.platform for row in file.rows()] == ["a platform", "hub"]
+    assert file.remove(file.rows()[0].name) == 1
+    assert [row.platform for row in file.rows()] == ["hub"]
+
+
+def test_rates() -> None:
+    rates = Rates(3)
+    one, other = Sender("a", "1"), Sender("a", "2")
+    assert [rates.take(one) for _ in range(4)] == [True, True, True, False]
+    assert rates.take(other)
+
+
+def test_settings() -> None:
+    made = settings_of("c", "s", {"CLEAR": "p", "CLEAR_PORT": "1", "CLEAR_URL": "u"})
+    assert (made.program, made.port, made.url, made.is_postgres) == ("p", 1, "u", False)
+    assert settings_of("c", "postgresql:///x", {}).is_postgres
+    for text in ("", "x", "-1", "1.0", "٣"):
+        with pytest.raises(SettingError):
+            settings_of("c", "s", {"CLEAR_PORT": text})
+
+
+def test_a_configuration() -> None:
+    made = Configuration(CONFIGURATION)
+    assert made.platform_for("nl/cpb") == "cpb" and made.platform_for("NL/XXX") is None
+    assert made.is_hub("HUB") and not made.is_hub("cpo") and not made.is_hub("none")
+    assert made.operators_of("both") == ["NL/CPA", "NL/CPB"]
+    assert made.hold("nl/msa", "EUR") == "20.0000" and made.hold("NL/MSA", "SEK") == "0.0001"
+
+
+def test_the_file_of_a_store(tmp_path: Path) -> None:
+    config = tmp_path / "config.json"
+    config.write_text(json.dumps(CONFIGURATION, indent=1))
+    store = str(tmp_path / "store")
+    lines = [line("put_token", platform="emp", token=TOKEN), "", "no JSON", line("find", platform="cpo")]
+    words = [settings_of("", "").program, "keep", str(config), store]
+    subprocess.run(
+        words, input="".join(it + "\n" for it in lines).encode(), stdout=subprocess.DEVNULL, check=True
+    )
+    file = StoreFile(store)
+    file.open()
+    assert file.record["config"] == json.loads(CONFIG)
+    assert [file.read_next().decode() for _ in lines] == lines
+    assert [file.line(number).decode() for number in range(1, len(lines) + 1)] == lines
+    subprocess.run([*words, "--from", "4"], input=b"one more\n", stdout=subprocess.DEVNULL, check=True)
+    assert file.passed(b"one more") == 5 and file.line(5) == b"one more"
+    file.close()
+
+
+def test_times(tmp_path: Path) -> None:
+    marks = TimeMarks(str(tmp_path))
+    marks.open()
+    assert marks.of(1) is None
+    now = marks.mark(3)
+    marks.close()
+    again = TimeMarks(str(tmp_path))
+    again.open()
+    assert again.of(1) is None and again.of(3) == again.of(4) == int(now)
+    again.close()
