@@ -2,8 +2,8 @@
 
    embedded_calls codes CONFIG      makes calls that are answered by each code but want of memory, prints those that are answered
                                     otherwise than is meant, and ends with status 0 where none is
-   embedded_calls again CONFIG      answers the lines of standard input into a buffer of 40 bytes, and asks again for each answer
-                                    that is kept; a call that is refused memory is made once more */
+   embedded_calls WORD CONFIG       with another word: answers the lines of standard input into a buffer of 40 bytes, and asks again
+                                    for each answer that is kept; a call that is refused memory is made once more */
 #include "clear.h"
 
 #include <fcntl.h>
@@ -13,9 +13,40 @@
 #define MOST_LINE 1048576
 
 static unsigned char config[MOST_LINE + 1], input[1 << 24], buffer[1 << 24], small[40], longest[MOST_LINE + 1];
-static const char token[] = "{\"platform\":\"emp\",\"do\":\"exposure\",\"provider\":\"NL/MSA\",\"currency\":\"EUR\"}";
+static const char exposure_line[] = "{\"platform\":\"emp\",\"do\":\"exposure\",\"provider\":\"NL/MSA\",\"currency\":\"EUR\"}";
 static const char exposure[] =
     "{\"status_code\":1000,\"answer\":\"Exposure\",\"at\":0,\"holds\":\"0.0000\",\"debts\":\"0.0000\",\"limit\":\"100.0000\"}\n";
+
+#define ZONE "\"zone\":\"CET-1CEST,M3.5.0,M10.5.0/3\""
+/* A line of the hub that changes the provider and its limit in the configuration examples/config.json. */
+#define CONFIGURE(members, provider, limit) \
+    "{\"platform\":\"hub\"," members "\"do\":\"configure\",\"configuration\":{\"version\":2,\"tolerance\":100,\"currencies\":[\"EUR\"]," \
+    "\"operators\":[{\"party\":\"NL/CPA\"," ZONE "},{\"party\":\"NL/CPB\"," ZONE "}],\"providers\":[{\"party\":\"" provider "\"," \
+    "\"limits\":[{\"currency\":\"EUR\",\"limit\":" limit ",\"hold\":200000}]}],\"platforms\":[" \
+    "{\"name\":\"cpo\",\"parties\":[\"NL/CPA\",\"NL/CPB\"]},{\"name\":\"emp\",\"parties\":[\"" provider "\"]}," \
+    "{\"name\":\"hub\",\"parties\":[],\"hub\":true}]}}"
+#define AUTHORIZE(id) \
+    "{\"platform\":\"cpo\",\"request_id\":\"" id "\",\"do\":\"authorize\",\"operator\":\"NL/CPA\",\"provider\":\"NL/MSA\"," \
+    "\"uid\":\"U1\",\"currency\":\"EUR\"}"
+#define EXPOSURE(at, holds, limit) \
+    "{\"status_code\":1000,\"answer\":\"Exposure\",\"at\":" at ",\"holds\":\"" holds "\",\"debts\":\"0.0000\",\"limit\":\"" limit "\"}\n"
+static const char stored_token[] =
+    "{\"platform\":\"emp\",\"request_id\":\"t\",\"do\":\"put_token\",\"token\":{\"country_code\":\"NL\",\"party_id\":\"MSA\","
+    "\"uid\":\"U1\",\"type\":\"RFID\",\"contract_id\":\"C1\",\"valid\":true,\"whitelist\":\"NEVER\","
+    "\"last_updated\":\"2024-06-01T00:00:00Z\"}}";
+static const char stored[] = "{\"status_code\":1000,\"answer\":\"Stored\",\"at\":0}\n";
+static const char raised[] = CONFIGURE("\"request_id\":\"c\",", "NL/MSA", "2000000");
+static const char lowered[] = CONFIGURE("\"request_id\":\"c\",", "NL/MSA", "300000");
+static const char lowered_later[] = CONFIGURE("\"request_id\":\"d\",", "NL/MSA", "300000");
+static const char without_provider[] = CONFIGURE("", "NL/MSB", "2000000");
+static const char with_newline[] = CONFIGURE("\n", "NL/MSA", "300000");
+static const char configured[] = "{\"status_code\":1000,\"answer\":\"Configured\",\"at\":1}\n";
+static const char configured_later[] = "{\"status_code\":1000,\"answer\":\"Configured\",\"at\":2}\n";
+static const char otherwise[] =
+    "{\"status_code\":2000,\"refusal\":\"ComesOutOtherwise\",\"number\":29,\"at\":1,\"event\":0,\"kind\":\"Token\"}\n";
+static const char id_used[] = "{\"status_code\":2000,\"refusal\":\"RequestIdUsed\",\"number\":30}\n";
+static const char allowed[] = "{\"status_code\":1000,\"answer\":\"ALLOWED\",\"at\":1,\"authorization_reference\":\"NLMSA-1\"}\n";
+static const char no_credit[] = "{\"status_code\":1000,\"answer\":\"NO_CREDIT\",\"at\":2}\n";
 static const char no_json[] = "{\"status_code\":2001,\"refusal\":\"Syntax\",\"number\":1}\n";
 static int failed;
 
@@ -65,10 +96,10 @@ static void null_codes(struct clear_house *house)
 {
     size_t length = 7;
 
-    IS(clear_answer(NULL, bytes_of(token), strlen(token), buffer, sizeof buffer, &length) == CLEAR_NULL);
+    IS(clear_answer(NULL, bytes_of(exposure_line), strlen(exposure_line), buffer, sizeof buffer, &length) == CLEAR_NULL);
     IS(clear_answer(house, NULL, 0, buffer, sizeof buffer, &length) == CLEAR_NULL);
-    IS(clear_answer(house, bytes_of(token), strlen(token), NULL, 1, &length) == CLEAR_NULL);
-    IS(clear_answer(house, bytes_of(token), strlen(token), buffer, sizeof buffer, NULL) == CLEAR_NULL);
+    IS(clear_answer(house, bytes_of(exposure_line), strlen(exposure_line), NULL, 1, &length) == CLEAR_NULL);
+    IS(clear_answer(house, bytes_of(exposure_line), strlen(exposure_line), buffer, sizeof buffer, NULL) == CLEAR_NULL);
     IS(clear_again(NULL, buffer, sizeof buffer, &length) == CLEAR_NULL);
     IS(clear_again(house, NULL, 1, &length) == CLEAR_NULL);
     IS(clear_again(house, buffer, sizeof buffer, NULL) == CLEAR_NULL);
@@ -95,26 +126,89 @@ static void kept_codes(struct clear_house *house)
 
     IS(clear_again(house, buffer, sizeof buffer, &length) == CLEAR_NOTHING_KEPT && length == 0);
     memset(buffer, '.', size + 2);
-    IS(clear_answer(house, bytes_of(token), strlen(token), NULL, 0, &length) == CLEAR_TOO_SMALL && length == size);
-    IS(clear_answer(house, bytes_of(token), strlen(token), buffer, size, &length) == CLEAR_KEPT && length == 0);
+    IS(clear_answer(house, bytes_of(exposure_line), strlen(exposure_line), NULL, 0, &length) == CLEAR_TOO_SMALL && length == size);
+    IS(clear_answer(house, bytes_of(exposure_line), strlen(exposure_line), buffer, size, &length) == CLEAR_KEPT && length == 0);
     IS(clear_answer(house, bytes_of("[\n]"), 3, buffer, size, &length) == CLEAR_KEPT && length == 0);
     IS(clear_again(house, buffer, size - 1, &length) == CLEAR_TOO_SMALL && length == size);
     IS(buffer[0] == '.' && buffer[size - 1] == '.');
     IS(clear_again(house, buffer, size, &length) == CLEAR_DONE && length == size);
     IS(memcmp(buffer, exposure, size) == 0 && buffer[size] == '.' && buffer[size + 1] == '.');
     IS(clear_again(house, buffer, size, &length) == CLEAR_NOTHING_KEPT && length == 0);
-    IS(clear_answer(house, bytes_of(token), strlen(token), buffer, size, &length) == CLEAR_DONE && length == size);
+    IS(clear_answer(house, bytes_of(exposure_line), strlen(exposure_line), buffer, size, &length) == CLEAR_DONE && length == size);
 }
 
 static void closed_codes(struct clear_house *house)
 {
     size_t length = 7;
 
-    IS(clear_answer(house, bytes_of(token), strlen(token), buffer, sizeof buffer, &length) == CLEAR_CLOSED && length == 0);
+    IS(clear_answer(house, bytes_of(exposure_line), strlen(exposure_line), buffer, sizeof buffer, &length) == CLEAR_CLOSED && length == 0);
     length = 7;
     IS(clear_again(house, buffer, sizeof buffer, &length) == CLEAR_CLOSED && length == 0);
     clear_close(house);
     IS(!house->is_open);
+}
+
+/* Whether the buffer has this answer after a call. */
+static int has(const char *answer, size_t length)
+{
+    return length == strlen(answer) && memcmp(buffer, answer, length) == 0;
+}
+
+/* Whether a line gets this answer in one call. */
+static int gets_at_once(struct clear_house *house, const char *line, const char *answer)
+{
+    size_t length = 7;
+
+    memset(buffer, '.', strlen(answer));
+    return clear_answer(house, bytes_of(line), strlen(line), buffer, sizeof buffer, &length) == CLEAR_DONE && has(answer, length);
+}
+
+/* Whether a line gets this answer in two calls: the first has a buffer that is a byte too small, and no line is answered between them. */
+static int gets_later(struct clear_house *house, const char *line, const char *answer)
+{
+    size_t length = 7, size = strlen(answer);
+
+    if (clear_answer(house, bytes_of(line), strlen(line), buffer, size - 1, &length) != CLEAR_TOO_SMALL || length != size)
+        return 0;
+    if (clear_answer(house, bytes_of(lowered), strlen(lowered), buffer, sizeof buffer, &length) != CLEAR_KEPT || length != 0)
+        return 0;
+    return clear_again(house, buffer, size, &length) == CLEAR_DONE && has(answer, length);
+}
+
+/* Changes of the configuration of a house that has one token: taken, refused, repeated, and under an id that is used. */
+static void changes(struct clear_house *house)
+{
+    size_t length = 7;
+
+    IS(gets_at_once(house, exposure_line, EXPOSURE("1", "0.0000", "100.0000")));
+    IS(clear_answer(house, bytes_of(with_newline), strlen(with_newline), buffer, sizeof buffer, &length) == CLEAR_NO_LINE && length == 0);
+    IS(gets_at_once(house, exposure_line, EXPOSURE("1", "0.0000", "100.0000")));
+    IS(gets_at_once(house, raised, configured));
+    IS(gets_at_once(house, exposure_line, EXPOSURE("1", "0.0000", "200.0000")));
+    IS(gets_at_once(house, without_provider, otherwise));
+    IS(gets_later(house, without_provider, otherwise));
+    IS(gets_at_once(house, exposure_line, EXPOSURE("1", "0.0000", "200.0000")));
+    IS(gets_at_once(house, raised, configured));
+    IS(gets_at_once(house, lowered, id_used));
+    IS(gets_later(house, lowered, id_used));
+    IS(gets_at_once(house, exposure_line, EXPOSURE("1", "0.0000", "200.0000")));
+}
+
+/* Lines with request ids that come again, also after a change of the configuration: each has its first answer, and is done once. */
+static void retries(struct clear_house *house)
+{
+    IS(gets_later(house, AUTHORIZE("a"), allowed));
+    IS(gets_at_once(house, exposure_line, EXPOSURE("2", "20.0000", "200.0000")));
+    IS(gets_at_once(house, AUTHORIZE("a"), allowed));
+    IS(gets_later(house, AUTHORIZE("a"), allowed));
+    IS(gets_at_once(house, exposure_line, EXPOSURE("2", "20.0000", "200.0000")));
+    IS(gets_later(house, lowered_later, configured_later));
+    IS(gets_at_once(house, exposure_line, EXPOSURE("2", "20.0000", "30.0000")));
+    IS(gets_at_once(house, AUTHORIZE("b"), no_credit));
+    IS(gets_at_once(house, AUTHORIZE("a"), allowed));
+    IS(gets_later(house, raised, configured));
+    IS(gets_later(house, stored_token, stored));
+    IS(gets_at_once(house, exposure_line, EXPOSURE("2", "20.0000", "30.0000")));
 }
 
 static int codes(struct clear_house *house, size_t size)
@@ -126,11 +220,18 @@ static int codes(struct clear_house *house, size_t size)
     null_codes(house);
     line_codes(house);
     kept_codes(house);
-    IS(clear_answer(house, bytes_of(token), strlen(token), small, sizeof small, &length) == CLEAR_TOO_SMALL);
+    IS(clear_answer(house, bytes_of(exposure_line), strlen(exposure_line), small, sizeof small, &length) == CLEAR_TOO_SMALL);
     clear_close(house); /* with an answer that is kept */
     closed_codes(house);
     IS(clear_open(house, config, size) == CLEAR_DONE);
     kept_codes(house);
+    IS(gets_at_once(house, stored_token, stored));
+    changes(house);
+    retries(house);
+    clear_close(house);
+    IS(clear_open(house, config, size) == CLEAR_DONE); /* a house that is opened again remembers no line */
+    IS(gets_at_once(house, stored_token, stored));
+    IS(gets_at_once(house, exposure_line, EXPOSURE("1", "0.0000", "100.0000")));
     clear_close(house);
     return failed > 0;
 }

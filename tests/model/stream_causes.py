@@ -1,0 +1,82 @@
+"""Where a refused line of a store is at fault, and why, by docs/FORMATS.md alone: beside causes.py, the lines that only a stream has."""
+
+from __future__ import annotations
+
+from causes import EXPECTED, MISSING, OBJECT, UNFIT, Explainer, row, written
+from rules import Refused, fold, request_of
+from streams import Stream, request_id_of
+
+UNREAD = "missing, of a wrong kind or out of bounds"
+
+Row = tuple[str, str, str, str, str]
+
+
+class StreamExplainer(Explainer):
+    """The explanations of the lines of a stream, each under the configuration that is in force at the line."""
+
+    def __init__(self, house: Stream) -> None:
+        super().__init__(house)
+        self.known: dict[tuple[str, str], tuple[str, str]] = {}
+
+    def after(self, line: str) -> None:
+        """To be called when the stream has answered the line, and the line is explained."""
+        super().after(line)
+        self.known = dict(self.house.remembered)
+
+    def is_repeated(self, line: str) -> bool:
+        """Whether the line, the last one that was answered, was done before under its request id."""
+        try:
+            value = self.read(line)
+            given = request_id_of(value)
+            asked = (
+                self.house.change_of(value) if is_change(value) else request_of(line)
+            )
+        except (ValueError, Refused):
+            return False
+        first, _ = self.known.get((asked["platform"], given), (None, None))
+        return first == line
+
+    def row(self, line: str, answer: dict[str, str]) -> Row | None:
+        if answer.get("refusal") != "Field":
+            return super().row(line, answer)
+        value, field = self.read(line), answer["field"]
+        if field == "request_id":
+            found = written(value["request_id"])
+            return row(field, UNFIT, found, "a string of 1 to 64 bytes")
+        if is_change(value):
+            return self.of_change(value, field)
+        explained = super().row(line, answer)
+        if field == "do":
+            return (*explained[:3], explained[3] + " configure", explained[4])
+        return explained
+
+    def of_change(self, value: dict[str, object], field: str) -> Row:
+        expected = {"platform": EXPECTED[None]["platform"], "configuration": OBJECT}
+        if field in expected:
+            found = value.get(field, MISSING)
+            cause = "missing" if found is MISSING else UNFIT
+            return row(field, cause, written(found), expected[field])
+        if field == "platforms":
+            return row("configuration.platforms", "no hub")
+        return row(field, UNREAD)
+
+    def NotYours(self, v: dict[str, str], answer: dict[str, str]) -> Row:
+        if v["do"] != "configure":
+            return super().NotYours(v, answer)
+        names = [fold(p["name"]) for p in self.house.config["platforms"]]
+        cause = "no hub" if fold(v["platform"]) in names else "not configured"
+        return row("platform", cause, v["platform"])
+
+    def ComesOutOtherwise(self, _: object, answer: dict[str, str]) -> Row:
+        cause = "an event would come out otherwise"
+        return row("configuration", cause, answer["kind"], "", answer["event"])
+
+    def RequestIdUsed(self, v: dict[str, str], _: object) -> Row:
+        given = v["request_id"]
+        is_plain = given.isascii() and given.isprintable()
+        found = given if is_plain else written(given)
+        return row("request_id", "given to another line", found)
+
+
+def is_change(value: object) -> bool:
+    return isinstance(value, dict) and value.get("do") == "configure"
