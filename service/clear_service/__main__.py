@@ -1,4 +1,4 @@
-"""The command lines of the service: `python3 -m clear_service CONFIG STORE`, and `tokens ..`."""
+"""The command line of service/start: `python3 -m clear_service CONFIG STORE`."""
 
 from __future__ import annotations
 
@@ -10,11 +10,9 @@ import sys
 import uvicorn
 
 from clear_service.app import create_app
-from clear_service.senders import TokenFile
 from clear_service.settings import SettingError, Settings, settings_of
 
 USAGE = "usage: service/start CONFIG STORE"
-TOKENS_USAGE = "usage: service/tokens add PLATFORM | list | remove PLATFORM-OR-NAME"
 KEEP_ALIVE = 75  # seconds
 COLLECTED = (50_000, 20, 100)  # the registers are many objects that stay, so the collector runs more rarely
 
@@ -37,29 +35,10 @@ def serve(settings: Settings) -> None:
     uvicorn.Server(config).run()
 
 
-def tokens(words: list[str], path: str) -> int:
-    """Adds, lists or removes tokens."""
-    file = TokenFile(path)
-    match words:
-        case ["add", platform] if 0 < len(platform) <= 36 and platform.isascii() and platform.isprintable():
-            print(file.add(platform))
-        case ["list"]:
-            for row in file.rows():
-                print(row.name, row.made, row.platform)
-        case ["remove", name]:
-            print(f"{file.remove(name)} removed")
-        case _:
-            print(TOKENS_USAGE, file=sys.stderr)
-            return 2
-    return 0
-
-
 def main(words: list[str]) -> int:
     """Runs the command line; returns the exit status."""
     logging.basicConfig(level=logging.INFO, format="%(asctime)s %(levelname)s %(message)s", stream=sys.stderr)
     try:
-        if words[:1] == ["tokens"]:
-            return tokens(words[1:], settings_of("", "").tokens)
         if len(words) != 2 or words[0].startswith("-"):
             print(USAGE, file=sys.stderr)
             return 2

@@ -6,7 +6,6 @@ This is an ASGI application around another one, which finds a `Call` under `clea
 from __future__ import annotations
 
 import asyncio
-import json
 import sys
 import time
 from collections.abc import Awaitable, Callable, MutableMapping
@@ -132,7 +131,7 @@ class Access:
             "request_id": call.request_id,
             "correlation_id": call.header("x-correlation-id"),
         }
-        sys.stdout.write(json.dumps(line, separators=(",", ":")) + "\n")
+        sys.stdout.write(text_of(line).decode() + "\n")
         sys.stdout.flush()
 
 

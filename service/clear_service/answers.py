@@ -63,36 +63,22 @@ BY_NUMBER = {row.number: row for row in REFUSALS}
 
 def name_of(line: bytes) -> str:
     """The name of the answer or the refusal on the line."""
-    return line.split(b'"', 6)[5].decode()
+    return line.split(b'"', NAME + 1)[NAME].decode()
 
 
-class AnswerParts:
-    """The first members of an answer line, whose bytes docs/FORMATS.md states: found by its quotes, without reading JSON."""
+# The first members of an answer line, by their places between its quotes: docs/FORMATS.md states these bytes. TEXT is the member after
+# `at` if that is a text, an amount or a reference, and PERIOD the number after it. A number has a colon before it and a mark after it.
+NAME, AT, TEXT, PERIOD = 5, 8, 11, 14
 
-    __slots__ = ("_parts",)
 
-    def __init__(self, line: bytes) -> None:
-        self._parts = line.split(b'"', 15)
+def parts_of(line: bytes) -> list[bytes]:
+    """The answer line, cut at its quotes as far as the members above go."""
+    return line.split(b'"', PERIOD + 1)
 
-    @property
-    def name(self) -> str:
-        """The name of the answer or the refusal."""
-        return self._parts[5].decode()
 
-    @property
-    def at(self) -> int:
-        """The number of events before the answer, which is no refusal."""
-        return int(self._parts[8].strip(b":,}"))
-
-    @property
-    def text(self) -> str:
-        """The member after `at`, which is a text: an amount or a reference."""
-        return self._parts[11].decode()
-
-    @property
-    def period(self) -> int:
-        """The member after that, which is a number."""
-        return int(self._parts[14].strip(b":}"))
+def number_of(part: bytes) -> int:
+    """The number in such a part."""
+    return int(part[1:-1])
 
 
 @dataclass(frozen=True)
@@ -114,7 +100,7 @@ class Answer:
     @property
     def at(self) -> int:
         """The number of events before the answer, which is no refusal."""
-        return AnswerParts(self.line).at
+        return number_of(parts_of(self.line)[AT])
 
     @cached_property
     def members(self) -> dict[str, Any]:

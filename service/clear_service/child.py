@@ -4,12 +4,17 @@ from __future__ import annotations
 
 import asyncio
 import contextlib
+import fcntl
+import os
 import tempfile
+from asyncio import StreamWriter
+from asyncio.streams import FlowControlMixin
 from asyncio.subprocess import PIPE, Process
 from collections import deque
 from collections.abc import AsyncIterator, Sequence
 
 PIECE = 1 << 18
+PIPE_BYTES = 1 << 20  # as many as the program takes at once, so that few syncs are for many lines
 
 
 class ChildEnded(Exception):
@@ -19,10 +24,10 @@ class ChildEnded(Exception):
 class Child:
     """A started process. Its standard error is read all the time, and its last lines are kept."""
 
-    def __init__(self, process: Process) -> None:
-        assert process.stdin is not None and process.stdout is not None and process.stderr is not None
-        self._process = process
-        self._input, self._output, self._errors = process.stdin, process.stdout, process.stderr
+    def __init__(self, process: Process, writer: StreamWriter) -> None:
+        assert process.stdout is not None and process.stderr is not None
+        self._process, self._input = process, writer
+        self._output, self._errors = process.stdout, process.stderr
         self._rest = b""
         self._said: deque[str] = deque(maxlen=5)
         self._listener = asyncio.create_task(self._listen())
@@ -30,8 +35,19 @@ class Child:
     @classmethod
     async def start(cls, words: Sequence[str]) -> Child:
         """Starts the program. Raises OSError."""
-        process = await asyncio.create_subprocess_exec(*words, stdin=PIPE, stdout=PIPE, stderr=PIPE)
-        return cls(process)
+        reading, writing = os.pipe()
+        with contextlib.suppress(OSError):
+            fcntl.fcntl(writing, fcntl.F_SETPIPE_SZ, PIPE_BYTES)
+        try:
+            process = await asyncio.create_subprocess_exec(*words, stdin=reading, stdout=PIPE, stderr=PIPE)
+        except BaseException:
+            os.close(writing)
+            raise
+        finally:
+            os.close(reading)
+        loop = asyncio.get_running_loop()
+        transport, protocol = await loop.connect_write_pipe(FlowControlMixin, open(writing, "wb", 0))
+        return cls(process, StreamWriter(transport, protocol, None, loop))
 
     @property
     def pid(self) -> int:
@@ -42,10 +58,10 @@ class Child:
         while line := await self._errors.readline():
             self._said.append(line.decode(errors="replace").strip()[:500])
 
-    async def write(self, lines: Sequence[bytes]) -> None:
-        """Writes the lines. Raises ChildEnded."""
+    async def write(self, text: bytes) -> None:
+        """Writes lines, each with its newline. Raises ChildEnded."""
         try:
-            self._input.write(b"\n".join(lines) + b"\n")
+            self._input.write(text)
             await self._input.drain()
         except (OSError, RuntimeError):
             raise ChildEnded("the program ended") from None

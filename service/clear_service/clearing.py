@@ -109,7 +109,7 @@ async def post_lines(request: Request) -> Response:
     most = min(house.settings.bulk_lines, house.settings.queue_lines)
     lines = BulkLines(sender_of(request).platform).read(call_of(request).body, most)
     answers = await house.answers(lines)
-    return Response(b"".join(answer + b"\n" for answer in answers), media_type=LINES)
+    return Response(b"\n".join([*answers, b""]), media_type=LINES)
 
 
 @router.post(

@@ -2,11 +2,9 @@
 
 from __future__ import annotations
 
-from typing import Any
+from typing import Any, NamedTuple
 
 from clear_service.lines import folded
-
-SMALLEST_HOLD = 1  # ten-thousandths: the hold of a provider without a row for the currency
 
 
 def written(amount: int) -> str:
@@ -19,10 +17,33 @@ def ten_thousandths(amount: str) -> int:
     return int(amount.replace(".", ""))
 
 
+SMALLEST_HOLD = written(1)  # the hold of a provider without a row for the currency
+
+
+class Party(NamedTuple):
+    """A party as answers write it, and folded for comparisons."""
+
+    spelled: str
+    folded: str
+
+
+class Parties(dict[str, Party]):
+    """The parties of accepted lines by their texts. There are few texts, as each is that of a configured party in some letter case."""
+
+    def __init__(self, configured: dict[str, str]) -> None:
+        super().__init__()
+        self._configured = configured
+
+    def __missing__(self, text: str) -> Party:
+        key = folded(text)
+        self[text] = Party(self._configured.get(key, text), key)
+        return self[text]
+
+
 class Configuration:
     """A configuration that the program has accepted. Parties and names are compared ignoring letter case.
 
-    `limits` has the credit limit of a folded provider and a currency, in ten-thousandths.
+    `limits` has the credit limit of a folded provider and a currency, in ten-thousandths. `parties` has each party of an accepted line.
     """
 
     def __init__(self, members: dict[str, Any]) -> None:
@@ -31,7 +52,7 @@ class Configuration:
         self.providers = {folded(item["party"]): item["party"] for item in members["providers"]}
         self._zones = {folded(item["party"]): item["zone"] for item in members["operators"]}
         self._holds = {
-            (folded(item["party"]), row["currency"]): int(row["hold"])
+            (folded(item["party"]), row["currency"]): written(int(row["hold"]))
             for item in members["providers"]
             for row in item.get("limits") or []
         }
@@ -41,6 +62,7 @@ class Configuration:
             for row in item.get("limits") or []
         }
         self._platforms = {folded(item["name"]): item for item in members["platforms"]}
+        self.parties = Parties({**self.providers, **self.operators})
 
     def parties_of(self, platform: str) -> set[str]:
         """The folded parties for which the platform acts."""
@@ -77,5 +99,5 @@ class Configuration:
         return str(self._zones[folded(operator)])
 
     def hold(self, provider: str, currency: str) -> str:
-        """The amount of a hold of the provider in the currency."""
-        return written(self._holds.get((folded(provider), currency), SMALLEST_HOLD))
+        """The amount of a hold of the folded provider in the currency."""
+        return self._holds.get((provider, currency), SMALLEST_HOLD)

@@ -59,15 +59,15 @@ class Engine(Protocol):
 
 
 class Batch:
-    """Lines that stand together, and their answers so far."""
+    """Lines that stand together, also as one text, and their answers so far."""
 
-    __slots__ = ("lines", "answers", "future", "size")
+    __slots__ = ("lines", "text", "answers", "future")
 
     def __init__(self, lines: Sequence[bytes], future: asyncio.Future[list[bytes]]) -> None:
         self.lines = lines
+        self.text = b"\n".join([*lines, b""])
         self.answers: list[bytes] = []
         self.future = future
-        self.size = sum(map(len, lines))
 
 
 class Waiting:
@@ -98,58 +98,68 @@ class Waiting:
     def _put(self, lines: Sequence[bytes]) -> Batch:
         if self.closed is not None:
             raise Unavailable(self.closed)
-        if any(len(line) > LONGEST_LINE or b"\n" in line for line in lines):
-            raise ValueError("no line")
         batch = Batch(lines, asyncio.get_running_loop().create_future())
+        if batch.text.count(b"\n") != len(lines) or max(map(len, lines), default=0) > LONGEST_LINE:
+            raise ValueError("no line")
         if not lines:
             batch.future.set_result([])
             return batch
-        if self.lines + len(lines) > self._most_lines or self.bytes + batch.size > self._most_bytes:
+        if self.lines + len(lines) > self._most_lines or self.bytes + len(batch.text) > self._most_bytes:
             raise QueueFull("too many requests wait for their answers")
         if not self.lines:
             self._since = time.monotonic()
         self.lines += len(lines)
-        self.bytes += batch.size
+        self.bytes += len(batch.text)
         self._queued.append(batch)
         self._more.set()
         return batch
 
-    async def take(self) -> list[bytes]:
-        """Waits for queued batches; returns the lines of some of the first, which then are sent."""
+    async def take(self) -> list[Batch]:
+        """Waits for queued batches; returns some of the first, which then are sent."""
         while not self._queued:
             self._more.clear()
             await self._more.wait()
-        lines: list[bytes] = []
+        taken: list[Batch] = []
         size = 0
-        while self._queued and (not lines or size + self._queued[0].size <= AT_ONCE):
-            batch = self._queued.popleft()
-            size += batch.size
-            lines += batch.lines
-            self._sent.append(batch)
-        return lines
+        while self._queued and (not taken or size + len(self._queued[0].text) <= AT_ONCE):
+            taken.append(self._queued.popleft())
+            size += len(taken[-1].text)
+        self._sent += taken
+        return taken
 
-    def next_line(self) -> bytes:
-        """The first sent line that has no answer. Raises IndexError if there is none."""
-        batch = self._sent[0]
-        return batch.lines[len(batch.answers)]
+    def next_lines(self, count: int) -> list[bytes]:
+        """The first sent lines that have no answer, so many of them. Raises IndexError if there are fewer."""
+        lines: list[bytes] = []
+        for batch in self._sent:
+            place = len(batch.answers)
+            lines += batch.lines[place : place + count - len(lines)]
+            if len(lines) == count:
+                return lines
+        raise IndexError("an answer without a line")
 
     def stuck_line(self, seconds: float) -> bytes | None:
         """The first sent line that has no answer, if no answer came for so long while lines waited."""
         if not self._sent or time.monotonic() - self._since <= seconds:
             return None
-        return self.next_line()
+        return self.next_lines(1)[0]
 
-    def settle(self, answer: bytes) -> None:
-        """The answer to that line."""
-        batch = self._sent[0]
-        self._since = time.monotonic()
-        batch.answers.append(answer)
-        if len(batch.answers) == len(batch.lines):
-            self._sent.popleft()
-            self.lines -= len(batch.lines)
-            self.bytes -= batch.size
-            if not batch.future.done():
-                batch.future.set_result(batch.answers)
+    def settle(self, answers: Sequence[bytes]) -> None:
+        """The answers to these lines."""
+        place = 0
+        while place < len(answers):
+            self._since = time.monotonic()
+            batch = self._sent[0]
+            some = answers[place : place + len(batch.lines) - len(batch.answers)]
+            batch.answers += some
+            place += len(some)
+            if len(batch.answers) == len(batch.lines):
+                self._end(self._sent.popleft())
+
+    def _end(self, batch: Batch) -> None:
+        self.lines -= len(batch.lines)
+        self.bytes -= len(batch.text)
+        if not batch.future.done():
+            batch.future.set_result(batch.answers)
 
     def open(self) -> None:
         """Takes batches from now on."""

@@ -6,6 +6,7 @@ import json
 from typing import Any
 
 _decoder = json.JSONDecoder(parse_float=str, parse_int=str)
+_encoder = json.JSONEncoder(separators=(",", ":"))
 
 
 class NotJson(Exception):
@@ -37,7 +38,7 @@ def object_of(text: bytes) -> dict[str, Any]:
 
 def text_of(value: object) -> bytes:
     """The value as JSON without spaces, in ASCII."""
-    return json.dumps(value, separators=(",", ":")).encode()
+    return _encoder.encode(value).encode()
 
 
 def member_text(text: bytes, name: str) -> bytes:

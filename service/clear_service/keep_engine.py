@@ -12,6 +12,7 @@ import contextlib
 import json
 import logging
 import time
+from collections.abc import Sequence
 
 from clear_service.child import Child, ChildEnded, output_of
 from clear_service.engine import EngineState, Unavailable, Waiting
@@ -137,10 +138,11 @@ class KeepEngine:
             if kept == len(self._store):
                 tasks = self._open(child)
             async for answers in child.pieces():
-                for answer in answers:
-                    self._settle(answer, kept)
-                    if not tasks and kept == len(self._store):
-                        tasks = self._open(child)
+                to_kept = answers[: max(0, kept - len(self._store))]
+                self._follow(to_kept)
+                if not tasks and kept == len(self._store):
+                    tasks = self._open(child)
+                self._settle(answers[len(to_kept) :])
                 await asyncio.sleep(0)
         finally:
             for task in tasks:
@@ -153,20 +155,26 @@ class KeepEngine:
         self.state.ready = True
         return [asyncio.create_task(self._write(child)), asyncio.create_task(self._watch(child))]
 
-    def _settle(self, answer: bytes, kept: int) -> None:
-        number = len(self._store) + 1
-        if number <= kept:
+    def _follow(self, answers: Sequence[bytes]) -> None:
+        """Answers to kept lines, which the registers do not have yet."""
+        for number, answer in enumerate(answers, len(self._store) + 1):
             self._registers.fold(number, self._store.read_next(), answer, self._times.of(number))
+
+    def _settle(self, answers: Sequence[bytes]) -> None:
+        """Answers to new lines."""
+        if not answers:
             return
-        line = self.waiting.next_line()
-        self._store.passed(line)
-        self._registers.fold(number, line, answer, self._times.mark(number))
-        self.waiting.settle(answer)
+        lines = self.waiting.next_lines(len(answers))
+        first = self._store.passed(lines)
+        answered = self._times.mark(first)
+        for number, (line, answer) in enumerate(zip(lines, answers), first):
+            self._registers.fold(number, line, answer, answered)
+        self.waiting.settle(answers)
 
     async def _write(self, child: Child) -> None:
         with contextlib.suppress(ChildEnded):
             while True:
-                await child.write(await self.waiting.take())
+                await child.write(b"".join([batch.text for batch in await self.waiting.take()]))
 
     async def _watch(self, child: Child) -> None:
         """Kills the child if it answers nothing though lines wait."""

@@ -13,12 +13,16 @@ from clear_service.settings import LONGEST_LINE
 
 
 COMMAND = re.compile(rb'"do"\s*:\s*"([a-z_]{1,20})"')
-COMMANDS = frozenset(
-    "put_tariff put_token authorize release post close settle exposure find statement configure".split()
-)
+COMMANDS = {
+    name.encode(): name
+    for name in "put_tariff put_token authorize release post close settle exposure find statement configure".split()
+}
 
-# A line that changes the configuration has the command's name, plain or with one of its letters as an escape of JSON.
-LONG = (b"configure", b"\\u006", b"\\u007")
+# What begins a small letter from a to z that is written as an escape of JSON.
+ESCAPED = (b"\\u006", b"\\u007")
+
+# A line that changes the configuration has the command's name, plain or with one of its letters as an escape.
+LONG = (b"configure", *ESCAPED)
 
 
 class LineError(Exception):
@@ -33,8 +37,7 @@ class LineError(Exception):
 def command_of(line: bytes) -> str:
     """The command of the line for a figure, by the first text that looks as its member `do`; `other` if it is no command."""
     found = COMMAND.search(line)
-    command = found[1].decode() if found else ""
-    return command if command in COMMANDS else "other"
+    return COMMANDS.get(found[1], "other") if found else "other"
 
 
 def may_take_long(line: bytes) -> bool:
@@ -90,7 +93,14 @@ class BulkLines:
             lines.pop()
         if len(lines) > most:
             raise LineError(413, f"more than {most} lines")
+        if self._are_plainly_ours(body, lines):
+            return lines
         return list(self._checked(lines))
+
+    def _are_plainly_ours(self, body: bytes, lines: list[bytes]) -> bool:
+        """Whether each line is plainly ours and no line too long, by a few looks at all of them."""
+        begin = all([line.startswith(self._beginning) for line in lines])
+        return begin and self._are_named(body, len(lines)) and max(map(len, lines), default=0) <= LONGEST_LINE
 
     def _checked(self, lines: list[bytes]) -> Iterator[bytes]:
         for number, line in enumerate(lines, 1):
@@ -101,11 +111,12 @@ class BulkLines:
             yield line
 
     def _is_plainly_ours(self, line: bytes) -> bool:
-        """Whether the line begins with the sender's platform and has no other member of that name, without reading it as JSON.
+        """Whether the line begins with the sender's platform and has no other member of that name, without reading it as JSON."""
+        return line.startswith(self._beginning) and self._are_named(line, 1)
 
-        A key can only be spelled otherwise with an escape of the form \\u.
-        """
-        return line.startswith(self._beginning) and line.count(b'"platform"') == 1 and b"\\u" not in line
+    def _are_named(self, text: bytes, count: int) -> bool:
+        """Whether at most so many members of the text are named `platform`. With an escape, the name has one for a small letter."""
+        return text.count(b'"platform"') == count and not any(part in text for part in ESCAPED)
 
     def _ours(self, number: int, line: bytes) -> bytes:
         try:

@@ -198,8 +198,7 @@ class PostgresEngine:
         found = await answered(session, self._registers.lines)
         for answer in found:
             self._registers.fold(answer.number, answer.line, answer.answer, answer.seconds)
-            if answer.sender == name:
-                self.waiting.settle(answer.answer)
+        self.waiting.settle([answer.answer for answer in found if answer.sender == name])
         return bool(found)
 
     def _note(self, worker: str | None) -> None:
@@ -238,8 +237,8 @@ class PostgresEngine:
         place = 1
         async with await connect(self._settings.store, "sender") as session:
             while True:
-                lines = await self.waiting.take()
-                await session.execute("select send(%s, %s, %s)", (name, place, list(lines)), binary=True)
+                lines = [line for batch in await self.waiting.take() for line in batch.lines]
+                await session.execute("select send(%s, %s, %s)", (name, place, lines), binary=True)
                 place += len(lines)
 
     async def _run_worker(self) -> None:

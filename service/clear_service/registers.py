@@ -8,19 +8,20 @@ smaller `at` is that of a line that came again under its request id, and changes
 from __future__ import annotations
 
 import time
-from collections import Counter, deque
+from collections import Counter, defaultdict, deque
 from collections.abc import Callable, Iterable
 from dataclasses import dataclass
 from typing import Any
 
-from clear_service.answers import BEGINNING, AnswerParts
-from clear_service.configuration import Configuration, ten_thousandths
+from clear_service.answers import AT, BEGINNING, NAME, PERIOD, TEXT, number_of, parts_of
+from clear_service.configuration import Configuration, Party, ten_thousandths
 from clear_service.json_text import NotJson, object_of
 from clear_service.lines import command_of, folded
 from clear_service.owed import Debtor, Owed
 
 EVENTS = frozenset(("Stored", "ALLOWED", "Released", "Accepted", "Closed", "Settled"))
 KEPT_REFUSALS = 10_000
+KEPT_SECONDS = 86_400  # for which a refusal is kept
 DECLINED = ("BLOCKED", "NO_CREDIT")
 
 
@@ -84,7 +85,7 @@ class Followed:
     number: int
     line: bytes
     answer: bytes
-    parts: AnswerParts
+    parts: list[bytes]
     time: float | None
 
 
@@ -98,16 +99,16 @@ class CdrRegister:
 
     def __init__(self) -> None:
         self._by_id: dict[tuple[str, str], CdrEntry] = {}
-        self._by_party: dict[tuple[int, str], list[CdrEntry]] = {}
+        self._by_party: defaultdict[tuple[int, str], list[CdrEntry]] = defaultdict(list)
 
     def __len__(self) -> int:
         return len(self._by_id)
 
-    def add(self, entry: CdrEntry) -> None:
-        """Adds an accepted CDR; a Credit CDR marks the CDR that it credits."""
-        self._by_id[(folded(entry.operator), folded(entry.id))] = entry
-        for each in {folded(entry.operator), folded(entry.provider)}:
-            self._by_party.setdefault((entry.period, each), []).append(entry)
+    def add(self, entry: CdrEntry, operator: str, provider: str) -> None:
+        """Adds an accepted CDR of these folded parties; a Credit CDR marks the CDR that it credits."""
+        self._by_id[operator, folded(entry.id)] = entry
+        for each in {operator, provider}:
+            self._by_party[entry.period, each].append(entry)
         if entry.credits:
             original = self.find(entry.operator, entry.credits)
             if original is not None:
@@ -137,7 +138,6 @@ class Registers:
         self.tokens: dict[tuple[str, str, str], int] = {}
         self.periods: list[Period] = []
         self.refusals: deque[RefusedRequest] = deque(maxlen=KEPT_REFUSALS)
-        self.answers: Counter[str] = Counter()
         self.commands: Counter[tuple[str, str]] = Counter()
         self.events = 0
         self.are_complete = False
@@ -164,15 +164,22 @@ class Registers:
         assert self.configuration is not None
         return self.configuration
 
+    @property
+    def answers(self) -> Counter[str]:
+        """How many answers and refusals there are of each name."""
+        found: Counter[str] = Counter()
+        for (_, name), count in self.commands.items():
+            found[name] += count
+        return found
+
     def fold(self, number: int, line: bytes, answer: bytes, answered: float | None) -> None:
         """Takes the next line and its answer."""
         self.lines = number
-        parts = AnswerParts(answer)
-        name = parts.name
-        self.answers[name] += 1
+        parts = parts_of(answer)
+        name = parts[NAME].decode()
         self.commands[command_of(line), name] += 1
         if name in EVENTS:
-            if parts.at < self.events:
+            if number_of(parts[AT]) < self.events:
                 return
             self.events += 1
         elif not answer.startswith(BEGINNING) or name in DECLINED:
@@ -184,51 +191,56 @@ class Registers:
 
     def _cdr(self, followed: Followed) -> None:
         cdr = object_of(followed.line)["cdr"]
-        operator, provider = party(cdr), party(cdr["cdr_token"])
+        parties = self.in_force.parties
+        operator, provider = parties[party(cdr)], parties[party(cdr["cdr_token"])]
         entry = CdrEntry(
             followed.number,
-            self.in_force.spelled(operator) or operator,
-            self.in_force.spelled(provider) or provider,
+            operator.spelled,
+            provider.spelled,
             cdr["id"],
             _plain(cdr.get("session_id")),
             cdr["start_date_time"],
             cdr["end_date_time"],
             cdr["total_energy"],
             cdr["currency"],
-            followed.parts.text,
-            followed.parts.period,
+            followed.parts[TEXT].decode(),
+            number_of(followed.parts[PERIOD]),
             cdr["credit_reference_id"] if cdr.get("credit") is True else "",
         )
-        self.cdrs.add(entry)
-        self._owe(entry)
+        self.cdrs.add(entry, operator.folded, provider.folded)
+        if entry.credits:
+            self._end_debt(entry)
+        else:
+            debtor = Debtor(provider.folded, entry.currency, entry.period)
+            self.owed.add(debtor, ten_thousandths(entry.amount))
         if cdr.get("credit") is not True:
             self._use_up(cdr, operator, provider)
 
-    def _owe(self, entry: CdrEntry) -> None:
-        """A CDR is owed from now on; a Credit CDR ends the debt of the CDR that it credits."""
-        if not entry.credits:
-            self.owed.add(entry.debtor, ten_thousandths(entry.amount))
-            return
+    def _end_debt(self, entry: CdrEntry) -> None:
+        """A Credit CDR ends the debt of the CDR that it credits."""
         original = self.cdrs.find(entry.operator, entry.credits)
         if original is not None:
             self.owed.credit(original.debtor, ten_thousandths(original.amount))
 
-    def _use_up(self, cdr: dict[str, Any], operator: str, provider: str) -> None:
+    def _use_up(self, cdr: dict[str, Any], operator: Party, provider: Party) -> None:
         """A CDR ends the open hold of its operator, provider and currency that it names."""
-        hold = self.holds.get(folded(_plain(cdr.get("authorization_reference"))))
+        key = folded(_plain(cdr.get("authorization_reference")))
+        hold = self.holds.get(key)
         if hold is not None and hold.currency == cdr["currency"]:
-            if folded(hold.operator) == folded(operator) and folded(hold.provider) == folded(provider):
-                del self.holds[folded(hold.reference)]
+            if folded(hold.operator) == operator.folded and folded(hold.provider) == provider.folded:
+                del self.holds[key]
 
     def _hold(self, followed: Followed) -> None:
         asked = object_of(followed.line)
-        reference = followed.parts.text
+        reference = followed.parts[TEXT].decode()
+        configuration = self.in_force
+        provider = configuration.parties[asked["provider"]]
         self.holds[folded(reference)] = Hold(
             reference,
-            self.in_force.spelled(asked["operator"]) or asked["operator"],
-            self.in_force.spelled(asked["provider"]) or asked["provider"],
+            configuration.parties[asked["operator"]].spelled,
+            provider.spelled,
             asked["currency"],
-            self.in_force.hold(asked["provider"], asked["currency"]),
+            configuration.hold(provider.folded, asked["currency"]),
             followed.time,
         )
 
@@ -264,12 +276,14 @@ class Registers:
         self.configuration = Configuration(members["configuration"])
 
     def _refused(self, line: bytes, name: str, answered: float | None) -> None:
+        """A refusal is kept for a day. What is too old at a start is not even read."""
+        if answered is None or answered <= time.time() - KEPT_SECONDS:
+            return
         try:
             platform = _plain(object_of(line).get("platform"))
         except NotJson:
             platform = ""
-        if answered is not None and answered > time.time() - 86_400:
-            self.refusals.append(RefusedRequest(answered, platform, name))
+        self.refusals.append(RefusedRequest(answered, platform, name))
 
 
 def _plain(value: object) -> str:

@@ -10,6 +10,8 @@ import os
 import time
 from array import array
 from bisect import bisect_right
+from collections.abc import Iterable
+from itertools import accumulate
 from pathlib import Path
 from typing import IO, Any
 
@@ -63,11 +65,13 @@ class StoreFile:
         self._places.append(place)
         return line
 
-    def passed(self, line: bytes) -> int:
-        """The next line is answered: its number, from 1."""
-        self._places.append(self._end)
-        self._end += len(line) + 2
-        return len(self._places)
+    def passed(self, lines: Iterable[bytes]) -> int:
+        """The next lines are answered: the number of the first, from 1."""
+        first = len(self._places) + 1
+        places = list(accumulate((len(line) + 2 for line in lines), initial=self._end))
+        self._end = places.pop()
+        self._places.extend(places)
+        return first
 
     def line(self, number: int) -> bytes:
         """The answered line of this number. Raises StoreError."""

@@ -37,6 +37,9 @@ from examples import CONFIG  # noqa: E402
 hypothesis.settings.register_profile("service", database=None, deadline=None)
 hypothesis.settings.load_profile("service")
 
+# Modules whose tests say little of the engine: over PostgreSQL the gate leaves them out.
+OF_NO_ENGINE = ("test_access", "test_refusals")
+
 MakeStore = Callable[[], str]
 Make = Callable[..., "Service"]
 PLATFORMS = ("cpo", "emp", "hub", "cpb", "both")
@@ -48,7 +51,8 @@ def free_port() -> int:
         return int(found.getsockname()[1])
 
 
-def wait_until(condition: Callable[[], object], seconds: float = 20.0) -> bool:
+def wait_until(condition: Callable[[], object], seconds: float = 60.0) -> bool:
+    """Waits until the condition holds, at most so long; whether it does."""
     until = time.monotonic() + seconds
     while time.monotonic() < until:
         if condition():
@@ -112,7 +116,7 @@ class Service:
     def stop(self) -> None:
         self.client.close()
         self.server.should_exit = True
-        self.thread.join(30)
+        self.thread.join(60)
         assert not self.thread.is_alive()
 
     def send(self, platform: str | None, method: str, path: str, **words: Any) -> httpx.Response:
@@ -132,14 +136,17 @@ class Service:
 
 
 class Postgres:
-    """A PostgreSQL server in a temporary folder, which listens to no port. A store is a database of it."""
+    """A PostgreSQL server in a temporary folder, which listens to no port. A store is a database of it.
+
+    It does not sync: the tests end processes, and no machine. It runs as the user postgres if the tests run as root.
+    """
 
     def __init__(self) -> None:
         found = glob.glob("/usr/lib/postgresql/*/bin")
         if not found:
             pytest.skip("PostgreSQL is not installed")
         self.bin = max(found)
-        self.folder = tempfile.mkdtemp(prefix="clear-postgres-", dir="/tmp")
+        self.folder = tempfile.mkdtemp(prefix="clear-postgres-")
         self.data = os.path.join(self.folder, "data")
         self.user: dict[str, Any] = {}
         if os.getuid() == 0:
@@ -174,7 +181,7 @@ class Postgres:
             )
 
     def start(self) -> None:
-        options = f"-c listen_addresses='' -k '{self.folder}' -c max_connections=200"
+        options = f"-c listen_addresses='' -k '{self.folder}' -c max_connections=200 -c fsync=off"
         self.run(
             "pg_ctl", "start", "-w", "-D", self.data, "-l", os.path.join(self.folder, "log"), "-o", options
         )
@@ -195,6 +202,12 @@ class Postgres:
         with contextlib.suppress(subprocess.CalledProcessError):
             self.stop()
         shutil.rmtree(self.folder, ignore_errors=True)
+
+
+def pytest_itemcollected(item: pytest.Item) -> None:
+    """Marks tests that the gate leaves out."""
+    if item.path.stem in OF_NO_ENGINE and "[postgresql" in item.name:
+        item.add_marker("long")
 
 
 @pytest.fixture(scope="session")

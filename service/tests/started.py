@@ -40,7 +40,7 @@ class Started:
         words = [*before, str(SERVICE / "start"), str(folder / "config.json"), str(store)]
         with open(folder / "out", "ab") as out, open(folder / "err", "ab") as err:
             self.process = subprocess.Popen(words, env={**os.environ, **given}, stdout=out, stderr=err)
-        self.client = httpx.Client(base_url=f"http://127.0.0.1:{port}", timeout=30)
+        self.client = httpx.Client(base_url=f"http://127.0.0.1:{port}", timeout=60)
 
     def status(self, path: str) -> int:
         try:
@@ -68,7 +68,7 @@ class Started:
 
     def stop(self) -> int:
         self.process.send_signal(signal.SIGTERM)
-        return self.process.wait(30)
+        return self.process.wait(60)
 
 
 @pytest.fixture

@@ -157,7 +157,7 @@ def test_a_slow_client(make: Make) -> None:
     got = talk(service, slow)
     for thread in threads:
         thread.join()
-    assert got.startswith(b"HTTP/1.1 408 ") and time.monotonic() - began < 10
+    assert got.startswith(b"HTTP/1.1 408 ") and time.monotonic() - began < 30
     assert service.health()["lines"] == 1
 
 
@@ -238,7 +238,7 @@ def test_a_body_of_more_lines_than_the_queue(make: Make) -> None:
 
 
 def test_an_answer_that_does_not_come(make: Make) -> None:
-    service = make(answer_seconds=1)
+    service = make(answer_seconds=2)
     assert service.send("cpo", "PUT", TARIFFS, json=TARIFF).status_code == 200
     process = answering(service)
     os.kill(process, signal.SIGSTOP)

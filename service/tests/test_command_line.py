@@ -17,7 +17,7 @@ from examples import CONFIG, TOKEN, TOKENS
 def run(program: str, *words: str, **environment: str) -> subprocess.CompletedProcess[str]:
     given = {**os.environ, **environment}
     return subprocess.run(
-        [str(SERVICE / program), *words], env=given, capture_output=True, text=True, timeout=30
+        [str(SERVICE / program), *words], env=given, capture_output=True, text=True, timeout=120
     )
 
 
@@ -76,7 +76,7 @@ def test_it_ends_at_a_signal(tmp_path: Path) -> None:
             response = httpx.put(url + TOKENS, json=TOKEN, headers={"Authorization": f"Token {token}"})
             assert response.status_code == 200
             service.send_signal(signal.SIGTERM)
-            assert service.wait(20) in (0, -signal.SIGTERM)
+            assert service.wait(60) in (0, -signal.SIGTERM)
         finally:
             service.kill()
     program = environment.get("CLEAR") or str(SERVICE.parent / "clear")

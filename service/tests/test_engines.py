@@ -75,7 +75,7 @@ def is_started_again(service: Service, name: str, hung: int) -> None:
     assert (response.status_code, response.headers["Retry-After"]) == (503, "1")
     assert wait_until(lambda: service.health()["details"].get(name) not in (None, before))
     assert service.is_ready()
-    assert "answered nothing for 1 seconds and was killed" in service.health()["last_end"]
+    assert "answered nothing for 2 seconds and was killed" in service.health()["last_end"]
     assert wait_until(lambda: service.send("cpo", "POST", AUTHORIZE, headers=ids).status_code == 200)
     again = service.send("cpo", "POST", AUTHORIZE, headers=ids)
     assert again.json()["data"]["authorization_reference"] == "NLMSA-1"
@@ -84,23 +84,23 @@ def is_started_again(service: Service, name: str, hung: int) -> None:
 
 
 def test_a_program_that_hangs(keep: None, make: Make) -> None:
-    service = make(answer_seconds=1)
+    service = make(answer_seconds=2)
     service.send("emp", "PUT", TOKENS, json=TOKEN)
     os.kill(service.health()["details"]["pid"], signal.SIGSTOP)
-    time.sleep(2)
+    time.sleep(3)
     os.kill(service.health()["details"]["pid"], signal.SIGCONT)
     assert service.health()["starts"] == 1
     is_started_again(service, "pid", service.health()["details"]["pid"])
 
 
 def test_a_worker_that_hangs(database: None, make: Make) -> None:
-    service = make(answer_seconds=1)
+    service = make(answer_seconds=2)
     service.send("emp", "PUT", TOKENS, json=TOKEN)
     is_started_again(service, "worker", service.health()["details"]["worker"])
 
 
 def test_a_program_of_a_worker_that_hangs(database: None, make: Make) -> None:
-    service = make(answer_seconds=1)
+    service = make(answer_seconds=2)
     service.send("emp", "PUT", TOKENS, json=TOKEN)
     program = program_of(service.health()["details"]["worker"])
     assert program is not None
@@ -109,7 +109,7 @@ def test_a_program_of_a_worker_that_hangs(database: None, make: Make) -> None:
 
 def test_a_change_may_take_long(engine: str, make: Make) -> None:
     """A program that does not answer while it changes the configuration is not killed."""
-    service = make(answer_seconds=1)
+    service = make(answer_seconds=2)
     details = service.health()["details"]
     program = details.get("pid") or program_of(details["worker"])
     assert program is not None
@@ -118,7 +118,7 @@ def test_a_change_may_take_long(engine: str, make: Make) -> None:
     if engine == "keep":
         body = line("configure", configuration=CONFIGURATION)
     assert service.send("hub", "POST", "/clearing/lines", content=body.encode()).status_code == 503
-    time.sleep(2.5)
+    time.sleep(4)
     assert Path(f"/proc/{program}").exists()
     os.kill(program, signal.SIGCONT)
     assert wait_until(lambda: service.health()["lines"] == len(body.splitlines()))

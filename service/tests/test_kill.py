@@ -33,7 +33,8 @@ from conftest import SERVICE, MakeStore, Postgres, free_port, program_of, wait_u
 LOAD = SERVICE.parent / "bench" / "clearing_load"
 LINES = int(os.environ.get("CLEAR_TEST_LINES", "2000"))
 KILLS = int(os.environ.get("CLEAR_TEST_KILLS", "6"))
-LONGEST = 30 + LINES / 50  # seconds
+LONGEST = 120 + LINES / 10  # seconds
+AHEAD = 40  # lines that are answered after the place of a kill, at most, while something is killed
 PROGRAM = settings_of("", "").program
 HOLDER = """
     select application_name, pid from pg_locks join pg_stat_activity using (pid)
@@ -88,11 +89,30 @@ class Process:
 
     def end(self) -> None:
         self.process.send_signal(signal.SIGTERM)
-        assert self.process.wait(30) in (0, -signal.SIGTERM)
+        assert self.process.wait(60) in (0, -signal.SIGTERM)
+
+
+class Pace:
+    """How many lines all clients may have answers to, so that they do not end before the last kill."""
+
+    def __init__(self) -> None:
+        self.clients: list[Client] = []
+        self.most = 1 << 30
+
+    def done(self) -> int:
+        """How many lines have answers."""
+        return sum(len(client.answers) for client in self.clients)
+
+    def wait(self) -> None:
+        """Waits until another line may be sent."""
+        while self.done() >= self.most:
+            time.sleep(0.01)
 
 
 class Client(threading.Thread):
     """Sends the lines of one platform, some at a time, and has an answer to each in the end."""
+
+    pace = Pace()
 
     def __init__(self, process: Process, platform: str, lines: list[bytes], seed: int) -> None:
         super().__init__(daemon=True)
@@ -105,6 +125,7 @@ class Client(threading.Thread):
         headers = {"Authorization": f"Token {self.process.tokens[self.platform]}"}
         with httpx.Client(base_url=self.process.url, timeout=10, headers=headers) as http:
             while len(self.answers) < len(self.lines):
+                self.pace.wait()
                 some = self.lines[len(self.answers) :][: self.rng.randint(1, 20)]
                 self.answers += self.sent(http, some)
 
@@ -202,9 +223,7 @@ def pause(store: str) -> bool:
     try:
         with psycopg.connect(store) as session:
             session.execute("select pg_terminate_backend(%s)", (session_id,))
-        assert wait_until(
-            lambda: (holder(store) or (worker, 0))[0] != worker, 40
-        ), "no other worker has the lock"
+        assert wait_until(lambda: (holder(store) or (worker, 0))[0] != worker), "no other worker has the lock"
     finally:
         os.kill(worker, signal.SIGCONT)
     return True
@@ -237,15 +256,18 @@ def run(processes: list[Process], kinds: list[str], postgres: Postgres | None) -
     of = [(n, processes[n % len(processes)], *each) for n, each in enumerate(by_platform().items())]
     clients = [Client(process, name, lines, n) for n, process, name, lines in of]
     total = sum(len(client.lines) for client in clients)
-    places = sorted(random.sample(range(total // 20, total * 8 // 10), KILLS))
-    assert wait_until(lambda: all(process.details() for process in processes), 30)
+    places = [*sorted(random.sample(range(total // 20, total * 8 // 10), KILLS)), total]
+    pace = Pace()
+    pace.clients, pace.most = clients, places[0] + AHEAD
+    assert wait_until(lambda: all(process.details() for process in processes))
     for client in clients:
+        client.pace = pace
         client.start()
     until, kills = time.monotonic() + LONGEST, 0
     while any(client.is_alive() for client in clients):
         assert time.monotonic() < until, "not all is answered"
-        done = sum(len(client.answers) for client in clients)
-        if kills < len(places) and done >= places[kills]:
+        if kills < KILLS and pace.done() >= places[kills]:
+            pace.most = places[kills + 1] + AHEAD
             kills += kill_something(processes, kinds[kills % len(kinds)], postgres)
         time.sleep(0.02)
     return clients, kills
@@ -323,7 +345,7 @@ def test_a_paused_worker_stores_nothing_after_its_session(over_postgres: Process
         with psycopg.connect(store) as session:
             session.execute("select pg_terminate_backend(%s)", (session_id,))
         os.kill(program, signal.SIGCONT)
-        client.join(30)
+        client.join(60)
         assert not client.is_alive()
         os.kill(worker, signal.SIGCONT)
         assert wait_until(lambda: over_postgres.details().get("worker") not in (None, worker))
@@ -343,7 +365,7 @@ def test_a_stopped_server(over_postgres: Process, postgres: Postgres) -> None:
         assert wait_until(lambda: after.again > 0)
     finally:
         postgres.start()
-    after.join(30)
+    after.join(60)
     assert not after.is_alive()
     check(over_postgres, [before, after])
 
@@ -359,7 +381,7 @@ def test_a_worker_with_another_program(over_postgres: Process, tmp_path: Path) -
         [str(SERVICE / "worker"), over_postgres.store],
         env={**os.environ, "CLEAR": str(program)},
         capture_output=True,
-        timeout=60,
+        timeout=120,
     )
     assert (done.returncode, done.stdout) == (1, b"")
     assert done.stderr == b"worker: the answer to request 1 is not the one that is stored\n"

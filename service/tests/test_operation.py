@@ -198,7 +198,7 @@ def test_a_graceful_stop(start: Start, tmp_path: Path) -> None:
     others: list[int] = []
 
     def run() -> None:
-        with httpx.Client(base_url=service.client.base_url, timeout=30) as client:
+        with httpx.Client(base_url=service.client.base_url, timeout=60) as client:
             for _ in range(10_000):
                 try:
                     response = service.send("emp", *[EXPOSURE] * 40, client=client)
@@ -215,9 +215,9 @@ def test_a_graceful_stop(start: Start, tmp_path: Path) -> None:
     time.sleep(1)
     began = time.monotonic()
     assert service.stop() in (0, -signal.SIGTERM)
-    assert time.monotonic() - began < 15
+    assert time.monotonic() - began < 30
     for thread in threads:
-        thread.join(30)
+        thread.join(60)
     assert set(answered) == {40} and set(others) <= {503}
     with pytest.raises(ProcessLookupError):
         os.kill(child, 0)
@@ -237,6 +237,7 @@ def reads(service: Started) -> list[object]:
     return found
 
 
+@pytest.mark.long
 def test_backup_and_restore(start: Start, tmp_path: Path) -> None:
     """A copy that is made while the service answers has each line that was answered before; one after a stop has all.
 
@@ -252,7 +253,7 @@ def test_backup_and_restore(start: Start, tmp_path: Path) -> None:
     stopped = threading.Event()
 
     def run() -> None:
-        with httpx.Client(base_url=service.client.base_url, timeout=30) as client:
+        with httpx.Client(base_url=service.client.base_url, timeout=60) as client:
             number = 0
             while not stopped.is_set():
                 number += 1

@@ -29,6 +29,7 @@ from clear_service.senders import TokenFile
 from conftest import SERVICE, Service, wait_until
 
 selenium = pytest.importorskip("selenium")
+from selenium.common.exceptions import SessionNotCreatedException  # noqa: E402
 from selenium.webdriver import ActionChains, Chrome, ChromeOptions  # noqa: E402
 from selenium.webdriver.chrome.service import Service as Driver  # noqa: E402
 from selenium.webdriver.common.by import By  # noqa: E402
@@ -106,8 +107,11 @@ class Browser:
         ):
             options.add_argument(word)
         options.set_capability("goog:loggingPrefs", {"browser": "ALL"})
-        self.driver = Chrome(service=Driver(shutil.which("chromedriver") or ""), options=options)
-        self.driver.set_script_timeout(20)
+        try:
+            self.driver = Chrome(service=Driver(shutil.which("chromedriver") or ""), options=options)
+        except SessionNotCreatedException as error:
+            pytest.skip(f"Chromium does not start: {error.msg}")
+        self.driver.set_script_timeout(60)
         self.resize(size)
         if downloads is not None:
             where = {"behavior": "allow", "downloadPath": str(downloads)}

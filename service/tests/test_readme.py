@@ -21,7 +21,7 @@ def test_the_readme(tmp_path: Path) -> None:
         (tmp_path / name).symlink_to(SERVICE if name == "service" else SERVICE.parent / name)
     environment = {**os.environ, "CLEAR_PORT": port}
     done = subprocess.run(
-        ["sh", "-e"], input=script, cwd=tmp_path, env=environment, capture_output=True, text=True, timeout=60
+        ["sh", "-e"], input=script, cwd=tmp_path, env=environment, capture_output=True, text=True, timeout=300
     )
     said = done.stdout + done.stderr
     assert done.returncode == 0, said

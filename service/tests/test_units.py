@@ -3,6 +3,7 @@
 from __future__ import annotations
 
 import json
+import os
 import subprocess
 from pathlib import Path
 
@@ -18,6 +19,7 @@ from hypothesis import strategies as st
 
 from examples import CONFIG, CONFIGURATION, TOKEN, line
 
+EXAMPLES = int(os.environ.get("CLEAR_TEST_EXAMPLES", "1500"))
 JSON = st.recursive(
     st.none()
     | st.booleans()
@@ -27,7 +29,9 @@ JSON = st.recursive(
     lambda inner: st.lists(inner, max_size=3) | st.dictionaries(st.text(max_size=4), inner, max_size=3),
     max_leaves=8,
 )
-KEYS = st.sampled_from(["platform", "plat\\u0066orm", "Platform", "do", "x"])
+KEYS = st.sampled_from(
+    ["platform", "plat\\u0066orm", "\\u0070latform", "platf\\u006Frm", "Platform", "f\\u00fcr", "do", "x"]
+)
 NAMES = st.sampled_from(["emp", "EMP", "hub", "e\\u006dp", "emp ", ""])
 SPACES = st.sampled_from(["", " ", "\t", "\r"])
 
@@ -42,7 +46,7 @@ def objects(draw: st.DrawFn) -> str:
     return draw(SPACES) + "{" + ",".join(members) + draw(SPACES) + "}" + draw(SPACES)
 
 
-@settings(max_examples=1500, deadline=None)
+@settings(max_examples=EXAMPLES, deadline=None)
 @given(objects())
 def test_a_line_that_is_taken_is_of_the_platform(text: str) -> None:
     try:
@@ -56,7 +60,40 @@ def test_a_line_that_is_taken_is_of_the_platform(text: str) -> None:
     assert {**members, "platform": 0} == {**json.loads(text), "platform": 0}
 
 
-@settings(max_examples=500, deadline=None)
+def plainly(text: str) -> str:
+    """The object with the platform as its first member, as most lines have it."""
+    rest = text.strip(" \t\r")[1:]
+    return '{"platform":"emp","y":0' + ("" if rest.lstrip(" \t\r") == "}" else ",") + rest
+
+
+@settings(max_examples=EXAMPLES, deadline=None)
+@given(st.lists(st.one_of(objects(), objects().map(plainly)), max_size=4))
+def test_lines_that_are_taken_are_of_the_platform(texts: list[str]) -> None:
+    """Lines together are taken if and only if each of them alone is, and then they are the same lines."""
+    alone: list[bytes] = []
+    try:
+        for text in texts:
+            alone += BulkLines("emp").read(text.encode(), 1)
+    except LineError:
+        with pytest.raises(LineError):
+            BulkLines("emp").read("\n".join(texts).encode(), len(texts))
+        return
+    assert BulkLines("emp").read("\n".join(texts).encode(), len(texts)) == alone
+    assert all(json.loads(line)["platform"] in ("emp", "EMP") for line in alone)
+
+
+@pytest.mark.parametrize("name", ["platform", "\\u0070latform", "platfor\\u006D", "p\\u006catform"])
+@pytest.mark.parametrize("place", [0, 1, 2])
+def test_another_platform_among_plain_lines(name: str, place: int) -> None:
+    lines = ['{"platform":"emp","do":"x","y":"M\\u00fcnchen"}'] * 3
+    assert BulkLines("emp").read("\n".join(lines).encode(), 3) == [each.encode() for each in lines]
+    lines[place] = f'{{"platform":"emp","do":"x","{name}":"hub"}}'
+    with pytest.raises(LineError) as error:
+        BulkLines("emp").read("\n".join(lines).encode(), 3)
+    assert error.value.status == 403 and f"line {place + 1} " in error.value.message
+
+
+@settings(max_examples=EXAMPLES // 3, deadline=None)
 @given(st.binary(max_size=40) | st.text(alphabet='{}[]",:\\ platformemhub', max_size=40).map(str.encode))
 def test_bytes_that_are_taken_are_an_object_or_begin_plainly(body: bytes) -> None:
     try:
@@ -68,7 +105,7 @@ def test_bytes_that_are_taken_are_an_object_or_begin_plainly(body: bytes) -> Non
         assert each.startswith(b'{"platform":"emp"') or object_of(each)["platform"].lower() == "emp"
 
 
-@settings(max_examples=500, deadline=None)
+@settings(max_examples=EXAMPLES // 3, deadline=None)
 @given(JSON, st.sampled_from([None, 1, 2]))
 def test_an_object_inside_a_line(value: object, indent: int | None) -> None:
     body = json.dumps({"a": value}, indent=indent, ensure_ascii=False).encode("utf-8", "surrogatepass")
@@ -150,7 +187,7 @@ def test_a_configuration() -> None:
     assert made.platform_for("nl/cpb") == "cpb" and made.platform_for("NL/XXX") is None
     assert made.is_hub("HUB") and not made.is_hub("cpo") and not made.is_hub("none")
     assert made.operators_of("both") == ["NL/CPA", "NL/CPB"]
-    assert made.hold("nl/msa", "EUR") == "20.0000" and made.hold("NL/MSA", "SEK") == "0.0001"
+    assert made.hold("nl/msa", "EUR") == "20.0000" and made.hold("nl/msa", "SEK") == "0.0001"
 
 
 def test_the_file_of_a_store(tmp_path: Path) -> None:
@@ -168,7 +205,7 @@ def test_the_file_of_a_store(tmp_path: Path) -> None:
     assert [file.read_next().decode() for _ in lines] == lines
     assert [file.line(number).decode() for number in range(1, len(lines) + 1)] == lines
     subprocess.run([*words, "--from", "4"], input=b"one more\n", stdout=subprocess.DEVNULL, check=True)
-    assert file.passed(b"one more") == 5 and file.line(5) == b"one more"
+    assert file.passed([b"one more"]) == 5 and file.line(5) == b"one more"
     file.close()
 
 
