@@ -44,20 +44,20 @@ is_read : (config : Config) (events : List Event) (line : List ℕ) (given : Res
 is_read config events line (Ok command) reply ok err is some = ok
 is_read config events line (Err refusal) reply ok err is some = err (rw is at some)
 
-pub read_reply : (config config' : Config) (events events' : List Event) (line : List ℕ) (given : Result Command Refusal) (reply : Reply) → config' ≡ config → events' ≡ events
-    → IfOk given (λ command. command_in config line ≡ Ok command) → IfErr given (λ refusal. is_refusal_no_memory refusal ≡ false → command_in config line ≡ Err refusal)
+pub read_reply : (config config' under : Config) (events events' : List Event) (line : List ℕ) (given : Result Command Refusal) (reply : Reply) → config' ≡ config → under ≡ config → events' ≡ events
+    → IfOk given (λ command. command_in under line ≡ Ok command) → IfErr given (λ refusal. is_refusal_no_memory refusal ≡ false → command_in under line ≡ Err refusal)
     → (is_no_memory reply ≡ false → reply ≡ reply_to config' events' given) → is_no_memory reply ≡ false → reply ≡ reply_in config events line
 unfolding reply_in
-read_reply config config' events events' line given reply c e ok err is some =
-    let told = rw (c, e) at (is some) in told ∙ ap (λ (g : Result Command Refusal). reply_to config events g) (sym (is_read config events line given reply ok err told some))
+read_reply config config' under events events' line given reply c u e ok err is some =
+    let told = rw (c, e) at (is some) in told ∙ ap (λ (g : Result Command Refusal). reply_to config events g) (sym (is_read config events line given reply (rw u at ok) (rw u at err) told some))
 
-pub read_list : (config config' : Config) (events events' : List Event) (line : List ℕ) (given : Result Command Refusal) (reply : Reply) (now : List Event) → config' ≡ config → events' ≡ events
-    → IfOk given (λ command. command_in config line ≡ Ok command) → IfErr given (λ refusal. is_refusal_no_memory refusal ≡ false → command_in config line ≡ Err refusal)
+pub read_list : (config config' under : Config) (events events' : List Event) (line : List ℕ) (given : Result Command Refusal) (reply : Reply) (now : List Event) → config' ≡ config → under ≡ config → events' ≡ events
+    → IfOk given (λ command. command_in under line ≡ Ok command) → IfErr given (λ refusal. is_refusal_no_memory refusal ≡ false → command_in under line ≡ Err refusal)
     → (is_no_memory reply ≡ false → reply ≡ reply_to config' events' given) → (is_no_memory reply ≡ false → now ≡ list_with config' events' given) → is_no_memory reply ≡ false → now ≡ after config events line
 unfolding after
-read_list config config' events events' line given reply now c e ok err is list some =
+read_list config config' under events events' line given reply now c u e ok err is list some =
     let told = rw (c, e) at (is some) in
-    (rw (c, e) at (list some)) ∙ ap (λ (g : Result Command Refusal). list_with config events g) (sym (is_read config events line given reply ok err told some))
+    (rw (c, e) at (list some)) ∙ ap (λ (g : Result Command Refusal). list_with config events g) (sym (is_read config events line given reply (rw u at ok) (rw u at err) told some))
 
 pub answer_is : (config : Config) (events : List Event) (line : List ℕ) → answer_text config (reply_in config events line) ≡ answer_of config events line
 unfolding answer_of

@@ -14,4 +14,4 @@ abbrev pub IsRead : Config → List ℕ → ReadLine → Type 0
 IsRead config bytes read = command_in config (line_at bytes read.start read.length) ≡ read.command
 
 abbrev pub AreRead : Config → ReadBatch → Type 0
-AreRead config batch = All (IsRead config batch.bytes.items) batch.lines.items
+AreRead config batch = All (IsRead config batch.bytes.value.items) batch.lines.items

@@ -1,16 +1,26 @@
 //! The bytes of a read call, cut into batches of whole lines.
 
-ghost use Rattle.std.specs.Prelude.{◌<◌, ◌≤◌, length};
+ghost use Rattle.std.specs.Prelude.{◌<◌, ◌≤◌, length, IfSome};
 
 use memchr::memchr;
+use ocpi_types::KnownTariffs;
 use request_lines::NEWLINE;
-use std::alloc::{AllocError, Global};
+use std::sync::Arc;
 
 /// How many bytes a batch has at least, but for the last one.
 pub const LEAST_BATCH_BYTES: usize = 16_384;
 
 /// How many bytes a batch has at most before the rest of its last line.
 const MOST_BATCH_BYTES: usize = 262_144;
+
+/// Bytes from `start` to `end`, among those of a read call, which threads share, and what is remembered of tariffs for them.
+#[derive(Drop)]
+pub struct Batch {
+    pub bytes: Arc<Vec<u8>>,
+    pub start: usize,
+    pub end: usize,
+    pub tariffs: KnownTariffs,
+}
 
 /// Returns how many bytes a batch of so many has: two batches for each thread, but none too small to start a thread for.
 fn batch_bytes(bytes: usize, threads: usize) -> usize
@@ -37,19 +47,14 @@ fn batch_length(bytes: &[u8], least: usize) -> usize
     }
 }
 
-/// Copies the bytes, cut into batches that end with a line, for so many threads.
-///
-/// # Errors
-///
-/// `AllocError` if an allocation fails.
-pub fn batches(alloc: Global, bytes: &[u8], threads: usize) -> Result<Vec<Vec<u8>>, AllocError> {
-    let least = batch_bytes(bytes.len(), threads);
-    let mut copies = Vec::new(alloc);
-    let mut rest = bytes;
-    while !rest.is_empty() {
-        let (batch, others) = rest.split_at(batch_length(rest, least));
-        copies.push(Vec::from_slice(alloc, batch)?)?;
-        rest = others;
+/// Returns where the batch ends that begins at this place, for so many threads; `None` if no bytes begin there.
+pub fn batch_end(bytes: &[u8], start: usize, threads: usize) -> Option<usize>
+    ensures after { IfSome result (λ end. start < end) }
+    ensures bound { IfSome result (λ end. end ≤ length bytes.now) }
+{
+    if start >= bytes.len() {
+        return None;
     }
-    Ok(copies)
+    let least = batch_bytes(bytes.len(), threads);
+    Some(start + batch_length(&bytes[start..], least))
 }

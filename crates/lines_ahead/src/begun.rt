@@ -4,6 +4,7 @@ ghost use Rattle.std.specs.Prelude.{◌≡◌, IfOk};
 ghost use Rattle.lines_ahead.specs.Inner.Work.{IsUnder};
 ghost use Rattle.lines_ahead.specs.ReadLines.{AreRead};
 
+use crate::batches::Batch;
 use crate::read_batch::ReadBatch;
 use crate::reader::Reading;
 use ocpi_types::{Config, Shared};
@@ -47,11 +48,11 @@ impl Begun {
         rt: &R,
         alloc: Global,
         config: &Shared<Config>,
-        bytes: Vec<u8>,
+        batch: Batch,
     ) -> Result<Begun, AllocError>
         ensures { IfOk result (λ begun. begun.under.value ≡ config.now) }
     {
-        let reading = Reading::start(rt, alloc, config, bytes)?;
+        let reading = Reading::start(rt, alloc, config, batch)?;
         Ok(Begun {
             under: Snapshot::of(&**config),
             work: Work::Reading(reading),

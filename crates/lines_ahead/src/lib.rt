@@ -5,6 +5,7 @@ mod ahead;
 mod answering;
 mod batches;
 mod begun;
+mod idle_tariffs;
 mod left;
 mod read_batch;
 mod reader;

@@ -3,6 +3,7 @@
 ghost use Rattle.std.specs.Prelude.{◌≡◌, IfOk};
 ghost use Rattle.lines_ahead.specs.ReadLines.{AreRead};
 
+use crate::batches::Batch;
 use crate::read_batch::ReadBatch;
 use crate::reading::read_batch;
 use ocpi_types::{Config, Shared};
@@ -26,7 +27,7 @@ impl Promise<ReadBatch> for ReadUnder {
 struct Reader {
     alloc: Global,
     config: Shared<Config>,
-    bytes: Vec<u8>,
+    batch: Batch,
     is_read: Arc<AtomicBool>,
 }
 
@@ -38,10 +39,10 @@ impl Reader {
         let Reader {
             alloc,
             config,
-            bytes,
+            batch,
             is_read,
         } = self;
-        let batch = read_batch(alloc, &config, bytes);
+        let batch = read_batch(alloc, &config, batch);
         is_read.store(true, Ordering::SeqCst);
         batch
     }
@@ -64,7 +65,7 @@ impl Reading {
         rt: &R,
         alloc: Global,
         config: &Shared<Config>,
-        bytes: Vec<u8>,
+        batch: Batch,
     ) -> Result<Reading, AllocError>
         ensures { IfOk result (λ reading. reading.thread.promise.0.value ≡ config.now) }
     {
@@ -72,7 +73,7 @@ impl Reading {
         let reader = Reader {
             alloc,
             config: config.share()?,
-            bytes,
+            batch,
             is_read: Arc::try_clone(&is_read)?,
         };
         let promise = ReadUnder(Snapshot::of(&**config));

@@ -4,6 +4,7 @@ ghost use Rattle.std.specs.Prelude.{◌≡◌, ◌+◌, ◌≤◌, length, All, 
 ghost use Rattle.lines_ahead.specs.ReadLines.{AreRead, IsRead, line_at};
 ghost use Rattle.request_lines.specs.Script.{command_in};
 
+use crate::batches::Batch;
 use crate::read_batch::{ReadBatch, ReadLine};
 use cdr_checks::Command;
 use ocpi_types::{Config, Refusal};
@@ -25,29 +26,36 @@ fn read_line(
     }
 }
 
-/// Returns the line that begins at this place, if a newline ends it, without its newline.
+/// Returns the line that begins at this place, before the end, if a newline ends it, without its newline.
 #[tactic(auto, using(crate::proofs::AheadLemmas::line_from))]
-fn line_from(bytes: &[u8], start: usize) -> Option<&[u8]>
-    requires { start ≤ length bytes.now }
+fn line_from(bytes: &[u8], start: usize, end: usize) -> Option<&[u8]>
     ensures line { IfSome result (λ line. line_at bytes.now start (length line.now) ≡ line.now) }
     ensures bound { IfSome result (λ line. start + (length line.now + 1) ≤ length bytes.now) }
 {
+    if start >= end || end > bytes.len() {
+        return None;
+    }
     match split_line(&bytes[start..]) {
         Some((line, _)) => Some(line),
         None => None,
     }
 }
 
-/// Reads the lines that newlines end, in order, until an allocation fails.
-fn read_lines(alloc: Global, config: &Config, bytes: &[u8]) -> Vec<ReadLine>
+/// Reads the lines that newlines end, from a place to an end, in order, until an allocation fails.
+fn read_lines(
+    alloc: Global,
+    room: &mut LineRoom,
+    config: &Config,
+    bytes: &[u8],
+    from: usize,
+    end: usize,
+) -> Vec<ReadLine>
     ensures { All (IsRead config.now bytes.now) result.items }
 {
-    // A part has too few lines for their tariffs to repeat.
-    let mut room = LineRoom::without_tariffs(alloc);
     let mut lines = Vec::new(alloc);
-    let mut start = 0;
-    while let Some(line) = line_from(bytes, start) {
-        let Some(command) = read_line(alloc, &mut room, config, line) else {
+    let mut start = from;
+    while let Some(line) = line_from(bytes, start, end) {
+        let Some(command) = read_line(alloc, room, config, line) else {
             return lines;
         };
         let length = line.len();
@@ -66,10 +74,22 @@ fn read_lines(alloc: Global, config: &Config, bytes: &[u8]) -> Vec<ReadLine>
     lines
 }
 
-/// Reads the lines of the bytes that newlines end, in order, until an allocation fails.
-pub fn read_batch(alloc: Global, config: &Config, bytes: Vec<u8>) -> ReadBatch
+/// Reads the lines of a batch that newlines end, in order, until an allocation fails.
+pub fn read_batch(alloc: Global, config: &Config, batch: Batch) -> ReadBatch
     ensures { AreRead config.now result }
 {
-    let lines = read_lines(alloc, config, bytes.as_slice());
-    ReadBatch { bytes, lines }
+    let Batch {
+        bytes,
+        start,
+        end,
+        tariffs,
+    } = batch;
+    let mut room = LineRoom::with_tariffs(alloc, tariffs);
+    let lines = read_lines(alloc, &mut room, config, bytes.as_slice(), start, end);
+    let LineRoom { room: _, tariffs } = room;
+    ReadBatch {
+        bytes,
+        lines,
+        tariffs,
+    }
 }

@@ -10,8 +10,7 @@ use crate::scripted::ScriptedAhead;
 use ocpi_types::{Config, Shared, TryCopy};
 use plain_house::Sequential;
 use request_lines::{
-    Count, LineRoom, MOST_READ_BYTES, ScriptFault, Sink, Source, run_lines_together,
-    run_script_together,
+    Count, MOST_READ_BYTES, ScriptFault, Sink, Source, run_lines_together, run_script_together,
 };
 use std::alloc::Global;
 use std::thread::Threads;
@@ -19,14 +18,15 @@ use std::thread::Threads;
 /// How many threads take part at most.
 pub const MOST_THREADS: usize = 16;
 
-/// Copies the configuration for several threads; returns `None` if one thread is to read, or if an allocation fails.
-fn shared_copy(alloc: Global, config: &Config, threads: usize) -> Option<Shared<Config>>
-    ensures { IfSome result (λ shared. shared ≡ config.now) }
+/// Returns what reads lines by all threads but the calling one; `None` if that one is to read alone, or if an allocation fails.
+fn ahead_of(alloc: Global, config: &Config, threads: usize) -> Option<ReadAhead>
+    ensures { IfSome result (λ ahead. ahead.config ≡ config.now) }
 {
     if threads < 2 {
         return None;
     }
-    Shared::new(alloc, config.copy(alloc).ok()?).ok()
+    let shared = Shared::new(alloc, config.copy(alloc).ok()?).ok()?;
+    ReadAhead::new(alloc, shared, threads.min(MOST_THREADS) - 1).ok()
 }
 
 /// Answers the lines of the reader in turn, until it ends, as `run_script_together` does. So many threads, at most 16, take part: the
@@ -52,17 +52,13 @@ pub fn run_script_ahead<R: Source, W: Sink, S: Sequential, T: Threads + Sync>(
     ensures failed { IfErr result (λ fault. is_write_fault fault ≡ true → W.writing.failed writer.new ≡ true) }
     ensures kept { IfErr result (λ fault. is_write_fault fault ≡ false → W.writing.failed writer.new ≡ W.writing.failed writer.old) }
 {
-    let Some(shared) = shared_copy(alloc, config, threads) else {
+    let Some(mut ahead) = ahead_of(alloc, config, threads) else {
         return run_script_together(alloc, reader, writer, config, house);
     };
-    let mut room = LineRoom::new(alloc);
-    let readers = threads.min(MOST_THREADS).saturating_sub(1);
-    let mut ahead = ReadAhead::new(alloc, shared, readers);
     let mut scripted = ScriptedAhead {
         rt,
         config,
         house,
-        room: &mut room,
         ahead: &mut ahead,
     };
     let told = run_lines_together(alloc, reader, writer, &mut scripted, MOST_READ_BYTES);

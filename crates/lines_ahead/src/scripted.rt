@@ -7,7 +7,7 @@ use crate::answering::respond;
 use crate::batches::LEAST_BATCH_BYTES;
 use ocpi_types::Config;
 use plain_house::Sequential;
-use request_lines::{Answerer, LineRoom};
+use request_lines::Answerer;
 use std::alloc::{AllocError, Global};
 use std::thread::Threads;
 
@@ -16,17 +16,16 @@ const LEAST_BYTES: usize = 2 * LEAST_BATCH_BYTES;
 
 /// A house that answers lines. Several threads read the lines of a read call meanwhile.
 #[derive(Drop)]
-pub struct ScriptedAhead<'r, 'c, 'h, 'm, 'a, R: Threads + Sync, S: Sequential> {
+pub struct ScriptedAhead<'r, 'c, 'h, 'a, R: Threads + Sync, S: Sequential> {
     pub rt: &'r R,
     pub config: &'c Config,
     pub house: &'h mut S,
-    pub room: &'m mut LineRoom,
     pub ahead: &'a mut ReadAhead,
     ghost same: { S.config house.now ≡ config.now },
     ghost ahead_same: { ahead.now.config ≡ config.now },
 }
 
-impl<R: Threads + Sync, S: Sequential> Answerer for ScriptedAhead<'_, '_, '_, '_, '_, R, S> {
+impl<R: Threads + Sync, S: Sequential> Answerer for ScriptedAhead<'_, '_, '_, '_, R, S> {
     ghost use Rattle.std.specs.Prelude.{◌≡◌, ◌⊎◌, refl};
     ghost use Rattle.std.specs.Thread.{IsSync};
     ghost use Rattle.std.proofs.Common.{◌∙◌};
@@ -47,15 +46,7 @@ impl<R: Threads + Sync, S: Sequential> Answerer for ScriptedAhead<'_, '_, '_, '_
     ghost can_look_ahead = { IsSync R.row };
 
     fn answer(&mut self, alloc: Global, line: &[u8]) -> Result<Vec<u8>, AllocError> {
-        respond(
-            self.rt,
-            alloc,
-            self.room,
-            self.ahead,
-            self.config,
-            self.house,
-            line,
-        )
+        respond(self.rt, alloc, self.ahead, self.config, self.house, line)
     }
 
     fn look_ahead(&mut self, alloc: Global, bytes: &[u8]) {

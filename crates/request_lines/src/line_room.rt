@@ -20,11 +20,11 @@ impl LineRoom {
         }
     }
 
-    /// For a few lines: no tariff is remembered.
-    pub fn without_tariffs(alloc: Global) -> LineRoom {
+    /// Returns a room with tariffs that were read in another one.
+    pub fn with_tariffs(alloc: Global, tariffs: KnownTariffs) -> LineRoom {
         LineRoom {
             room: Room::new(alloc),
-            tariffs: KnownTariffs::none(alloc),
+            tariffs,
         }
     }
 }

@@ -116,17 +116,20 @@ fn feed_together<W: Sink, A: Answerer>(
     Err(fault)
 }
 
-/// Answers the lines of the reader in turn, read by parts into the buffer, until it ends.
+/// Answers the lines of the reader in turn, read by parts into the buffer, until it ends. What has come of a line that has not ended waits
+/// in `part`.
 fn run_by_calls<R: Source, W: Sink, A: Answerer>(
     alloc: Global,
     reader: &mut R,
     gathering: &mut Gathering<'_, '_, W>,
     chained: &mut Chained<'_, A>,
     buffer: &mut Vec<u8>,
+    part: &mut Vec<u8>,
 ) -> Result<Count, ScriptFault>
     requires ready { A.can_look_ahead }
     requires some { 0 < length buffer.old.items }
     requires buffer { length buffer.old.items ≤ 1048576 }
+    requires part { part.old.items ≡ [] }
     requires waits { waiting gathering.old.text.now.items gathering.old.sent ≡ [] }
     ensures writer { gathering.new.writer.ghost_name ≡ gathering.old.writer.ghost_name }
     ensures answerer { chained.new.answerer.ghost_name ≡ chained.old.answerer.ghost_name }
@@ -138,7 +141,6 @@ fn run_by_calls<R: Source, W: Sink, A: Answerer>(
     ensures failed { IfErr result (λ fault. is_write_fault fault ≡ true → W.writing.failed gathering.new.writer.now ≡ true) }
     ensures kept { IfErr result (λ fault. is_write_fault fault ≡ false → W.writing.failed gathering.new.writer.now ≡ W.writing.failed gathering.old.writer.now) }
 {
-    let mut part = Vec::new(alloc);
     let mut progress = Progress {
         lines: 0,
         written: 0,
@@ -159,7 +161,7 @@ fn run_by_calls<R: Source, W: Sink, A: Answerer>(
         bytes += n as u128;
         let chunk = first(buffer, n);
         chained.answerer.look_ahead(alloc, chunk);
-        feed_together(alloc, gathering, chained, &mut progress, &mut part, chunk)?;
+        feed_together(alloc, gathering, chained, &mut progress, part, chunk)?;
     }
     Err(ScriptFault::Read)
 }
@@ -199,5 +201,13 @@ pub fn run_lines_together<R: Source, W: Sink, A: Answerer>(
         sent: 0,
     };
     let mut chained = Chained { answerer };
-    run_by_calls(alloc, reader, &mut gathering, &mut chained, &mut buffer)
+    let mut part = Vec::new(alloc);
+    run_by_calls(
+        alloc,
+        reader,
+        &mut gathering,
+        &mut chained,
+        &mut buffer,
+        &mut part,
+    )
 }

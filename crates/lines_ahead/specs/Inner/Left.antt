@@ -5,4 +5,4 @@ use Rattle.lines_ahead.specs.declared.left.Left.{Left}
 use Rattle.ocpi_types.specs.declared.config.Config.{Config}
 
 abbrev pub AreLeft : Config → Left → Type 0
-AreLeft config left = All (IsRead config left.bytes.items) left.lines.rest.items
+AreLeft config left = All (IsRead config left.bytes.value.items) left.lines.rest.items

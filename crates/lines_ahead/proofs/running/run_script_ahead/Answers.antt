@@ -5,7 +5,7 @@ use Rattle.request_lines.proofs.SeenTogether.{seen_together}
 use Rattle.lines_ahead.proofs.running.run_script_ahead.Goals as goal
 
 pub invariant_of-scripted : goal.invariant_of-scripted
-invariant_of-scripted g c = record { same = c.requires; ahead_same = c.new-ahead.ensures ∙ c.in-Some.ensures }
+invariant_of-scripted g c = record { same = c.requires; ahead_same = c.in-Some.ensures }
 
 pub returns-clause-told : goal.returns-clause-told
 returns-clause-told g c =

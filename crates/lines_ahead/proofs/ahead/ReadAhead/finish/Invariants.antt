@@ -1,8 +1,8 @@
 use Rattle.std.proofs.Common.{◌≡◌, length}
 use Rattle.lines_ahead.proofs.ahead.ReadAhead.finish.Given as goal
 
-abbrev pub invariant-loop-begun : goal.invariant-loop-begun
-invariant-loop-begun g l = l.self.config ≡ l.fn.self.config
+abbrev pub invariant-loop : goal.invariant-loop
+invariant-loop g l = l.self.config ≡ l.fn.self.config
 
-abbrev pub decreases-loop-begun : goal.decreases-loop-begun
-decreases-loop-begun g l = length l.self.begun.items
+abbrev pub decreases-loop : goal.decreases-loop
+decreases-loop g l = length l.self.begun.items
