@@ -208,7 +208,7 @@ def test_the_service_under_the_filters_of_the_unit(start: Start, tmp_path: Path)
 
 
 def test_the_image_names_files_that_are_there() -> None:
-    """The image cannot be built without a daemon of Docker; README.md in service/deploy says how its steps were tried."""
+    """The files that the Dockerfile copies are there; test_machine.py builds the image."""
     steps = (DEPLOY / "Dockerfile").read_text()
     copied = [word for row in re.findall(r"^COPY (.*)$", steps, re.MULTILINE) for word in row.split()[:-1]]
     assert len(copied) == 6
