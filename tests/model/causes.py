@@ -107,8 +107,8 @@ def whole(most):
     return f'a whole number from 0 to {most} in digits alone'
 
 
-def objects(least, most):
-    return f'a list of {least} to {most} objects'
+def items(least, most):
+    return f'a list of {least} to {most} items'
 
 
 OBJECT, TEXT, FLAG, WORDS = 'an object', 'a string', 'true or false', 'one of '
@@ -122,7 +122,7 @@ TOKEN_TYPE = WORDS + 'AD_HOC_USER APP_USER OTHER RFID'
 PARTY_MEMBERS = {'country_code': string(2), 'party_id': string(3)}
 SESSION_TOKEN = PARTY_MEMBERS | {'uid': string(36), 'type': TOKEN_TYPE, 'contract_id': string(36)}
 TARIFF = PARTY_MEMBERS | {'id': string(36), 'currency': CURRENCY, 'min_price': OBJECT, 'max_price': OBJECT,
-                          'elements': objects(1, 100), 'last_updated': MOMENT}
+                          'elements': items(1, 100), 'last_updated': MOMENT}
 EXPECTED = {
     None: {'platform': string(36), 'do': WORDS + ' '.join(rules.MEMBERS), 'tariff': OBJECT, 'token': OBJECT, 'cdr': OBJECT,
            'operator': PARTY, 'provider': PARTY, 'party': PARTY, 'uid': string(36), 'reference': string(36), 'id': string(39),
@@ -132,18 +132,18 @@ EXPECTED = {
     'tariffs': TARIFF,
     'min_price': {'excl_vat': AT_LEAST_0},
     'max_price': {'excl_vat': AT_LEAST_0},
-    'elements': {'price_components': objects(1, 16), 'restrictions': OBJECT},
+    'elements': {'price_components': items(1, 16), 'restrictions': OBJECT},
     'price_components': {'type': WORDS + 'ENERGY FLAT PARKING_TIME TIME', 'price': AT_LEAST_0, 'step_size': whole(10**9)},
     'restrictions': {'start_time': CLOCK, 'end_time': CLOCK, 'start_date': DATE, 'end_date': DATE, 'min_kwh': AT_LEAST_0,
                      'max_kwh': AT_LEAST_0, 'min_duration': whole(10**18 - 1), 'max_duration': whole(10**18 - 1),
-                     'day_of_week': 'a list of days', 'reservation': TEXT} | dict.fromkeys(BOUNDS, NUMBER),
+                     'day_of_week': items(0, 1048576), 'reservation': TEXT} | dict.fromkeys(BOUNDS, NUMBER),
     'cdr': PARTY_MEMBERS | {'id': string(39), 'start_date_time': MOMENT, 'end_date_time': MOMENT, 'cdr_token': OBJECT,
                             'auth_method': WORDS + 'AUTH_REQUEST COMMAND WHITELIST', 'authorization_reference': string(36),
-                            'currency': CURRENCY, 'tariffs': objects(0, 10), 'charging_periods': objects(1, 1000),
+                            'currency': CURRENCY, 'tariffs': items(0, 10), 'charging_periods': items(1, 1000),
                             'total_cost': OBJECT, 'total_energy': NUMBER, 'total_time': NUMBER, 'credit': FLAG,
                             'credit_reference_id': string(39), 'last_updated': MOMENT},
     'cdr_token': SESSION_TOKEN,
-    'charging_periods': {'start_date_time': MOMENT, 'dimensions': objects(1, 100), 'tariff_id': string(36)},
+    'charging_periods': {'start_date_time': MOMENT, 'dimensions': items(1, 100), 'tariff_id': string(36)},
     'dimensions': {'type': TEXT, 'volume': NUMBER},
     'total_cost': {'excl_vat': NUMBER},
 }

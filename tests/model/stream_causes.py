@@ -6,7 +6,7 @@ from causes import EXPECTED, MISSING, OBJECT, UNFIT, Explainer, row, written
 from rules import Refused, fold, request_of
 from streams import Stream, request_id_of
 
-UNREAD = "missing, of a wrong kind or out of bounds"
+VERSION = "a whole number from 1 to 2 in digits alone"
 
 Row = tuple[str, str, str, str, str]
 
@@ -53,12 +53,11 @@ class StreamExplainer(Explainer):
     def of_change(self, value: dict[str, object], field: str) -> Row:
         expected = {"platform": EXPECTED[None]["platform"], "configuration": OBJECT}
         if field in expected:
-            found = value.get(field, MISSING)
-            cause = "missing" if found is MISSING else UNFIT
-            return row(field, cause, written(found), expected[field])
+            return at_fault(field, value.get(field, MISSING), expected[field])
         if field == "platforms":
             return row("configuration.platforms", "no hub")
-        return row(field, UNREAD)
+        found = value["configuration"].get("version", MISSING)
+        return at_fault("configuration.version", found, VERSION)
 
     def NotYours(self, v: dict[str, str], answer: dict[str, str]) -> Row:
         if v["do"] != "configure":
@@ -76,6 +75,11 @@ class StreamExplainer(Explainer):
         is_plain = given.isascii() and given.isprintable()
         found = given if is_plain else written(given)
         return row("request_id", "given to another line", found)
+
+
+def at_fault(path: str, found: object, expected: str) -> Row:
+    cause = "missing" if found is MISSING else UNFIT
+    return row(path, cause, written(found), expected)
 
 
 def is_change(value: object) -> bool:

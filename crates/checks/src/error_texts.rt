@@ -5,9 +5,9 @@ mod refusals;
 
 use crate::check_fault::CheckFault;
 use command_line::Fault;
-use ocpi_json::ReadFault;
 use ocpi_json::fields::FieldFault;
 use ocpi_json::name::Name;
+use ocpi_json::{Expected, MemberFault, ReadFault, Step};
 use ocpi_types::{ConfigFault, Refusal};
 use period_order::ResolveFault;
 use plain_house::Refused;
@@ -24,19 +24,29 @@ fn tell_each<E: Error>(rt: &HostRuntime, kind: &str, errors: &[E]) -> io::Result
     Ok(())
 }
 
+fn volume() -> MemberFault {
+    let fault = MemberFault::at(Step::Member(Name::Volume), Expected::Number);
+    fault.seen_from(Step::item(Name::Dimensions, 2))
+}
+
+fn zone() -> MemberFault {
+    let fault = MemberFault::at(Step::Member(Name::Zone), Expected::Zone);
+    fault.seen_from(Step::item(Name::Operators, 1))
+}
+
 fn tell_reading(rt: &HostRuntime) -> io::Result<()> {
     tell_each(rt, "ReadFault", &[ReadFault::Syntax, ReadFault::NoMemory])?;
     tell_each(
         rt,
         "FieldFault",
-        &[FieldFault::Field(Name::Volume), FieldFault::NoMemory],
+        &[FieldFault::Field(volume()), FieldFault::NoMemory],
     )?;
     tell_each(
         rt,
         "ConfigFault",
         &[
             ConfigFault::Syntax,
-            ConfigFault::Member { name: Name::Zone },
+            ConfigFault::Member(zone()),
             ConfigFault::NoMemory,
         ],
     )

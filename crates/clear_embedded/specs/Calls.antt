@@ -1,6 +1,6 @@
 -- What each function that C calls does to the house that C holds, if it holds one.
 use Rattle.std.specs.Prelude.{◌≡◌, ℕ, List, Option, Some, None, Ok, Err}
-use Rattle.ocpi_json.specs.declared.name.Name.{Name}
+use Rattle.ocpi_json.specs.declared.member_fault.MemberFault.{MemberFault}
 use Rattle.ocpi_types.specs.declared.config.Config.{Config}
 use Rattle.ocpi_types.specs.declared.config.reading.ConfigFault.TheVariants as fault
 use Rattle.ocpi_types.specs.declared.config.reading.ConfigFault.TheVariants.{Syntax}
@@ -14,7 +14,7 @@ use Rattle.clear_embedded.specs.declared.code.Code.TheVariants.{Done, NoMemory, 
 abbrev pub IsOpened : Code → List ℕ → Option Standing → Type 0
 IsOpened Done bytes pointer' = (config : Config) × (config_of bytes ≡ Ok config) × (pointer' ≡ Some (opened config))
 IsOpened NoJson bytes pointer' = (config_of bytes ≡ Err Syntax) × (pointer' ≡ None)
-IsOpened Member bytes pointer' = (name : Name) × (config_of bytes ≡ Err (fault.Member name)) × (pointer' ≡ None)
+IsOpened Member bytes pointer' = (found : MemberFault) × (config_of bytes ≡ Err (fault.Member found)) × (pointer' ≡ None)
 IsOpened NoMemory bytes pointer' = pointer' ≡ None
 IsOpened Closed bytes pointer' = ⊥
 IsOpened Open bytes pointer' = ⊥

@@ -79,7 +79,7 @@ impl ClearHouse {
                 Code::Done
             }
             Err(ConfigFault::Syntax) => Code::NoJson,
-            Err(ConfigFault::Member { .. }) => Code::Member,
+            Err(ConfigFault::Member(_)) => Code::Member,
             Err(ConfigFault::NoMemory) => Code::NoMemory,
         }
     }

@@ -1,5 +1,6 @@
 -- What ends a command early, and the lines that tell it on standard error.
 use Rattle.std.specs.Prelude.{◌≡◌, ℕ, ◌<◌, ◌⊎◌, true, List, ◌++◌, length, take, codes, decimal}
+use Rattle.ocpi_json.specs.MemberFaults.{name_of}
 use Rattle.ocpi_json.specs.Name.{key_text}
 use Rattle.ocpi_types.specs.declared.config.reading.ConfigFault.{ConfigFault}
 use Rattle.ocpi_types.specs.declared.config.reading.ConfigFault.TheVariants.{Syntax, Member, NoMemory as ConfigNoMemory}
@@ -62,7 +63,7 @@ exit_status NoMemory = 1
 -- the fault of bytes that are no configuration
 abbrev pub config_fault : ConfigFault → Fault
 config_fault Syntax = ConfigSyntax
-config_fault (Member called) = ConfigMember called
+config_fault (Member fault) = ConfigMember (name_of fault.member)
 config_fault ConfigNoMemory = NoMemory
 
 -- the fault of lines that are not all answered

@@ -84,7 +84,9 @@ impl From<ConfigFault> for Fault<'_> {
     fn from(cause: ConfigFault) -> Self {
         match cause {
             ConfigFault::Syntax => Fault::ConfigSyntax,
-            ConfigFault::Member { name } => Fault::ConfigMember { name },
+            ConfigFault::Member(fault) => Fault::ConfigMember {
+                name: fault.member.name(),
+            },
             ConfigFault::NoMemory => Fault::NoMemory,
         }
     }

@@ -5,7 +5,6 @@ pub mod Currencies
 pub mod Dates
 pub mod Holds
 pub mod Inner
-pub mod Members
 pub mod Parties
 pub mod Rights
 pub mod Rows

@@ -1,8 +1,9 @@
 -- The CDR that a text of JSON is.
 use Rattle.std.specs.Prelude.{ℕ, List, Bool, true, false, Option, Some, None, Result, Ok, Err}
 use Rattle.json.specs.Json.{Json as Data}
+use Rattle.ocpi_json.specs.MemberFaults.{name_of}
 use Rattle.ocpi_json.specs.Reading.{data_of}
-use Rattle.ocpi_json.specs.declared.name.Name.{Name}
+use Rattle.ocpi_json.specs.declared.member_fault.MemberFault.{MemberFault}
 use Rattle.ocpi_types.specs.declared.cdr.Cdr.{Cdr}
 use Rattle.ocpi_types.specs.declared.refusal.Refusal.TheVariants.{Syntax, Field}
 use Rattle.ocpi_types.specs.Cdr.{cdr_at}
@@ -21,9 +22,9 @@ abbrev pub ◌>>=◌ : {A B : Type 0} → Result A RatingFault → (A → Result
 (Ok x) >>= f = f x
 (Err fault) >>= f = Err fault
 
-abbrev pub cdr_or_fault : Result Cdr Name → Result Cdr RatingFault
+abbrev pub cdr_or_fault : Result Cdr MemberFault → Result Cdr RatingFault
 cdr_or_fault (Ok cdr) = Ok cdr
-cdr_or_fault (Err called) = Err (Refused (Field called))
+cdr_or_fault (Err fault) = Err (Refused (Field (name_of fault.member)))
 
 abbrev pub cdr_if_json : Option Data → Result Cdr RatingFault
 cdr_if_json None = Err (Refused Syntax)

@@ -1,4 +1,3 @@
 pub mod Causes
-pub mod Expectations
 pub mod Known
 pub mod Warnings

@@ -24,7 +24,9 @@ pub fn read_cdr(alloc: Global, room: &mut Room, text: &[u8]) -> Result<Cdr, Rati
     };
     match Cdr::from_node_in(alloc, &read.value()) {
         Ok(cdr) => Ok(cdr),
-        Err(FieldFault::Field(name)) => Err(refused(Refusal::Field { name })),
+        Err(FieldFault::Field(fault)) => Err(refused(Refusal::Field {
+            name: fault.member.name(),
+        })),
         Err(FieldFault::NoMemory) => Err(RatingFault::NoMemory),
     }
 }

@@ -3,7 +3,6 @@
 ghost use Rattle.std.specs.Prelude.{◌≡◌, ◌≢◌, ◌↔◌, []};
 
 mod alike;
-mod expected;
 mod failing;
 mod in_force;
 mod near;
@@ -15,7 +14,6 @@ mod report;
 mod spelled;
 mod warning;
 mod warnings;
-mod wrong;
 
 use command_line::{Fault, only_word, read_config};
 use report::{Report, report_of};
@@ -42,15 +40,11 @@ fn print(rt: &HostRuntime, report: &Report) -> io::Result<u8> {
             Ok(status(passed_over.as_str(), warnings.as_str()))
         }
         Report::AtFault {
-            name,
             failing,
             passed_over,
         } => {
             print!(rt; "{passed_over}")?;
-            match failing {
-                Some(failing) => eprintln!(rt; "clear: {failing}")?,
-                None => eprintln!(rt; "clear: {}", name.key())?,
-            }
+            eprintln!(rt; "clear: {failing}")?;
             Ok(1)
         }
     }

@@ -5,7 +5,7 @@ use Rattle.std.specs.Prelude.{slice_get, unwrap_or}
 use Rattle.json.specs.Json.{Json as Data}
 use Rattle.ocpi_json.specs.Members.{◌>>=◌}
 use Rattle.ocpi_json.specs.Reading.{data_of}
-use Rattle.ocpi_json.specs.declared.name.Name.{Name}
+use Rattle.ocpi_json.specs.declared.member_fault.MemberFault.{MemberFault}
 use Rattle.ocpi_types.specs.declared.config.Config.{Config}
 use Rattle.ocpi_types.specs.declared.refusal.Refusal.{Refusal}
 use Rattle.ocpi_types.specs.Config.{is_hub}
@@ -45,17 +45,17 @@ abbrev as_line : Result Request Refusal → Result AskedLine Refusal
 as_line (Ok request) = Ok (record { id = None; asked = asked.Request request })
 as_line (Err why) = Err why
 
-abbrev as_asked : Option (List ℕ) → Result Request Name → Result AskedLine Name
+abbrev as_asked : Option (List ℕ) → Result Request MemberFault → Result AskedLine MemberFault
 as_asked id found = found >>= (λ request. Ok (asked.Request request)) >>= (λ asked. Ok (record { id = id; asked = asked }))
 
-or_same : (found : Result Request Name) → or_field (as_asked None found) ≡ as_line (lines.or_field found)
+or_same : (found : Result Request MemberFault) → or_field (as_asked None found) ≡ as_line (lines.or_field found)
 or_same (Ok request) = refl
-or_same (Err called) = refl
+or_same (Err fault) = refl
 
 asks_in : (d : Option Data) → is_change_in d ≡ false → HasNoRequestId d → line_in d ≡ as_line (request_in d)
 asks_in None none no_id = refl
 asks_in (Some node) none no_id =
-    ap (λ (m : Result (Option (List ℕ)) Name). or_field (m >>= (λ id. asked_at node >>= (λ asked. Ok (record { id = id; asked = asked }))))) no_id
+    ap (λ (m : Result (Option (List ℕ)) MemberFault). or_field (m >>= (λ id. asked_at node >>= (λ asked. Ok (record { id = id; asked = asked }))))) no_id
     ∙ ap (λ (b : Bool). or_field (cond b (changes_at node) (requests_at node) >>= (λ asked. Ok (record { id = None; asked = asked })))) none
     ∙ or_same (request_at node)
 

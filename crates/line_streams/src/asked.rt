@@ -11,8 +11,8 @@ use cdr_checks::Request;
 use ocpi_json::ci_text::CiText;
 use ocpi_json::fields::{self, FieldFault};
 use ocpi_json::name::Name;
-use ocpi_json::objects::{FromNodeIn, FromText};
-use ocpi_json::{Node, ReadFault};
+use ocpi_json::objects::{FromText, read_inside};
+use ocpi_json::{Expected, MemberFault, Node, ReadFault, Step};
 use ocpi_types::{Config, KnownTariffs, Refusal};
 use request_lines::{LineRoom, read_request};
 use std::alloc::Global;
@@ -24,15 +24,22 @@ pub enum ChangeName {
 }
 
 impl FromText for ChangeName {
+    ghost use Rattle.ocpi_json.specs.declared.expected.Expected.TheVariants as expected;
     ghost use Rattle.line_streams.specs.Asked.{change_named};
 
     ghost of_text = { change_named };
+
+    ghost expects = { expected.Change };
 
     fn from_text(text: &str) -> Option<ChangeName> {
         match text {
             "configure" => Some(ChangeName::Configure),
             _ => None,
         }
+    }
+
+    fn expected() -> Expected {
+        Expected::Change
     }
 }
 
@@ -94,9 +101,12 @@ fn read_change(alloc: Global, node: &Node) -> Result<Change, FieldFault>
     ensures { Finds result (change_at node.now) }
 {
     let platform = fields::ci_text(node, Name::Platform)?;
-    let config = Config::from_node_in(alloc, &fields::object(node, Name::Configuration)?)?;
+    let object = fields::object(node, Name::Configuration)?;
+    let config = read_inside(alloc, Name::Configuration, &object)?;
     if !has_hub(&config) {
-        return Err(FieldFault::Field(Name::Platforms));
+        let fault = MemberFault::at(Step::Member(Name::Platforms), Expected::Hub);
+        let around = Step::Member(Name::Configuration);
+        return Err(FieldFault::Field(fault.seen_from(around)));
     }
     Ok(Change { platform, config })
 }
@@ -125,7 +135,13 @@ fn read_asked(alloc: Global, known: &mut KnownTariffs, node: &Node) -> Result<As
     }
 }
 
-fn read_asked_line(
+/// Reads what a line's value asks for, and its request id.
+///
+/// # Errors
+///
+/// `Field` with the fault of the first member that is missing, of a wrong kind or out of bounds, the request id before all others,
+/// `NoMemory` if an allocation fails.
+pub fn read_asked_line(
     alloc: Global,
     known: &mut KnownTariffs,
     node: &Node,
@@ -141,8 +157,7 @@ fn read_asked_line(
 ///
 /// # Errors
 ///
-/// `Syntax` if the line is no JSON, `Field` with the first member that is missing, of a wrong kind or out of bounds, the request id before
-/// all others, `NoMemory` if an allocation fails.
+/// `Syntax` if the line is no JSON, and the errors of `read_asked_line`, a fault as the name of its member.
 #[tactic(auto, unfolding(crate::specs::Asked::asked_of))]
 pub fn asked_of(alloc: Global, room: &mut LineRoom, line: &[u8]) -> Result<AskedLine, Refusal>
     ensures asked { IfOk result (λ asked. asked_of line.now ≡ Ok asked) }
@@ -156,7 +171,9 @@ pub fn asked_of(alloc: Global, room: &mut LineRoom, line: &[u8]) -> Result<Asked
     };
     match read_asked_line(alloc, tariffs, &read.value()) {
         Ok(asked) => Ok(asked),
-        Err(FieldFault::Field(name)) => Err(Refusal::Field { name }),
+        Err(FieldFault::Field(fault)) => Err(Refusal::Field {
+            name: fault.member.name(),
+        }),
         Err(FieldFault::NoMemory) => Err(Refusal::NoMemory),
     }
 }

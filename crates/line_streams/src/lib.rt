@@ -12,7 +12,7 @@ mod request_id;
 mod running;
 mod stream;
 
-pub use asked::{Asked, AskedLine, Change, ChangeName, asked_of};
+pub use asked::{Asked, AskedLine, Change, ChangeName, asked_of, read_asked_line};
 pub use laws::{
     repeats_add_nothing, repeats_are_answered_alike, streams_are_determined, streams_stay_legal,
     streams_stay_sound, unchanged_is_a_script,

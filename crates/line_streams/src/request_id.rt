@@ -3,6 +3,7 @@
 ghost use Rattle.std.specs.Prelude.{◌≡◌};
 
 use arrayvec::ArrayString;
+use ocpi_json::Expected;
 use ocpi_json::ci_text::CiText;
 use ocpi_json::objects::FromText;
 use std::marker::Model;
@@ -36,9 +37,12 @@ impl RequestId {
 }
 
 impl FromText for RequestId {
+    ghost use Rattle.ocpi_json.specs.declared.expected.Expected.TheVariants as expected;
     ghost use Rattle.line_streams.specs.Asked.{request_id_of};
 
     ghost of_text = { request_id_of };
+
+    ghost expects = { expected.RequestId };
 
     fn from_text(text: &str) -> Option<RequestId> {
         if text.is_empty() {
@@ -48,6 +52,10 @@ impl FromText for RequestId {
             Ok(text) => Some(RequestId { text }),
             Err(_) => None,
         }
+    }
+
+    fn expected() -> Expected {
+        Expected::RequestId
     }
 }
 

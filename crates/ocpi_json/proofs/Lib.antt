@@ -15,3 +15,4 @@ pub mod Readings
 pub mod Tapes
 pub mod Tokens
 pub mod Wholes
+pub mod Withins

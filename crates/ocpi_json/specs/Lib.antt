@@ -2,9 +2,11 @@ pub mod Faults
 pub mod Fields
 pub mod Folded
 pub mod Inner
+pub mod MemberFaults
 pub mod Members
 pub mod MomentText
 pub mod Name
 pub mod Reading
 pub mod SomeIf
+pub mod Standing
 pub mod Tokens

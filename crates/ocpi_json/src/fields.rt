@@ -5,12 +5,14 @@ ghost use Rattle.std.specs.Char.{is_ascii_digit};
 ghost use Rattle.std.specs.List.{list_all};
 ghost use Rattle.json.specs.Find.{as_bool};
 ghost use Rattle.ocpi_json.specs.Faults.{Finds};
-ghost use Rattle.ocpi_json.specs.Fields.{member_at, present_at, required, optional, as_text, as_token, as_ci_text, if_ci, as_items, as_list, as_number, as_object_node, as_parsed, as_whole, whole_value, if_within, as_unsigned, if_not_negative, list_or_empty};
-ghost use Rattle.ocpi_json.specs.MomentText.{instant_of, date_of, clock_of};
-ghost use Rattle.ocpi_json.specs.Members.{or_name, shown};
+ghost use Rattle.ocpi_json.specs.Fields.{member_at, present_at, required, optional, as_text, as_token, as_ci_text, if_ci, as_list, as_number, as_object_node, as_parsed, as_whole, whole_value, if_within, as_unsigned, if_not_negative, ascii, clock, date, flag, list, list_or_empty, misfit, moment, not_below_0, number, object, parsed, text, whole};
+ghost use Rattle.ocpi_json.specs.MemberFaults.{fault_at, member_of};
+ghost use Rattle.ocpi_json.specs.Members.{or_fault, shown};
 
 use crate::ci_text::CiText;
+use crate::expected::Expected;
 use crate::has_members::HasMembers;
+use crate::member_fault::{MemberFault, Step};
 use crate::name::Name;
 use crate::node::{Node, Nodes};
 use crate::objects::FromText;
@@ -24,9 +26,9 @@ use thiserror::Error;
 /// Why an object was not read.
 #[derive(Clone, Copy, Debug, PartialEq, Eq, Error)]
 pub enum FieldFault {
-    /// The member that is missing or not of its kind.
+    /// The member that is missing, of another kind or out of bounds.
     #[error("Field {0}")]
-    Field(Name),
+    Field(MemberFault),
     #[error("no memory")]
     NoMemory,
 }
@@ -53,21 +55,34 @@ impl<T: Drop> From<AllocFailed<T>> for FieldFault {
     }
 }
 
-impl From<Name> for FieldFault {
+impl From<MemberFault> for FieldFault {
     ghost use Rattle.std.specs.Prelude.{◌≡◌};
     ghost use Rattle.ocpi_json.specs.declared.fields.FieldFault.TheVariants.{Field};
 
-    ghost from_gives = { λ name e. e ≡ Field name };
+    ghost from_gives = { λ fault e. e ≡ Field fault };
 
-    fn from(name: Name) -> FieldFault {
-        FieldFault::Field(name)
+    fn from(fault: MemberFault) -> FieldFault {
+        FieldFault::Field(fault)
     }
 }
 
-fn member<'a, M: HasMembers<'a>>(node: &M, name: Name) -> Result<Node<'a>, Name>
-    ensures { result ≡ or_name name (member_at name (M.object node.now)) }
+// The fault of the member of that name, where it is not what it has to be.
+#[cold]
+#[inline(never)]
+fn misfit(name: Name, expected: Expected) -> MemberFault
+    ensures { result ≡ fault_at (member_of name) expected }
 {
-    node.find(name).ok_or(name)
+    MemberFault::at(Step::Member(name), expected)
+}
+
+// What the member of that name stands for, or its fault.
+fn or_misfit<T>(found: Option<T>, name: Name, expected: Expected) -> Result<T, MemberFault>
+    ensures { result ≡ or_fault (fault_at (member_of name) expected) found }
+{
+    match found {
+        Some(value) => Ok(value),
+        None => Err(misfit(name, expected)),
+    }
 }
 
 fn present<'a, M: HasMembers<'a>>(node: &M, name: Name) -> Option<Node<'a>>
@@ -106,49 +121,52 @@ fn as_ci_text<const MOST: usize>(member: &Node) -> Option<CiText<MOST>>
     if_ci(as_text(member)?)
 }
 
-fn ci_text_in<const MOST: usize>(member: &Node, name: Name) -> Result<CiText<MOST>, Name>
-    ensures { result ≡ or_name name (as_ci_text MOST member.now) }
-{
-    as_ci_text(member).ok_or(name)
-}
-
 /// A text of 1 to `MOST` printable ASCII characters.
 pub fn ci_text<'n, const MOST: usize, M: HasMembers<'n>>(
     node: &M,
     name: Name,
-) -> Result<CiText<MOST>, Name>
-    ensures { result ≡ required (as_ci_text MOST) name (M.object node.now) }
+) -> Result<CiText<MOST>, MemberFault>
+    ensures { result ≡ required (ascii MOST) name (M.object node.now) }
 {
-    ci_text_in(&member(node, name)?, name)
+    let found = match node.find(name) {
+        Some(member) => as_ci_text(&member),
+        None => None,
+    };
+    or_misfit(found, name, Expected::Ascii { most: MOST })
 }
 
 /// The same, where the member may be missing or null.
 pub fn ci_text_or_none<'n, const MOST: usize, M: HasMembers<'n>>(
     node: &M,
     name: Name,
-) -> Result<Option<CiText<MOST>>, Name>
-    ensures { result ≡ optional (as_ci_text MOST) name (M.object node.now) }
+) -> Result<Option<CiText<MOST>>, MemberFault>
+    ensures { result ≡ optional (ascii MOST) name (M.object node.now) }
 {
     match present(node, name) {
-        Some(member) => Ok(Some(ci_text_in(&member, name)?)),
+        Some(member) => {
+            let found = as_ci_text(&member);
+            Ok(Some(or_misfit(found, name, Expected::Ascii { most: MOST })?))
+        }
         None => Ok(None),
     }
 }
 
-fn text_in(alloc: Global, member: &Node, name: Name) -> Result<Text, FieldFault>
-    ensures { Finds result (or_name name (as_text member.now)) }
+/// A text, lent by the line or its room.
+pub fn word<'a, M: HasMembers<'a>>(node: &M, name: Name) -> Result<&'a str, MemberFault>
+    ensures { shown (λ t. t.now) result ≡ required text name (M.object node.now) }
 {
-    let Some(text) = as_text(member) else {
-        return Err(FieldFault::Field(name));
+    let found = match node.find(name) {
+        Some(member) => as_text(&member),
+        None => None,
     };
-    Ok(Text::new(alloc, text)?)
+    or_misfit(found, name, Expected::Text)
 }
 
 /// A text.
 pub fn text<'n, M: HasMembers<'n>>(alloc: Global, node: &M, name: Name) -> Result<Text, FieldFault>
-    ensures { Finds result (required as_text name (M.object node.now)) }
+    ensures { Finds result (required text name (M.object node.now)) }
 {
-    text_in(alloc, &member(node, name)?, name)
+    Ok(Text::new(alloc, word(node, name)?)?)
 }
 
 /// The same, where the member may be missing or null.
@@ -157,77 +175,83 @@ pub fn text_or_none<'n, M: HasMembers<'n>>(
     node: &M,
     name: Name,
 ) -> Result<Option<Text>, FieldFault>
-    ensures { Finds result (optional as_text name (M.object node.now)) }
+    ensures { Finds result (optional text name (M.object node.now)) }
 {
     match present(node, name) {
-        Some(member) => Ok(Some(text_in(alloc, &member, name)?)),
+        Some(member) => {
+            let text = or_misfit(as_text(&member), name, Expected::Text)?;
+            Ok(Some(Text::new(alloc, text)?))
+        }
         None => Ok(None),
     }
-}
-
-fn flag_in(member: &Node, name: Name) -> Result<bool, Name>
-    ensures { result ≡ or_name name (as_bool member.now) }
-{
-    member.as_bool().ok_or(name)
 }
 
 /// `true` or `false`.
-pub fn flag<'n, M: HasMembers<'n>>(node: &M, name: Name) -> Result<bool, Name>
-    ensures { result ≡ required as_bool name (M.object node.now) }
+pub fn flag<'n, M: HasMembers<'n>>(node: &M, name: Name) -> Result<bool, MemberFault>
+    ensures { result ≡ required flag name (M.object node.now) }
 {
-    flag_in(&member(node, name)?, name)
+    let found = match node.find(name) {
+        Some(member) => member.as_bool(),
+        None => None,
+    };
+    or_misfit(found, name, Expected::Flag)
 }
 
 /// The same, where the member may be missing or null.
-pub fn flag_or_none<'n, M: HasMembers<'n>>(node: &M, name: Name) -> Result<Option<bool>, Name>
-    ensures { result ≡ optional as_bool name (M.object node.now) }
+pub fn flag_or_none<'n, M: HasMembers<'n>>(
+    node: &M,
+    name: Name,
+) -> Result<Option<bool>, MemberFault>
+    ensures { result ≡ optional flag name (M.object node.now) }
 {
     match present(node, name) {
-        Some(member) => Ok(Some(flag_in(&member, name)?)),
+        Some(member) => Ok(Some(or_misfit(member.as_bool(), name, Expected::Flag)?)),
         None => Ok(None),
     }
 }
 
-/// A text, lent by the line or its room; the node is the text itself.
-pub fn word_in<'a>(member: &Node<'a>, name: Name) -> Result<&'a str, Name>
-    ensures { shown (λ t. t.now) result ≡ or_name name (as_text member.now) }
+fn as_parsed<T: FromText + Drop>(member: &Node) -> Option<T>
+    ensures { result ≡ as_parsed T.of_text member.now }
 {
-    as_text(member).ok_or(name)
+    T::from_text(as_text(member)?)
 }
 
-/// A text, lent by the line or its room.
-pub fn word<'a, M: HasMembers<'a>>(node: &M, name: Name) -> Result<&'a str, Name>
-    ensures { shown (λ t. t.now) result ≡ required as_text name (M.object node.now) }
+/// A text that stands for a value, as an enumeration of OCPI; the node is the text itself, and stands at the step.
+pub fn parsed_in<T: FromText + Drop>(member: &Node, at: Step) -> Result<T, MemberFault>
+    ensures { result ≡ or_fault (fault_at at T.expects) (as_parsed T.of_text member.now) }
 {
-    word_in(&member(node, name)?, name)
-}
-
-/// A text that stands for a value, as an enumeration of OCPI; the node is the text itself.
-pub fn parsed_in<T: FromText + Drop>(member: &Node, name: Name) -> Result<T, Name>
-    ensures { result ≡ or_name name (as_parsed T.of_text member.now) }
-{
-    let Some(text) = as_text(member) else {
-        return Err(name);
-    };
-    T::from_text(text).ok_or(name)
+    match as_parsed(member) {
+        Some(value) => Ok(value),
+        None => Err(MemberFault::at(at, T::expected())),
+    }
 }
 
 /// A text that stands for a value, as an enumeration of OCPI.
-pub fn parsed<'n, T: FromText + Drop, M: HasMembers<'n>>(node: &M, name: Name) -> Result<T, Name>
-    ensures { result ≡ required (as_parsed T.of_text) name (M.object node.now) }
+pub fn parsed<'n, T: FromText + Drop, M: HasMembers<'n>>(
+    node: &M,
+    name: Name,
+) -> Result<T, MemberFault>
+    ensures { result ≡ required (parsed T.expects T.of_text) name (M.object node.now) }
 {
-    parsed_in(&member(node, name)?, name)
+    let found = match node.find(name) {
+        Some(member) => as_parsed(&member),
+        None => None,
+    };
+    match found {
+        Some(value) => Ok(value),
+        None => Err(misfit(name, T::expected())),
+    }
 }
 
 /// The same, where the member may be missing or null.
 pub fn parsed_or_none<'n, T: FromText + Drop, M: HasMembers<'n>>(
     node: &M,
     name: Name,
-) -> Result<Option<T>, Name>
-    ensures { result ≡ optional (as_parsed T.of_text) name (M.object node.now) }
+) -> Result<Option<T>, MemberFault>
+    ensures { result ≡ optional (parsed T.expects T.of_text) name (M.object node.now) }
 {
     match present(node, name) {
-        Some(member) => Ok(Some(parsed_in(&member, name)?)),
+        Some(member) => Ok(Some(parsed_in(&member, Step::Member(name))?)),
         None => Ok(None),
     }
 }
@@ -238,28 +262,26 @@ fn as_number(node: &Node) -> Option<Millionths>
     Millionths::read(as_token(node)?.as_bytes())
 }
 
-fn number_in(member: &Node, name: Name) -> Result<Millionths, Name>
-    ensures { result ≡ or_name name (as_number member.now) }
-{
-    as_number(member).ok_or(name)
-}
-
 /// A number.
-pub fn number<'n, M: HasMembers<'n>>(node: &M, name: Name) -> Result<Millionths, Name>
-    ensures { result ≡ required as_number name (M.object node.now) }
+pub fn number<'n, M: HasMembers<'n>>(node: &M, name: Name) -> Result<Millionths, MemberFault>
+    ensures { result ≡ required number name (M.object node.now) }
 {
-    number_in(&member(node, name)?, name)
+    let found = match node.find(name) {
+        Some(member) => as_number(&member),
+        None => None,
+    };
+    or_misfit(found, name, Expected::Number)
 }
 
 /// The same, where the member may be missing or null.
 pub fn number_or_none<'n, M: HasMembers<'n>>(
     node: &M,
     name: Name,
-) -> Result<Option<Millionths>, Name>
-    ensures { result ≡ optional as_number name (M.object node.now) }
+) -> Result<Option<Millionths>, MemberFault>
+    ensures { result ≡ optional number name (M.object node.now) }
 {
     match present(node, name) {
-        Some(member) => Ok(Some(number_in(&member, name)?)),
+        Some(member) => Ok(Some(or_misfit(as_number(&member), name, Expected::Number)?)),
         None => Ok(None),
     }
 }
@@ -280,28 +302,29 @@ fn as_unsigned(node: &Node) -> Option<Millionths>
     if_not_negative(as_number(node)?)
 }
 
-fn unsigned_in(member: &Node, name: Name) -> Result<Millionths, Name>
-    ensures { result ≡ or_name name (as_unsigned member.now) }
-{
-    as_unsigned(member).ok_or(name)
-}
-
 /// A number of at least 0.
-pub fn unsigned<'n, M: HasMembers<'n>>(node: &M, name: Name) -> Result<Millionths, Name>
-    ensures { result ≡ required as_unsigned name (M.object node.now) }
+pub fn unsigned<'n, M: HasMembers<'n>>(node: &M, name: Name) -> Result<Millionths, MemberFault>
+    ensures { result ≡ required not_below_0 name (M.object node.now) }
 {
-    unsigned_in(&member(node, name)?, name)
+    let found = match node.find(name) {
+        Some(member) => as_unsigned(&member),
+        None => None,
+    };
+    or_misfit(found, name, Expected::NotBelow0)
 }
 
 /// The same, where the member may be missing or null.
 pub fn unsigned_or_none<'n, M: HasMembers<'n>>(
     node: &M,
     name: Name,
-) -> Result<Option<Millionths>, Name>
-    ensures { result ≡ optional as_unsigned name (M.object node.now) }
+) -> Result<Option<Millionths>, MemberFault>
+    ensures { result ≡ optional not_below_0 name (M.object node.now) }
 {
     match present(node, name) {
-        Some(member) => Ok(Some(unsigned_in(&member, name)?)),
+        Some(member) => {
+            let found = as_unsigned(&member);
+            Ok(Some(or_misfit(found, name, Expected::NotBelow0)?))
+        }
         None => Ok(None),
     }
 }
@@ -331,85 +354,88 @@ fn if_within(value: u64, least: u64, most: u64) -> Option<u64>
     }
 }
 
-fn as_whole(node: &Node, least: u64, most: u64) -> Option<u64>
+fn as_whole(node: &Node, least: u8, most: u64) -> Option<u64>
     ensures { result ≡ as_whole least most node.now }
 {
-    if_within(whole_value(as_token(node)?)?, least, most)
-}
-
-fn whole_in(member: &Node, name: Name, least: u64, most: u64) -> Result<u64, Name>
-    ensures { result ≡ or_name name (as_whole least most member.now) }
-{
-    as_whole(member, least, most).ok_or(name)
+    if_within(whole_value(as_token(node)?)?, least as u64, most)
 }
 
 /// A number of 1 to 18 digits, with no sign, point or exponent, from `least` to `most`.
 pub fn whole<'n, M: HasMembers<'n>>(
     node: &M,
     name: Name,
-    least: u64,
+    least: u8,
     most: u64,
-) -> Result<u64, Name>
-    ensures { result ≡ required (as_whole least most) name (M.object node.now) }
+) -> Result<u64, MemberFault>
+    ensures { result ≡ required (whole least most) name (M.object node.now) }
 {
-    whole_in(&member(node, name)?, name, least, most)
+    let found = match node.find(name) {
+        Some(member) => as_whole(&member, least, most),
+        None => None,
+    };
+    or_misfit(found, name, Expected::Whole { least, most })
 }
 
 /// The same, where the member may be missing or null.
 pub fn whole_or_none<'n, M: HasMembers<'n>>(
     node: &M,
     name: Name,
-    least: u64,
+    least: u8,
     most: u64,
-) -> Result<Option<u64>, Name>
-    ensures { result ≡ optional (as_whole least most) name (M.object node.now) }
+) -> Result<Option<u64>, MemberFault>
+    ensures { result ≡ optional (whole least most) name (M.object node.now) }
 {
     match present(node, name) {
-        Some(member) => Ok(Some(whole_in(&member, name, least, most)?)),
+        Some(member) => {
+            let found = as_whole(&member, least, most);
+            Ok(Some(or_misfit(found, name, Expected::Whole { least, most })?))
+        }
         None => Ok(None),
     }
 }
 
 /// A moment in UTC, with or without `Z` or `+00:00`.
-pub fn instant<'n, M: HasMembers<'n>>(node: &M, name: Name) -> Result<Timestamp, Name>
-    ensures { result ≡ required (as_parsed instant_of) name (M.object node.now) }
+pub fn instant<'n, M: HasMembers<'n>>(node: &M, name: Name) -> Result<Timestamp, MemberFault>
+    ensures { result ≡ required moment name (M.object node.now) }
 {
     parsed(node, name)
 }
 
 /// A date, `YYYY-MM-DD`.
-pub fn date<'n, M: HasMembers<'n>>(node: &M, name: Name) -> Result<Date, Name>
-    ensures { result ≡ required (as_parsed date_of) name (M.object node.now) }
+pub fn date<'n, M: HasMembers<'n>>(node: &M, name: Name) -> Result<Date, MemberFault>
+    ensures { result ≡ required date name (M.object node.now) }
 {
     parsed(node, name)
 }
 
 /// The same, where the member may be missing or null.
-pub fn date_or_none<'n, M: HasMembers<'n>>(node: &M, name: Name) -> Result<Option<Date>, Name>
-    ensures { result ≡ optional (as_parsed date_of) name (M.object node.now) }
+pub fn date_or_none<'n, M: HasMembers<'n>>(
+    node: &M,
+    name: Name,
+) -> Result<Option<Date>, MemberFault>
+    ensures { result ≡ optional date name (M.object node.now) }
 {
     parsed_or_none(node, name)
 }
 
 /// A time of day, `HH:MM`, where the member may be missing or null.
-pub fn clock_or_none<'n, M: HasMembers<'n>>(node: &M, name: Name) -> Result<Option<Time>, Name>
-    ensures { result ≡ optional (as_parsed clock_of) name (M.object node.now) }
+pub fn clock_or_none<'n, M: HasMembers<'n>>(
+    node: &M,
+    name: Name,
+) -> Result<Option<Time>, MemberFault>
+    ensures { result ≡ optional clock name (M.object node.now) }
 {
     parsed_or_none(node, name)
 }
 
-fn as_items<'a>(member: &Node<'a>) -> Option<Nodes<'a>>
-    ensures { result ≡ as_items member.now }
+fn as_list<'a>(member: &Node<'a>, least: u8, most: usize) -> Option<Nodes<'a>>
+    ensures { result ≡ as_list least most member.now }
 {
-    member.items()
-}
-
-fn list_in<'a>(member: &Node<'a>, name: Name, least: usize, most: usize) -> Result<Nodes<'a>, Name>
-    ensures { result ≡ or_name name (as_list least most member.now) }
-{
-    match as_items(member) {
-        Some(items) if least <= items.len() && items.len() <= most => Ok(items),
-        _ => Err(name),
+    let items = member.items()?;
+    if least as usize <= items.len() && items.len() <= most {
+        Some(items)
+    } else {
+        None
     }
 }
 
@@ -417,12 +443,16 @@ fn list_in<'a>(member: &Node<'a>, name: Name, least: usize, most: usize) -> Resu
 pub fn list<'a, M: HasMembers<'a>>(
     node: &M,
     name: Name,
-    least: usize,
+    least: u8,
     most: usize,
-) -> Result<Nodes<'a>, Name>
-    ensures { result ≡ required (as_list least most) name (M.object node.now) }
+) -> Result<Nodes<'a>, MemberFault>
+    ensures { result ≡ required (list least most) name (M.object node.now) }
 {
-    list_in(&member(node, name)?, name, least, most)
+    let found = match node.find(name) {
+        Some(member) => as_list(&member, least, most),
+        None => None,
+    };
+    or_misfit(found, name, Expected::List { least, most })
 }
 
 /// The items of an array of up to `most`, and none where the member is missing or null.
@@ -430,38 +460,49 @@ pub fn list_or_empty<'a, M: HasMembers<'a>>(
     node: &M,
     name: Name,
     most: usize,
-) -> Result<Nodes<'a>, Name>
+) -> Result<Nodes<'a>, MemberFault>
     ensures { result ≡ list_or_empty most name (M.object node.now) }
 {
     match present(node, name) {
-        Some(member) => list_in(&member, name, 0, most),
+        Some(member) => or_misfit(
+            as_list(&member, 0, most),
+            name,
+            Expected::List { least: 0, most },
+        ),
         None => Ok(Nodes::none()),
     }
 }
 
-fn object_in<'a>(member: Node<'a>, name: Name) -> Result<Node<'a>, Name>
-    ensures { result ≡ or_name name (as_object_node member.entry) }
+fn as_object<'a>(member: Node<'a>) -> Option<Node<'a>>
+    ensures { result ≡ as_object_node member.entry }
 {
     if member.is_object() {
-        Ok(member)
+        Some(member)
     } else {
-        Err(name)
+        None
     }
 }
 
 /// An object.
-pub fn object<'a, M: HasMembers<'a>>(node: &M, name: Name) -> Result<Node<'a>, Name>
-    ensures { result ≡ required as_object_node name (M.object node.now) }
+pub fn object<'a, M: HasMembers<'a>>(node: &M, name: Name) -> Result<Node<'a>, MemberFault>
+    ensures { result ≡ required object name (M.object node.now) }
 {
-    object_in(member(node, name)?, name)
+    let found = match node.find(name) {
+        Some(member) => as_object(member),
+        None => None,
+    };
+    or_misfit(found, name, Expected::Object)
 }
 
 /// The same, where the member may be missing or null.
-pub fn object_or_none<'a, M: HasMembers<'a>>(node: &M, name: Name) -> Result<Option<Node<'a>>, Name>
-    ensures { result ≡ optional as_object_node name (M.object node.now) }
+pub fn object_or_none<'a, M: HasMembers<'a>>(
+    node: &M,
+    name: Name,
+) -> Result<Option<Node<'a>>, MemberFault>
+    ensures { result ≡ optional object name (M.object node.now) }
 {
     match present(node, name) {
-        Some(member) => Ok(Some(object_in(member, name)?)),
+        Some(member) => Ok(Some(or_misfit(as_object(member), name, Expected::Object)?)),
         None => Ok(None),
     }
 }

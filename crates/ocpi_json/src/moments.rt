@@ -6,6 +6,7 @@ ghost use Rattle.ocpi_json.specs.Inner.MomentReading as reading;
 ghost use Rattle.ocpi_json.specs.MomentText as spec;
 ghost use Rattle.ocpi_json.specs.MomentText.{DatesAreSpelled, ClocksAreSpelled, InstantsAreSpelled};
 
+use crate::expected::Expected;
 use crate::objects::FromText;
 use jiff::Timestamp;
 use jiff::civil::{Date, DateTime, Time};
@@ -197,30 +198,51 @@ pub fn moments_are_spelled()
 
 impl FromText for Timestamp {
     ghost use Rattle.ocpi_json.specs.MomentText.{instant_of};
+    ghost use Rattle.ocpi_json.specs.declared.expected.Expected.TheVariants as expected;
 
     ghost of_text = { instant_of };
 
+    ghost expects = { expected.Moment };
+
     fn from_text(text: &str) -> Option<Timestamp> {
         instant_of(text.as_bytes())
+    }
+
+    fn expected() -> Expected {
+        Expected::Moment
     }
 }
 
 impl FromText for Date {
     ghost use Rattle.ocpi_json.specs.MomentText.{date_of};
+    ghost use Rattle.ocpi_json.specs.declared.expected.Expected.TheVariants as expected;
 
     ghost of_text = { date_of };
 
+    ghost expects = { expected.Date };
+
     fn from_text(text: &str) -> Option<Date> {
         date_of(text.as_bytes())
+    }
+
+    fn expected() -> Expected {
+        Expected::Date
     }
 }
 
 impl FromText for Time {
     ghost use Rattle.ocpi_json.specs.MomentText.{clock_of};
+    ghost use Rattle.ocpi_json.specs.declared.expected.Expected.TheVariants as expected;
 
     ghost of_text = { clock_of };
 
+    ghost expects = { expected.Clock };
+
     fn from_text(text: &str) -> Option<Time> {
         clock_of(text.as_bytes())
+    }
+
+    fn expected() -> Expected {
+        Expected::Clock
     }
 }

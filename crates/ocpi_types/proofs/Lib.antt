@@ -1,4 +1,4 @@
-pub mod Eaches
+pub mod Doubled
 pub mod InParts
 pub mod Letters
 pub mod Lists

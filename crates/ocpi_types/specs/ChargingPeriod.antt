@@ -2,20 +2,19 @@
 use Rattle.std.specs.Prelude.{Bool, Result, Ok}
 use Rattle.std.specs.List.{list_all}
 use Rattle.json.specs.Json.{Json as Data}
-use Rattle.ocpi_json.specs.Fields.{required, optional, as_ci_text, as_list, as_parsed}
+use Rattle.ocpi_json.specs.Fields.{ascii, list, moment, optional, required}
 use Rattle.ocpi_json.specs.Members.{◌>>=◌, each}
-use Rattle.ocpi_json.specs.MomentText.{instant_of}
-use Rattle.ocpi_json.specs.declared.name.Name.{Name}
+use Rattle.ocpi_json.specs.declared.member_fault.MemberFault.{MemberFault}
 use Rattle.ocpi_json.specs.declared.name.Name.TheVariants as name
 use Rattle.ocpi_types.specs.Dimension.{dimension_at, is_in_range}
 use Rattle.ocpi_types.specs.declared.charging_period.ChargingPeriod.{ChargingPeriod}
 
-unfoldable pub period_at : Data → Result ChargingPeriod Name
+unfoldable pub period_at : Data → Result ChargingPeriod MemberFault
 period_at node = do
-  start_date_time ← required (as_parsed instant_of) name.StartDateTime node
-  items ← required (as_list 1 100) name.Dimensions node
-  dimensions ← each dimension_at items
-  tariff_id ← optional (as_ci_text 36) name.TariffId node
+  start_date_time ← required moment name.StartDateTime node
+  items ← required (list 1 100) name.Dimensions node
+  dimensions ← each name.Dimensions dimension_at items
+  tariff_id ← optional (ascii 36) name.TariffId node
   Ok (record { start_date_time = start_date_time; dimensions = dimensions; tariff_id = tariff_id })
 
 -- no volume of energy or time is below 0

@@ -2,11 +2,12 @@
 use Rattle.std.specs.Prelude.{ℕ, List, Bool, true, false, codes, Option, Some, None, Result, Ok, if◌then◌else◌}
 use Rattle.std.specs.Str.{bytes_eq}
 use Rattle.json.specs.Json.{Json as Data}
-use Rattle.ocpi_json.specs.Fields.{required, as_parsed, as_whole}
+use Rattle.ocpi_json.specs.Fields.{Kind, parsed, required, whole}
 use Rattle.ocpi_json.specs.Members.{◌>>=◌}
-use Rattle.ocpi_json.specs.declared.name.Name.{Name}
+use Rattle.ocpi_json.specs.declared.expected.Expected.TheVariants as expected
+use Rattle.ocpi_json.specs.declared.member_fault.MemberFault.{MemberFault}
 use Rattle.ocpi_json.specs.declared.name.Name.TheVariants as name
-use Rattle.ocpi_types.specs.Members.{as_quantity}
+use Rattle.ocpi_types.specs.Members.{quantity}
 use Rattle.ocpi_types.specs.declared.component.ComponentKind.{ComponentKind}
 use Rattle.ocpi_types.specs.declared.component.ComponentKind.TheVariants.{Energy, Flat, ParkingTime, Time}
 use Rattle.ocpi_types.specs.declared.component.PriceComponent.{PriceComponent}
@@ -19,6 +20,9 @@ component_kind_of text =
     else (if bytes_eq text (codes "PARKING_TIME") then Some ParkingTime
     else (if bytes_eq text (codes "TIME") then Some Time else None)))
 
+abbrev pub a_component_kind : Kind ComponentKind
+a_component_kind = parsed expected.ComponentKind component_kind_of
+
 abbrev pub same_component_kind : ComponentKind → ComponentKind → Bool
 same_component_kind Energy Energy = true
 same_component_kind Flat Flat = true
@@ -26,9 +30,9 @@ same_component_kind ParkingTime ParkingTime = true
 same_component_kind Time Time = true
 same_component_kind a b = false
 
-unfoldable pub component_at : Data → Result PriceComponent Name
+unfoldable pub component_at : Data → Result PriceComponent MemberFault
 component_at node = do
-  kind ← required (as_parsed component_kind_of) name.«Type» node
-  price ← required as_quantity name.Price node
-  step_size ← required (as_whole 0 1_000_000_000) name.StepSize node
+  kind ← required a_component_kind name.«Type» node
+  price ← required quantity name.Price node
+  step_size ← required (whole 0 1_000_000_000) name.StepSize node
   Ok (record { kind = kind; price = price; step_size = step_size })

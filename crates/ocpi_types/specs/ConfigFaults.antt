@@ -13,12 +13,12 @@ from_read read.Syntax = Syntax
 from_read read.NoMemory = NoMemory
 
 abbrev pub from_field : FieldFault → ConfigFault
-from_field (field.Field n) = Member n
+from_field (field.Field fault) = Member fault
 from_field field.NoMemory = NoMemory
 
 -- what a reader gives is what was found, unless memory ran out
 abbrev pub ReadsConfig : Result Config ConfigFault → Result Config ConfigFault → Type 0
 ReadsConfig (Ok config) found = found ≡ Ok config
 ReadsConfig (Err Syntax) found = found ≡ Err Syntax
-ReadsConfig (Err (Member n)) found = found ≡ Err (Member n)
+ReadsConfig (Err (Member fault)) found = found ≡ Err (Member fault)
 ReadsConfig (Err NoMemory) found = Unit {0}

@@ -1,6 +1,8 @@
 -- A day of the week (OCPI 2.2.1, DayOfWeek enum).
 use Rattle.std.specs.Prelude.{ℕ, List, Bool, true, false, codes, Option, Some, None, if◌then◌else◌}
 use Rattle.std.specs.Str.{bytes_eq}
+use Rattle.ocpi_json.specs.Fields.{Kind, parsed}
+use Rattle.ocpi_json.specs.declared.expected.Expected.TheVariants as expected
 use Rattle.ocpi_types.specs.declared.day_of_week.DayOfWeek.{DayOfWeek}
 use Rattle.ocpi_types.specs.declared.day_of_week.DayOfWeek.TheVariants.{Monday, Tuesday, Wednesday, Thursday, Friday, Saturday, Sunday}
 
@@ -14,6 +16,9 @@ day_named text =
     else (if bytes_eq text (codes "FRIDAY") then Some Friday
     else (if bytes_eq text (codes "SATURDAY") then Some Saturday
     else (if bytes_eq text (codes "SUNDAY") then Some Sunday else None))))))
+
+abbrev pub a_day : Kind DayOfWeek
+a_day = parsed expected.Day day_named
 
 -- how many days it comes after Monday
 abbrev pub days_after_monday : DayOfWeek → ℕ

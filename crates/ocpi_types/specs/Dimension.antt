@@ -2,9 +2,9 @@
 use Rattle.std.specs.Prelude.{ℕ, ℤ, pos, int_le, List, Bool, true, false, codes, Result, Ok, if◌then◌else◌}
 use Rattle.std.specs.Str.{bytes_eq}
 use Rattle.json.specs.Json.{Json as Data}
-use Rattle.ocpi_json.specs.Fields.{required, as_text, as_number}
+use Rattle.ocpi_json.specs.Fields.{number, required, text}
 use Rattle.ocpi_json.specs.Members.{◌>>=◌}
-use Rattle.ocpi_json.specs.declared.name.Name.{Name}
+use Rattle.ocpi_json.specs.declared.member_fault.MemberFault.{MemberFault}
 use Rattle.ocpi_json.specs.declared.name.Name.TheVariants as name
 use Rattle.ocpi_types.specs.declared.dimension.Dimension.{Dimension}
 use Rattle.ocpi_types.specs.declared.dimension.DimensionKind.{DimensionKind}
@@ -27,15 +27,15 @@ same_dimension_kind Time Time = true
 same_dimension_kind (Other a) (Other b) = bytes_eq a b
 same_dimension_kind a b = false
 
-unfoldable pub dimension_kind_at : Data → Result DimensionKind Name
+unfoldable pub dimension_kind_at : Data → Result DimensionKind MemberFault
 dimension_kind_at node = do
-  text ← required as_text name.«Type» node
+  text ← required text name.«Type» node
   Ok (dimension_kind_of text)
 
-unfoldable pub dimension_at : Data → Result Dimension Name
+unfoldable pub dimension_at : Data → Result Dimension MemberFault
 dimension_at node = do
   kind ← dimension_kind_at node
-  volume ← required as_number name.Volume node
+  volume ← required number name.Volume node
   Ok (record { kind = kind; volume = volume })
 
 -- a volume of energy or time is at least 0; others may be below
@@ -44,7 +44,7 @@ is_in_range_of Energy volume = int_le (pos 0) volume
 is_in_range_of ParkingTime volume = int_le (pos 0) volume
 is_in_range_of ReservationTime volume = int_le (pos 0) volume
 is_in_range_of Time volume = int_le (pos 0) volume
-is_in_range_of (Other text) volume = true
+is_in_range_of (Other called) volume = true
 
 abbrev pub is_in_range : Dimension → Bool
 is_in_range dimension = is_in_range_of dimension.kind dimension.volume

@@ -3,10 +3,11 @@ use Rattle.std.specs.Prelude.{ℕ, List, ◌++◌, codes, length, take, drop, sl
 use Rattle.std.specs.Char.{is_ascii_alphabetic, is_ascii_alphanumeric}
 use Rattle.std.specs.List.{list_all}
 use Rattle.json.specs.Json.{Json as Data}
-use Rattle.ocpi_json.specs.Fields.{required, as_ci_text}
+use Rattle.ocpi_json.specs.Fields.{Kind, ascii, parsed, required}
 use Rattle.ocpi_json.specs.Folded.{same_folded}
 use Rattle.ocpi_json.specs.Members.{◌>>=◌}
-use Rattle.ocpi_json.specs.declared.name.Name.{Name}
+use Rattle.ocpi_json.specs.declared.expected.Expected.TheVariants as expected
+use Rattle.ocpi_json.specs.declared.member_fault.MemberFault.{MemberFault}
 use Rattle.ocpi_json.specs.declared.name.Name.TheVariants as name
 use Rattle.ocpi_types.specs.declared.party.Party.{Party}
 
@@ -24,13 +25,16 @@ is_party text =
 unfoldable pub party_of : List ℕ → Option Party
 party_of text = if is_party text then Some (record { country_code = take 2 text; party_id = drop 3 text }) else None
 
+abbrev pub a_party : Kind Party
+a_party = parsed expected.Party party_of
+
 -- how a party is written
 abbrev pub party_text : Party → List ℕ
 party_text party = party.country_code ++ (codes "/" ++ party.party_id)
 
 -- the party of an object (OCPI 2.2.1, the objects Token, Tariff, CDR and CdrToken)
-unfoldable pub party_at : Data → Result Party Name
+unfoldable pub party_at : Data → Result Party MemberFault
 party_at node = do
-  country_code ← required (as_ci_text 2) name.CountryCode node
-  party_id ← required (as_ci_text 3) name.PartyId node
+  country_code ← required (ascii 2) name.CountryCode node
+  party_id ← required (ascii 3) name.PartyId node
   Ok (record { country_code = country_code; party_id = party_id })

@@ -12,7 +12,9 @@ use Rattle.jiff_tz.specs.declared.posix.Day.{Day}
 use Rattle.jiff_tz.specs.declared.posix.DayTime.{DayTime}
 use Rattle.jiff_tz.specs.declared.posix.Dst.{Dst}
 use Rattle.jiff_tz.specs.declared.posix.TimeZone.{TimeZone as Rule}
+use Rattle.ocpi_json.specs.Fields.{Kind, parsed}
 use Rattle.ocpi_json.specs.SomeIf.{some_if}
+use Rattle.ocpi_json.specs.declared.expected.Expected.TheVariants as expected
 use Rattle.ocpi_types.specs.Inner.ZoneRanges as range
 
 infixl 10 ◌>>=◌
@@ -121,3 +123,6 @@ rule_zone_of text = do
 
 unfoldable pub zone_of : List ℕ → Option PlainZone
 zone_of text = option_or (fixed_zone_of text) (rule_zone_of text)
+
+abbrev pub a_zone : Kind PlainZone
+a_zone = parsed expected.Zone zone_of

@@ -3,7 +3,7 @@ use super::token::TokenKind;
 use ocpi_json::ci_text::CiText;
 use ocpi_json::name::Name;
 use ocpi_json::objects::{FromNode, FromText};
-use ocpi_json::{Node, fields};
+use ocpi_json::{Expected, MemberFault, Node, fields};
 
 /// How a session was authorised (OCPI 2.2.1, AuthMethod enum).
 #[derive(Clone, Copy, PartialEq, Eq)]
@@ -24,8 +24,11 @@ pub struct CdrToken {
 
 impl FromText for AuthMethod {
     ghost use Rattle.ocpi_types.specs.CdrToken.{method_of};
+    ghost use Rattle.ocpi_json.specs.declared.expected.Expected.TheVariants as expected;
 
     ghost of_text = { method_of };
+
+    ghost expects = { expected.AuthMethod };
 
     fn from_text(text: &str) -> Option<AuthMethod> {
         match text {
@@ -35,6 +38,10 @@ impl FromText for AuthMethod {
             _ => None,
         }
     }
+
+    fn expected() -> Expected {
+        Expected::AuthMethod
+    }
 }
 
 impl FromNode for CdrToken {
@@ -43,7 +50,7 @@ impl FromNode for CdrToken {
     ghost at = { cdr_token_at };
 
     #[tactic(auto, unfolding(crate::specs::CdrToken::cdr_token_at))]
-    fn from_node(node: &Node) -> Result<CdrToken, Name> {
+    fn from_node(node: &Node) -> Result<CdrToken, MemberFault> {
         let node = &node.pick(&[
             Name::CountryCode,
             Name::PartyId,

@@ -47,7 +47,7 @@ impl FromNodeIn for ChargingPeriod {
     fn from_node_in(alloc: Global, node: &Node) -> Result<ChargingPeriod, FieldFault> {
         let start_date_time = fields::instant(node, Name::StartDateTime)?;
         let items = fields::list(node, Name::Dimensions, 1, 100)?;
-        let dimensions = read_up_to(alloc, items)?;
+        let dimensions = read_up_to(alloc, Name::Dimensions, items)?;
         let tariff_id = fields::ci_text_or_none(node, Name::TariffId)?;
         Ok(ChargingPeriod {
             start_date_time,

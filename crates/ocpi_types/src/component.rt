@@ -2,7 +2,7 @@ use super::bounded::AtMost;
 use super::members::{self, Quantity};
 use ocpi_json::name::Name;
 use ocpi_json::objects::{FromNode, FromText};
-use ocpi_json::{Node, fields};
+use ocpi_json::{Expected, MemberFault, Node, fields};
 
 /// What a price component charges for (OCPI 2.2.1, TariffDimensionType enum).
 #[derive(Clone, Copy, PartialEq, Eq)]
@@ -39,8 +39,11 @@ impl ComponentKind {
 
 impl FromText for ComponentKind {
     ghost use Rattle.ocpi_types.specs.Component.{component_kind_of};
+    ghost use Rattle.ocpi_json.specs.declared.expected.Expected.TheVariants as expected;
 
     ghost of_text = { component_kind_of };
+
+    ghost expects = { expected.ComponentKind };
 
     fn from_text(text: &str) -> Option<ComponentKind> {
         match text {
@@ -51,6 +54,10 @@ impl FromText for ComponentKind {
             _ => None,
         }
     }
+
+    fn expected() -> Expected {
+        Expected::ComponentKind
+    }
 }
 
 impl FromNode for PriceComponent {
@@ -59,7 +66,7 @@ impl FromNode for PriceComponent {
     ghost at = { component_at };
 
     #[tactic(auto, unfolding(crate::specs::Component::component_at))]
-    fn from_node(node: &Node) -> Result<PriceComponent, Name> {
+    fn from_node(node: &Node) -> Result<PriceComponent, MemberFault> {
         let kind = fields::parsed(node, Name::Type)?;
         let price = members::quantity(node, Name::Price)?;
         let step_size = members::at_most(node, Name::StepSize, 0)?;

@@ -3,6 +3,7 @@ ghost use Rattle.std.specs.Char.{is_ascii_uppercase};
 ghost use Rattle.ocpi_types.specs.Currency.{currency_of, same_currency};
 
 use super::different::Alike;
+use ocpi_json::Expected;
 use ocpi_json::objects::FromText;
 use std::alloc::AllocError;
 use std::marker::Model;
@@ -82,11 +83,18 @@ impl Currency {
 
 impl FromText for Currency {
     ghost use Rattle.ocpi_types.specs.Currency.{currency_of};
+    ghost use Rattle.ocpi_json.specs.declared.expected.Expected.TheVariants as expected;
 
     ghost of_text = { currency_of };
 
+    ghost expects = { expected.Currency };
+
     fn from_text(text: &str) -> Option<Currency> {
         Currency::new(text)
+    }
+
+    fn expected() -> Expected {
+        Expected::Currency
     }
 }
 

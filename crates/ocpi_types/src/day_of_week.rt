@@ -1,3 +1,4 @@
+use ocpi_json::Expected;
 use ocpi_json::objects::FromText;
 
 /// A day of the week (OCPI 2.2.1, DayOfWeek enum).
@@ -34,8 +35,11 @@ impl DayOfWeek {
 
 impl FromText for DayOfWeek {
     ghost use Rattle.ocpi_types.specs.DayOfWeek.{day_named};
+    ghost use Rattle.ocpi_json.specs.declared.expected.Expected.TheVariants as expected;
 
     ghost of_text = { day_named };
+
+    ghost expects = { expected.Day };
 
     fn from_text(text: &str) -> Option<DayOfWeek> {
         match text {
@@ -48,5 +52,9 @@ impl FromText for DayOfWeek {
             "SUNDAY" => Some(DayOfWeek::Sunday),
             _ => None,
         }
+    }
+
+    fn expected() -> Expected {
+        Expected::Day
     }
 }

@@ -8,6 +8,7 @@ use super::copying::{TryCopy, copied};
 use super::members::ensure;
 use ocpi_json::name::Name;
 use ocpi_json::sequence::Sequence;
+use ocpi_json::{Expected, MemberFault};
 use std::alloc::{AllocError, Global};
 use std::marker::Model;
 
@@ -62,7 +63,7 @@ impl<T: Alike, const MOST: usize> Model for Distinct<T, MOST> {
 
 impl<T: Alike + Drop, const MOST: usize> Distinct<T, MOST> {
     ghost use Rattle.std.specs.Prelude.{◌≡◌, ◌≤◌, [], length, true, Ok, Err, if◌then◌else◌};
-    ghost use Rattle.ocpi_types.specs.Different.{all_different};
+    ghost use Rattle.ocpi_types.specs.Different.{all_different, doubled};
 
     /// No items.
     pub fn empty(alloc: Global) -> Distinct<T, MOST>
@@ -73,12 +74,16 @@ impl<T: Alike + Drop, const MOST: usize> Distinct<T, MOST> {
         }
     }
 
-    /// These items, or the name of their list where two are alike.
-    pub fn new(items: Sequence<T>, name: Name) -> Result<Distinct<T, MOST>, Name>
+    /// These items, or the fault of their list, which is the member of that name, where two are alike.
+    pub fn new(items: Sequence<T>, name: Name) -> Result<Distinct<T, MOST>, MemberFault>
         requires { length items ≤ MOST }
-        ensures { result ≡ (if all_different T.alike items then Ok items else Err name) }
+        ensures { result ≡ (if all_different T.alike items then Ok items else Err (doubled name)) }
     {
-        ensure(are_all_different(items.as_slice()), name)?;
+        ensure(
+            are_all_different(items.as_slice()),
+            name,
+            Expected::Different,
+        )?;
         Ok(Distinct { items })
     }
 

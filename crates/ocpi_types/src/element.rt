@@ -22,9 +22,9 @@ impl FromNodeIn for Element {
     #[tactic(auto, unfolding(crate::specs::Element::element_at))]
     fn from_node_in(alloc: Global, node: &Node) -> Result<Element, FieldFault> {
         let items = fields::list(node, Name::PriceComponents, 1, 16)?;
-        let price_components = read_each(alloc, items)?;
+        let price_components = read_each(alloc, Name::PriceComponents, items)?;
         let found = fields::object_or_none(node, Name::Restrictions)?;
-        let restrictions = read_if_any_in(alloc, found)?;
+        let restrictions = read_if_any_in(alloc, Name::Restrictions, found)?;
         Ok(Element {
             price_components,
             restrictions,

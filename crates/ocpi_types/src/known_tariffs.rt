@@ -3,14 +3,16 @@
 ghost use Rattle.std.specs.Prelude.{◌≡◌, Ok, IfSome};
 ghost use Rattle.ocpi_json.specs.Faults.{Finds};
 ghost use Rattle.ocpi_json.specs.Members.{each};
+ghost use Rattle.ocpi_json.specs.declared.name.Name.TheVariants as name;
 ghost use Rattle.ocpi_types.specs.Tariff.{tariff_at};
 
 use super::shared::Shared;
 use super::tariff::Tariff;
 use ocpi_json::fields::FieldFault;
-use ocpi_json::objects::FromNodeIn;
+use ocpi_json::name::Name;
+use ocpi_json::objects::{FromNodeIn, within_in};
 use ocpi_json::sequence::Sequence;
-use ocpi_json::{KeptValue, Node, Nodes};
+use ocpi_json::{KeptValue, Node, Nodes, Step};
 use std::alloc::Global;
 use std::marker::Model;
 
@@ -134,7 +136,7 @@ impl KnownTariffs {
         Ok(tariff)
     }
 
-    /// Returns the tariffs of the values, in order.
+    /// Returns the tariffs of the items of the list in the member `tariffs`, in order.
     ///
     /// # Errors
     ///
@@ -144,11 +146,12 @@ impl KnownTariffs {
         alloc: Global,
         mut nodes: Nodes,
     ) -> Result<Sequence<Shared<Tariff>>, FieldFault>
-        ensures { Finds result (each tariff_at nodes.entry) }
+        ensures { Finds result (each name.Tariffs tariff_at nodes.entry) }
     {
         let mut tariffs = Sequence::with_capacity(alloc, nodes.len())?;
         while let Some(node) = nodes.next() {
-            tariffs.push(self.read(alloc, &node)?)?;
+            let step = Step::item(Name::Tariffs, tariffs.as_slice().len());
+            tariffs.push(within_in(step, self.read(alloc, &node))?)?;
         }
         Ok(tariffs)
     }

@@ -7,7 +7,7 @@ ghost use Rattle.ocpi_types.specs.Party.{same_party, is_party, party_of};
 use ocpi_json::ci_text::CiText;
 use ocpi_json::name::Name;
 use ocpi_json::objects::{FromNode, FromText};
-use ocpi_json::{HasMembers, Node, fields};
+use ocpi_json::{Expected, HasMembers, MemberFault, Node, fields};
 use std::fmt;
 
 /// A party by its country code and party id (OCPI 2.2.1, 'Credentials': ISO 3166 country code and party id), both
@@ -55,9 +55,9 @@ impl Party {
     ///
     /// # Errors
     ///
-    /// The name of the first of the two that is missing or of a wrong kind.
+    /// The fault of the first of the two that is missing or of a wrong kind.
     #[tactic(auto, unfolding(crate::specs::Party::party_at))]
-    pub fn from_members<'n, M: HasMembers<'n>>(node: &M) -> Result<Party, Name>
+    pub fn from_members<'n, M: HasMembers<'n>>(node: &M) -> Result<Party, MemberFault>
         ensures { result ≡ party_at (M.object node.now) }
     {
         let country_code = fields::ci_text(node, Name::CountryCode)?;
@@ -92,11 +92,18 @@ impl Party {
 
 impl FromText for Party {
     ghost use Rattle.ocpi_types.specs.Party.{party_of};
+    ghost use Rattle.ocpi_json.specs.declared.expected.Expected.TheVariants as expected;
 
     ghost of_text = { party_of };
 
+    ghost expects = { expected.Party };
+
     fn from_text(text: &str) -> Option<Party> {
         Party::read(text)
+    }
+
+    fn expected() -> Expected {
+        Expected::Party
     }
 }
 
@@ -105,7 +112,7 @@ impl FromNode for Party {
 
     ghost at = { party_at };
 
-    fn from_node(node: &Node) -> Result<Party, Name> {
+    fn from_node(node: &Node) -> Result<Party, MemberFault> {
         Party::from_members(node)
     }
 }

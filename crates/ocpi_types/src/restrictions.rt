@@ -12,7 +12,7 @@ use ocpi_json::name::Name;
 use ocpi_json::objects::{FromNodeIn, parsed_each};
 use ocpi_json::sequence::Sequence;
 use ocpi_json::text::Text;
-use ocpi_json::{HasMembers, Node};
+use ocpi_json::{HasMembers, MemberFault, Node};
 use std::alloc::Global;
 
 /// A whole number of seconds.
@@ -54,11 +54,11 @@ fn read_days<'n, M: HasMembers<'n>>(
     ensures { Finds result (days_at (M.object node.now)) }
 {
     let items = fields::list_or_empty(node, Name::DayOfWeek, 1_048_576)?;
-    parsed_each(alloc, items, Name::DayOfWeek)
+    parsed_each(alloc, Name::DayOfWeek, items)
 }
 
 #[tactic(auto, unfolding(crate::specs::Restrictions::electric_bounds_at))]
-fn read_electric_bounds<'n, M: HasMembers<'n>>(node: &M) -> Result<ElectricBounds, Name>
+fn read_electric_bounds<'n, M: HasMembers<'n>>(node: &M) -> Result<ElectricBounds, MemberFault>
     ensures { result ≡ electric_bounds_at (M.object node.now) }
 {
     let min_current = fields::number_or_none(node, Name::MinCurrent)?.is_some();
@@ -92,7 +92,7 @@ struct Bounds {
 }
 
 #[tactic(auto, unfolding(crate::specs::Inner::RestrictionParts::times_at))]
-fn read_times<'n, M: HasMembers<'n>>(node: &M) -> Result<Times, Name>
+fn read_times<'n, M: HasMembers<'n>>(node: &M) -> Result<Times, MemberFault>
     ensures { result ≡ times_at (M.object node.now) }
 {
     let start_time = fields::clock_or_none(node, Name::StartTime)?;
@@ -108,7 +108,7 @@ fn read_times<'n, M: HasMembers<'n>>(node: &M) -> Result<Times, Name>
 }
 
 #[tactic(auto, unfolding(crate::specs::Inner::RestrictionParts::bounds_at))]
-fn read_bounds<'n, M: HasMembers<'n>>(node: &M) -> Result<Bounds, Name>
+fn read_bounds<'n, M: HasMembers<'n>>(node: &M) -> Result<Bounds, MemberFault>
     ensures { result ≡ bounds_at (M.object node.now) }
 {
     let min_kwh = members::quantity_or_none(node, Name::MinKwh)?;

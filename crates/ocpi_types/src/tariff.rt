@@ -9,9 +9,9 @@ use jiff::Timestamp;
 use ocpi_json::ci_text::CiText;
 use ocpi_json::fields::{self, FieldFault};
 use ocpi_json::name::Name;
-use ocpi_json::objects::{FromNodeIn, read_each_in};
+use ocpi_json::objects::{FromNodeIn, read_each_in, within};
 use ocpi_json::sequence::Sequence;
-use ocpi_json::{HasMembers, Node};
+use ocpi_json::{HasMembers, MemberFault, Node, Step};
 use std::alloc::Global;
 
 /// A version of a tariff of an operator (OCPI 2.2.1, Tariff object).
@@ -43,11 +43,14 @@ impl Drop for Tariff {
 }
 
 #[tactic(auto, unfolding(crate::specs::Tariff::price_at))]
-fn read_price<'n, M: HasMembers<'n>>(node: &M, name: Name) -> Result<Option<Quantity>, Name>
+fn read_price<'n, M: HasMembers<'n>>(node: &M, name: Name) -> Result<Option<Quantity>, MemberFault>
     ensures { result ≡ price_at name (M.object node.now) }
 {
     match fields::object_or_none(node, name)? {
-        Some(price) => Ok(Some(members::quantity(&price, Name::ExclVat)?)),
+        Some(price) => {
+            let read = members::quantity(&price, Name::ExclVat);
+            Ok(Some(within(Step::Member(name), read)?))
+        }
         None => Ok(None),
     }
 }
@@ -75,7 +78,7 @@ impl FromNodeIn for Tariff {
         let min_price = read_price(node, Name::MinPrice)?;
         let max_price = read_price(node, Name::MaxPrice)?;
         let items = fields::list(node, Name::Elements, 1, 100)?;
-        let elements = read_each_in(alloc, items)?;
+        let elements = read_each_in(alloc, Name::Elements, items)?;
         let last_updated = fields::instant(node, Name::LastUpdated)?;
         Ok(Tariff {
             operator,

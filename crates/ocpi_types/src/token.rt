@@ -3,7 +3,7 @@ use jiff::Timestamp;
 use ocpi_json::ci_text::CiText;
 use ocpi_json::name::Name;
 use ocpi_json::objects::{FromNode, FromText};
-use ocpi_json::{Node, fields};
+use ocpi_json::{Expected, MemberFault, Node, fields};
 
 /// The type of a token (OCPI 2.2.1, TokenType enum).
 #[derive(Clone, Copy, PartialEq, Eq, Hash)]
@@ -40,8 +40,11 @@ impl TokenKind {
 
 impl FromText for TokenKind {
     ghost use Rattle.ocpi_types.specs.TokenKind.{token_kind_of};
+    ghost use Rattle.ocpi_json.specs.declared.expected.Expected.TheVariants as expected;
 
     ghost of_text = { token_kind_of };
+
+    ghost expects = { expected.TokenKind };
 
     fn from_text(text: &str) -> Option<TokenKind> {
         match text {
@@ -52,6 +55,10 @@ impl FromText for TokenKind {
             _ => None,
         }
     }
+
+    fn expected() -> Expected {
+        Expected::TokenKind
+    }
 }
 
 impl FromNode for Token {
@@ -60,7 +67,7 @@ impl FromNode for Token {
     ghost at = { token_at };
 
     #[tactic(auto, unfolding(crate::specs::Token::token_at))]
-    fn from_node(node: &Node) -> Result<Token, Name> {
+    fn from_node(node: &Node) -> Result<Token, MemberFault> {
         let node = &node.pick(&[
             Name::CountryCode,
             Name::PartyId,

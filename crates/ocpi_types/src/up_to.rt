@@ -4,6 +4,7 @@ ghost use Rattle.ocpi_json.specs.Members.{each};
 
 use ocpi_json::Nodes;
 use ocpi_json::fields::FieldFault;
+use ocpi_json::name::Name;
 use ocpi_json::objects::{FromNodeIn, read_each_in};
 use ocpi_json::sequence::Sequence;
 use std::alloc::Global;
@@ -51,14 +52,15 @@ impl<T: Drop, const MOST: usize> UpTo<T, MOST> {
     }
 }
 
-/// The values that stand in at most `MOST` nodes, in order.
+/// The values that stand in at most `MOST` items of the list in the member of that name, in order.
 pub fn read_up_to<T: FromNodeIn + Drop, const MOST: usize>(
     alloc: Global,
+    name: Name,
     nodes: Nodes,
 ) -> Result<UpTo<T, MOST>, FieldFault>
     requires { length nodes ≤ MOST }
-    ensures { Finds result (each T.at nodes.entry) }
+    ensures { Finds result (each name T.at nodes.entry) }
 {
-    let values = read_each_in(alloc, nodes)?;
+    let values = read_each_in(alloc, name, nodes)?;
     Ok(UpTo::new(values).unwrap())
 }

@@ -5,6 +5,7 @@ ghost use Rattle.ocpi_types.specs.Zone.{zone_of, fixed_zone_of, rule_zone_of, fi
 use jiff::Timestamp;
 use jiff::civil::DateTime;
 use jiff::tz::{Offset, TimeZone};
+use ocpi_json::Expected;
 use ocpi_json::objects::FromText;
 use std::alloc::AllocError;
 use std::marker::Model;
@@ -126,10 +127,17 @@ impl Zone {
 
 impl FromText for Zone {
     ghost use Rattle.ocpi_types.specs.Zone.{zone_of};
+    ghost use Rattle.ocpi_json.specs.declared.expected.Expected.TheVariants as expected;
 
     ghost of_text = { zone_of };
 
+    ghost expects = { expected.Zone };
+
     fn from_text(text: &str) -> Option<Zone> {
         Zone::read(text)
+    }
+
+    fn expected() -> Expected {
+        Expected::Zone
     }
 }

@@ -1,8 +1,10 @@
 -- The commands by the word of the member `do`.
 use Rattle.std.specs.Prelude.{ℕ, List, Option, Some, None, codes, if◌then◌else◌}
 use Rattle.std.specs.Str.{bytes_eq}
-use Rattle.request_lines.specs.declared.requests.CommandName.{CommandName}
+use Rattle.ocpi_json.specs.Fields.{Kind, parsed}
+use Rattle.ocpi_json.specs.declared.expected.Expected.TheVariants as expected
 use Rattle.request_lines.specs.declared.requests.CommandName.TheVariants.{PutTariff, PutToken, Authorize, Release, Post, Close, Settle, Exposure, Find, Statement}
+use Rattle.request_lines.specs.declared.requests.CommandName.{CommandName}
 
 abbrev pub command_named : List ℕ → Option CommandName
 command_named text =
@@ -16,3 +18,6 @@ command_named text =
     else (if bytes_eq text (codes "exposure") then Some Exposure
     else (if bytes_eq text (codes "find") then Some Find
     else (if bytes_eq text (codes "statement") then Some Statement else None)))))))))
+
+abbrev pub a_command : Kind CommandName
+a_command = parsed expected.Command command_named

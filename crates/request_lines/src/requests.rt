@@ -2,9 +2,11 @@
 
 ghost use Rattle.std.specs.Prelude.{◌≡◌, IfOk, IfErr, IsErrOf, Ok, Err, false};
 ghost use Rattle.ocpi_json.specs.Faults.{Finds};
-ghost use Rattle.ocpi_json.specs.Fields.{required, as_whole};
+ghost use Rattle.ocpi_json.specs.Fields.{required, whole};
+ghost use Rattle.ocpi_json.specs.Members.{inside};
 ghost use Rattle.ocpi_json.specs.declared.fields.FieldFault.TheVariants as fault;
 ghost use Rattle.ocpi_json.specs.declared.name.Name.TheVariants as name;
+ghost use Rattle.ocpi_types.specs.Cdr.{cdr_at};
 ghost use Rattle.plain_house.specs.Replies.{is_refusal_no_memory};
 ghost use Rattle.request_lines.specs.RequestText.{authorize_at, close_at, exposure_at, find_at, post_at, release_at, settle_at, statement_at, tariff_ask_at, token_ask_at, ask_at, request_at, kind_or_rfid, request_of};
 
@@ -14,9 +16,9 @@ use cdr_checks::{
 };
 use ocpi_json::fields::{self, FieldFault};
 use ocpi_json::name::Name;
-use ocpi_json::objects::{FromNode, FromNodeIn, FromText};
-use ocpi_json::{Node, ReadFault};
-use ocpi_types::{Cdr, KnownTariffs, Refusal, Shared, Tariff, Token, TokenKind, members};
+use ocpi_json::objects::{FromNode, FromText, read_inside, within, within_in};
+use ocpi_json::{Expected, MemberFault, Node, ReadFault, Step};
+use ocpi_types::{Cdr, KnownTariffs, Refusal, Shared, Token, TokenKind, members};
 use std::alloc::Global;
 
 /// The commands of request lines, as the member `do` names them.
@@ -35,9 +37,12 @@ pub enum CommandName {
 }
 
 impl FromText for CommandName {
+    ghost use Rattle.ocpi_json.specs.declared.expected.Expected.TheVariants as expected;
     ghost use Rattle.request_lines.specs.CommandName.{command_named};
 
     ghost of_text = { command_named };
+
+    ghost expects = { expected.Command };
 
     fn from_text(text: &str) -> Option<CommandName> {
         match text {
@@ -54,6 +59,10 @@ impl FromText for CommandName {
             _ => None,
         }
     }
+
+    fn expected() -> Expected {
+        Expected::Command
+    }
 }
 
 #[inline(never)]
@@ -61,7 +70,8 @@ impl FromText for CommandName {
 fn read_tariff(alloc: Global, node: &Node) -> Result<Ask, FieldFault>
     ensures { Finds result (tariff_ask_at node.now) }
 {
-    let tariff = Tariff::from_node_in(alloc, &fields::object(node, Name::Tariff)?)?;
+    let object = fields::object(node, Name::Tariff)?;
+    let tariff = read_inside(alloc, Name::Tariff, &object)?;
     Ok(Ask::PutTariff(Shared::new(alloc, tariff)?))
 }
 
@@ -71,7 +81,8 @@ fn read_token(node: &Node) -> Result<Ask, FieldFault>
     ensures found { Finds result (token_ask_at node.now) }
     ensures never_gives_up { IsErrOf result fault.NoMemory → ⊥ }
 {
-    let token = Token::from_node(&fields::object(node, Name::Token)?)?;
+    let object = fields::object(node, Name::Token)?;
+    let token = within(Step::Member(Name::Token), Token::from_node(&object))?;
     Ok(Ask::PutToken(token))
 }
 
@@ -117,20 +128,28 @@ fn read_release(node: &Node) -> Result<Ask, FieldFault>
     }))
 }
 
+fn cdr_inside(alloc: Global, known: &mut KnownTariffs, object: &Node) -> Result<Cdr, FieldFault>
+    ensures { Finds result (inside name.Cdr (cdr_at object.now)) }
+{
+    let read = Cdr::read_knowing(alloc, known, object);
+    within_in(Step::Member(Name::Cdr), read)
+}
+
 #[inline(never)]
 #[tactic(auto, unfolding(crate::specs::RequestText::post_at))]
 fn read_post(alloc: Global, known: &mut KnownTariffs, node: &Node) -> Result<Ask, FieldFault>
     ensures { Finds result (post_at node.now) }
 {
-    let cdr = Cdr::read_knowing(alloc, known, &fields::object(node, Name::Cdr)?)?;
+    let object = fields::object(node, Name::Cdr)?;
+    let cdr = cdr_inside(alloc, known, &object)?;
     Ok(Ask::Post(Shared::new(alloc, cdr)?))
 }
 
 // 18 digits.
 const MOST_PERIOD: u64 = 999_999_999_999_999_999;
 
-fn period(node: &Node) -> Result<u64, Name>
-    ensures { result ≡ required (as_whole 0 999_999_999_999_999_999) name.Period node.now }
+fn period(node: &Node) -> Result<u64, MemberFault>
+    ensures { result ≡ required (whole 0 999_999_999_999_999_999) name.Period node.now }
 {
     fields::whole(node, Name::Period, 0, MOST_PERIOD)
 }
@@ -220,7 +239,7 @@ fn read_ask(
 ///
 /// # Errors
 ///
-/// `Field` with the first member that is missing, of a wrong kind or out of bounds, `NoMemory` if an allocation fails.
+/// `Field` with the fault of the first member that is missing, of a wrong kind or out of bounds, `NoMemory` if an allocation fails.
 #[tactic(auto, unfolding(crate::specs::RequestText::request_at))]
 pub fn read_request(
     alloc: Global,
@@ -253,7 +272,9 @@ pub fn request_of(alloc: Global, room: &mut LineRoom, line: &[u8]) -> Result<Req
     };
     match read_request(alloc, tariffs, &read.value()) {
         Ok(request) => Ok(request),
-        Err(FieldFault::Field(name)) => Err(Refusal::Field { name }),
+        Err(FieldFault::Field(fault)) => Err(Refusal::Field {
+            name: fault.member.name(),
+        }),
         Err(FieldFault::NoMemory) => Err(Refusal::NoMemory),
     }
 }

@@ -8,11 +8,12 @@ use crate::explain_lines::line::{failing, no_json};
 use crate::explain_lines::member_path::MemberPath;
 use crate::explain_lines::telling::{Cause, Told, Value};
 use cdr_checks::{Ask, Authorize, Release, Request, Settlement};
+use ocpi_json::ReadFault;
+use ocpi_json::fields::FieldFault;
 use ocpi_json::name::Name;
-use ocpi_json::{ReadFault, Room};
 use ocpi_types::{Cdr, Config, Refusal};
 use plain_house::{Answer, Event, Refused, Replied};
-use request_lines::{LineRoom, request_of};
+use request_lines::{LineRoom, read_request, request_of};
 use std::alloc::{AllocError, Global};
 
 fn cdr_of(ask: &Ask) -> Option<&Cdr> {
@@ -158,16 +159,17 @@ pub fn of_reply(
 }
 
 // Explains which member of a line is missing, of a wrong kind or out of bounds.
-fn of_member(
-    alloc: Global,
-    room: &mut Room,
-    line: &[u8],
-    at: Name,
-) -> Result<Option<Told>, AllocError> {
-    match room.read(line) {
-        Ok(read) => failing::told(alloc, read.value(), at),
-        Err(ReadFault::NoMemory) => Err(AllocError),
-        Err(ReadFault::Syntax) => Ok(None),
+fn of_member(alloc: Global, room: &mut LineRoom, line: &[u8]) -> Result<Option<Told>, AllocError> {
+    let LineRoom { room, tariffs } = room;
+    let read = match room.read(line) {
+        Ok(read) => read,
+        Err(ReadFault::NoMemory) => return Err(AllocError),
+        Err(ReadFault::Syntax) => return Ok(None),
+    };
+    match read_request(alloc, tariffs, &read.value()) {
+        Ok(_) => Ok(None),
+        Err(FieldFault::Field(fault)) => Ok(Some(failing::told(alloc, read.value(), &fault)?)),
+        Err(FieldFault::NoMemory) => Err(AllocError),
     }
 }
 
@@ -183,7 +185,7 @@ pub fn of_line(
     let told = match request_of(alloc, room, line) {
         Ok(request) => of_reply(config, events, &request, reply),
         Err(Refusal::NoMemory) => return Err(AllocError),
-        Err(Refusal::Field { name: at }) => of_member(alloc, &mut room.room, line, at)?,
+        Err(Refusal::Field { .. }) => of_member(alloc, room, line)?,
         Err(_) => return no_json::told(alloc, line),
     };
     Ok(told.unwrap_or(Told::new(MemberPath::nowhere(), Cause::Untold, Value::Nothing)))

@@ -2,5 +2,4 @@
 
 pub mod failing;
 pub mod found;
-pub mod member;
 pub mod no_json;

@@ -1,17 +1,11 @@
 //! A place in a line.
 
 use ocpi_json::name::Name;
+use ocpi_json::{Around, MemberFault, Step};
 use std::fmt;
 
-/// The greatest depth of nested objects in a line, without the line itself, and a member of the innermost.
-const DEEPEST: usize = 8;
-
-/// A member, or an item of a list that is one.
-#[derive(Clone, Copy)]
-struct Step {
-    name: Name,
-    item: Option<usize>,
-}
+/// The most steps of a path: four objects within one another, and a member of the innermost.
+const DEEPEST: usize = 5;
 
 /// The path of a member, which begins at the line, or a column.
 #[derive(Clone, Copy)]
@@ -43,28 +37,33 @@ impl MemberPath {
         MemberPath::nowhere().then(name, None)
     }
 
+    /// Returns the path of the member at fault.
+    pub fn of_fault(fault: &MemberFault) -> MemberPath {
+        let path = MemberPath::nowhere();
+        let around = match fault.around {
+            Around::Nothing => path,
+            Around::One(a) => path.step(a),
+            Around::Two(a, b) => path.step(a).step(b),
+            Around::Three(a, b, c) => path.step(a).step(b).step(c),
+            Around::Four(a, b, c, d) => path.step(a).step(b).step(c).step(d),
+        };
+        around.step(fault.member)
+    }
+
     /// Returns the path of the member of that name of the object at this path, or of that item of it.
-    pub fn then(mut self, name: Name, item: Option<usize>) -> MemberPath {
+    pub fn then(self, name: Name, item: Option<usize>) -> MemberPath {
+        self.step(Step::new(name, item))
+    }
+
+    // Returns the path that is a step longer; no line has a member below the deepest.
+    fn step(mut self, next: Step) -> MemberPath {
         for step in &mut self.steps {
             if step.is_none() {
-                *step = Some(Step { name, item });
+                *step = Some(next);
                 return self;
             }
         }
         self
-    }
-}
-
-fn write_step<W: fmt::Write>(
-    f: &mut fmt::Formatter<W>,
-    is_first: bool,
-    step: &Step,
-) -> fmt::Result {
-    let mark = if is_first { "" } else { "." };
-    let name = step.name.key();
-    match step.item {
-        Some(item) => write!(f, "{mark}{name}[{item}]"),
-        None => write!(f, "{mark}{name}"),
     }
 }
 
@@ -75,7 +74,8 @@ impl fmt::Display for MemberPath {
         }
         for (index, step) in self.steps.iter().enumerate() {
             if let Some(step) = step {
-                write_step(f, index == 0, step)?;
+                let mark = if index == 0 { "" } else { "." };
+                write!(f, "{mark}{step}")?;
             }
         }
         Ok(())

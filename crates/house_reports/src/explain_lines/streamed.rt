@@ -3,7 +3,6 @@
 mod added;
 mod explainer;
 mod explaining;
-mod members;
 mod refused;
 mod table;
 

@@ -1,9 +1,9 @@
 //! The explanation of a refused line: its place, its cause and the values.
 
-use crate::explain_lines::line::member::Expected;
 use crate::explain_lines::member_path::MemberPath;
 use exact_money::{Amount, Millionths};
 use jiff::Timestamp;
+use ocpi_json::Expected;
 use ocpi_json::ci_text::CiText;
 use ocpi_types::{Currency, Party, Store, TokenKind};
 use std::fmt;
@@ -68,7 +68,6 @@ pub enum Cause {
     Full(Store),
     ComesOutOtherwise,
     IdOfAnotherLine,
-    NotRead,
     /// No cause is known beside the refusal.
     Untold,
 }
@@ -144,7 +143,6 @@ impl Cause {
             Cause::Full(what) => words_of_full(what),
             Cause::ComesOutOtherwise => "an event would come out otherwise",
             Cause::IdOfAnotherLine => "given to another line",
-            Cause::NotRead => "missing, of a wrong kind or out of bounds",
             Cause::Untold => "",
         }
     }
@@ -167,17 +165,10 @@ pub enum Value {
     Energy(u128),
     /// A value of the line, as text.
     Written(CiText<64>),
-    /// The kind of a member.
+    /// What a member has to be.
     Expected(Expected),
-    Day,
-    /// A request id.
-    IdText,
     /// A command of a stream.
     StreamCommand,
-    /// An id of a CDR that is no Credit CDR.
-    ShortId,
-    /// A number of a CDR that is no Credit CDR.
-    NotBelow0,
 }
 
 fn word(kind: TokenKind) -> &'static str {
@@ -188,8 +179,6 @@ fn word(kind: TokenKind) -> &'static str {
         TokenKind::Rfid => "RFID",
     }
 }
-
-const DAYS: &str = "one of MONDAY TUESDAY WEDNESDAY THURSDAY FRIDAY SATURDAY SUNDAY";
 
 const STREAM_COMMANDS: &str =
     "one of put_tariff put_token authorize release post close settle exposure find statement configure";
@@ -215,11 +204,7 @@ impl fmt::Display for Value {
             Value::Energy(millionths) => write_decimal(f, false, *millionths),
             Value::Written(text) => f.write_str(text.as_str()),
             Value::Expected(expected) => write!(f, "{expected}"),
-            Value::Day => f.write_str(DAYS),
-            Value::IdText => f.write_str("a string of 1 to 64 bytes"),
             Value::StreamCommand => f.write_str(STREAM_COMMANDS),
-            Value::ShortId => f.write_str("at most 36 characters without credit true"),
-            Value::NotBelow0 => f.write_str("at least 0 without credit true"),
         }
     }
 }

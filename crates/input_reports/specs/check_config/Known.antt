@@ -22,12 +22,14 @@ list_name ProvidersListing = Providers
 list_name Platforms = PlatformsMember
 list_name PairLimits = PairLimitsMember
 
--- the members by which the items of the list differ
-abbrev pub item_keys : Listing → List Name
-item_keys Operators = Party ∷ []
-item_keys ProvidersListing = Party ∷ []
-item_keys Platforms = NameMember ∷ []
-item_keys PairLimits = Operator ∷ Provider ∷ Currency ∷ []
+-- the members by which the items of the list in the member of that name differ; of none, the items are texts that differ
+abbrev pub item_keys : Name → List Name
+item_keys OperatorsMember = Party ∷ []
+item_keys Providers = Party ∷ []
+item_keys PlatformsMember = NameMember ∷ []
+item_keys PairLimitsMember = Operator ∷ Provider ∷ Currency ∷ []
+item_keys Limits = Currency ∷ []
+item_keys other = []
 
 -- the items of that member, and none where it is no array
 abbrev pub items_at : Name → Data → List Data

@@ -1,7 +1,7 @@
 //! The objects of a configuration: where they stand, and which members they have.
 
 ghost use Rattle.std.specs.Prelude.{◌≡◌, ◌↔◌, IsTrue, Ok};
-ghost use Rattle.ocpi_json.specs.Fields.{required, as_whole};
+ghost use Rattle.ocpi_json.specs.Fields.{required, whole as whole_number};
 ghost use Rattle.ocpi_json.specs.declared.name.Name.TheVariants.{Version};
 ghost use Rattle.input_reports.specs.check_config.Known.{items_at};
 
@@ -21,7 +21,7 @@ pub enum Listing {
 
 impl Listing {
     ghost use Rattle.std.specs.Prelude.{◌≡◌};
-    ghost use Rattle.input_reports.specs.check_config.Known.{item_keys, item_members, list_name};
+    ghost use Rattle.input_reports.specs.check_config.Known.{item_members, list_name};
 
     pub fn name(self) -> Name
         ensures { result ≡ list_name self }
@@ -43,17 +43,6 @@ impl Listing {
             Listing::Providers => &[Name::Party, Name::Limits],
             Listing::Platforms => &[Name::Name, Name::Parties, Name::Hub],
             Listing::PairLimits => &[Name::Operator, Name::Provider, Name::Currency, Name::Limit],
-        }
-    }
-
-    /// The members by which its items differ.
-    pub fn keys(self) -> &'static [Name]
-        ensures { result.now ≡ item_keys self }
-    {
-        match self {
-            Listing::Operators | Listing::Providers => &[Name::Party],
-            Listing::Platforms => &[Name::Name],
-            Listing::PairLimits => &[Name::Operator, Name::Provider, Name::Currency],
         }
     }
 }
@@ -124,7 +113,7 @@ pub struct Found<'a> {
 
 /// The configuration is of version 1, which has no pair limits and no credit window.
 pub fn is_of_version_1(whole: &Node) -> bool
-    ensures { IsTrue result ↔ (required (as_whole 1 2) Version whole.now ≡ Ok 1) }
+    ensures { IsTrue result ↔ (required (whole_number 1 2) Version whole.now ≡ Ok 1) }
 {
     match fields::whole(whole, Name::Version, 1, 2) {
         Ok(version) => version == 1,
@@ -193,8 +182,7 @@ fn add_objects<'a>(found: &mut Vec<Found<'a>>, whole: &Node<'a>) -> Result<(), A
     add_items(found, whole, Listing::PairLimits)
 }
 
-/// The objects that are read within the configuration. Of two that have a member of the same name, the one that is read
-/// first stands before the other.
+/// The objects that are read within the configuration.
 pub fn objects_in<'a>(alloc: Global, whole: &Node<'a>) -> Result<Vec<Found<'a>>, AllocError> {
     let mut found = Vec::new(alloc);
     match add_objects(&mut found, whole) {

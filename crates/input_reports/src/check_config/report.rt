@@ -7,8 +7,7 @@ use super::objects::objects_in;
 use super::passed_over::passed_over;
 use super::warnings::warning_lines;
 use command_line::Fault;
-use ocpi_json::name::Name;
-use ocpi_json::{Node, ReadFault, Room};
+use ocpi_json::{MemberFault, Node, ReadFault, Room};
 use ocpi_types::{Config, ConfigFault};
 use std::alloc::{AllocError, Global};
 
@@ -24,10 +23,9 @@ pub enum Report {
         passed_over: String,
         warnings: String,
     },
-    /// It has a fault: the member that it names, what is said of that member where it was found, and what is passed over.
+    /// It has a fault: what is said of the member at fault, and what is passed over.
     AtFault {
-        name: Name,
-        failing: Option<String>,
+        failing: String,
         passed_over: String,
     },
 }
@@ -51,20 +49,20 @@ fn of_read(alloc: Global, whole: &Node, config: &Config) -> Result<Report, Alloc
     })
 }
 
-fn of_fault(alloc: Global, whole: &Node, name: Name) -> Result<Report, AllocError> {
-    let objects = objects_in(alloc, whole)?;
+fn of_fault(alloc: Global, whole: Node, fault: &MemberFault) -> Result<Report, AllocError> {
+    let objects = objects_in(alloc, &whole)?;
+    let passed_over = passed_over(alloc, &whole, objects.as_slice())?;
     Ok(Report::AtFault {
-        name,
-        failing: failing_line(alloc, whole, objects.as_slice(), name)?,
-        passed_over: passed_over(alloc, whole, objects.as_slice())?,
+        failing: failing_line(alloc, whole, fault)?,
+        passed_over,
     })
 }
 
 // What is told of the configuration that these bytes say, which are the value `whole`.
-fn of_value(alloc: Global, bytes: &[u8], whole: &Node) -> Result<Report, Fault<'static>> {
+fn of_value(alloc: Global, bytes: &[u8], whole: Node) -> Result<Report, Fault<'static>> {
     match Config::read(alloc, bytes) {
-        Ok(config) => Ok(of_read(alloc, whole, &config)?),
-        Err(ConfigFault::Member { name }) => Ok(of_fault(alloc, whole, name)?),
+        Ok(config) => Ok(of_read(alloc, &whole, &config)?),
+        Err(ConfigFault::Member(fault)) => Ok(of_fault(alloc, whole, &fault)?),
         Err(ConfigFault::Syntax) => Err(no_json(alloc, bytes)),
         Err(ConfigFault::NoMemory) => Err(Fault::NoMemory),
     }
@@ -74,7 +72,7 @@ fn of_value(alloc: Global, bytes: &[u8], whole: &Node) -> Result<Report, Fault<'
 pub fn report_of(alloc: Global, bytes: &[u8]) -> Result<Report, Fault<'static>> {
     let mut room = Room::new(alloc);
     match room.read(bytes) {
-        Ok(line) => of_value(alloc, bytes, &line.value()),
+        Ok(line) => of_value(alloc, bytes, line.value()),
         Err(ReadFault::Syntax) => Err(no_json(alloc, bytes)),
         Err(ReadFault::NoMemory) => Err(Fault::NoMemory),
     }

@@ -2,37 +2,38 @@
 use Rattle.std.specs.Prelude.{◌≡◌, true, ◌||◌, is_some, pos, int_le, nat_le, length, Result, Ok}
 use Rattle.std.specs.List.{list_all}
 use Rattle.json.specs.Json.{Json as Data}
-use Rattle.ocpi_json.specs.Fields.{required, optional, as_ci_text, as_number, as_parsed}
+use Rattle.ocpi_json.specs.Fields.{ascii, moment, number, optional, required}
+use Rattle.ocpi_json.specs.MemberFaults.{fault_at, member_of}
 use Rattle.ocpi_json.specs.Members.{◌>>=◌}
-use Rattle.ocpi_json.specs.MomentText.{instant_of}
-use Rattle.ocpi_json.specs.declared.name.Name.{Name}
+use Rattle.ocpi_json.specs.declared.expected.Expected.TheVariants as expected
+use Rattle.ocpi_json.specs.declared.member_fault.MemberFault.{MemberFault}
 use Rattle.ocpi_json.specs.declared.name.Name.TheVariants as name
-use Rattle.ocpi_types.specs.Cdr.{session_token_at, tariffs_at, periods_at, cost_at, credit_at}
-use Rattle.ocpi_types.specs.CdrToken.{method_of}
+use Rattle.ocpi_types.specs.Cdr.{session_token_at, tariffs_at, periods_at, cost_at, credit_at, fault_of_volume}
+use Rattle.ocpi_types.specs.CdrToken.{an_auth_method}
 use Rattle.ocpi_types.specs.ChargingPeriod.{has_volumes_in_range}
-use Rattle.ocpi_types.specs.Currency.{currency_of}
+use Rattle.ocpi_types.specs.Currency.{a_currency}
 use Rattle.ocpi_types.specs.Members.{true_or}
 use Rattle.ocpi_types.specs.Party.{party_at}
-use Rattle.ocpi_types.specs.declared.cdr.reading.Authorised.{Authorised}
 use Rattle.ocpi_types.specs.declared.cdr.Cdr.{Cdr}
-use Rattle.ocpi_types.specs.declared.cdr.reading.Opening.{Opening}
+use Rattle.ocpi_types.specs.declared.cdr.reading.Authorised.{Authorised}
 use Rattle.ocpi_types.specs.declared.cdr.reading.CdrMembers.{CdrMembers}
+use Rattle.ocpi_types.specs.declared.cdr.reading.Opening.{Opening}
 use Rattle.ocpi_types.specs.declared.cdr.reading.Totals.{Totals}
 
-unfoldable pub opening_at : Data → Result Opening Name
+unfoldable pub opening_at : Data → Result Opening MemberFault
 opening_at node = do
   operator ← party_at node
-  id ← required (as_ci_text 39) name.Id node
-  start_date_time ← required (as_parsed instant_of) name.StartDateTime node
-  end_date_time ← required (as_parsed instant_of) name.EndDateTime node
+  id ← required (ascii 39) name.Id node
+  start_date_time ← required moment name.StartDateTime node
+  end_date_time ← required moment name.EndDateTime node
   Ok (record { operator = operator; id = id; start_date_time = start_date_time; end_date_time = end_date_time })
 
-unfoldable pub authorised_at : Data → Result Authorised Name
+unfoldable pub authorised_at : Data → Result Authorised MemberFault
 authorised_at node = do
   cdr_token ← session_token_at node
-  auth_method ← required (as_parsed method_of) name.AuthMethod node
-  authorization_reference ← optional (as_ci_text 36) name.AuthorizationReference node
-  currency ← required (as_parsed currency_of) name.Currency node
+  auth_method ← required an_auth_method name.AuthMethod node
+  authorization_reference ← optional (ascii 36) name.AuthorizationReference node
+  currency ← required a_currency name.Currency node
   Ok (record {
     cdr_token = cdr_token;
     auth_method = auth_method;
@@ -40,13 +41,13 @@ authorised_at node = do
     currency = currency;
   })
 
-unfoldable pub totals_at : Data → Result Totals Name
+unfoldable pub totals_at : Data → Result Totals MemberFault
 totals_at node = do
   total_cost ← cost_at node
-  total_energy ← required as_number name.TotalEnergy node
-  total_time ← required as_number name.TotalTime node
+  total_energy ← required number name.TotalEnergy node
+  total_time ← required number name.TotalTime node
   credit ← credit_at node
-  last_updated ← required (as_parsed instant_of) name.LastUpdated node
+  last_updated ← required moment name.LastUpdated node
   Ok (record {
     total_cost = total_cost;
     total_energy = total_energy;
@@ -55,7 +56,7 @@ totals_at node = do
     last_updated = last_updated;
   })
 
-unfoldable pub parts_at : Data → Result CdrMembers Name
+unfoldable pub parts_at : Data → Result CdrMembers MemberFault
 parts_at node = do
   opening ← opening_at node
   authorised ← authorised_at node
@@ -92,14 +93,14 @@ cdr_with parts id_in_range volumes_in_range energy_in_range = record {
 }
 
 -- it, or the first that does not hold
-abbrev pub cdr_of : CdrMembers → Result Cdr Name
+abbrev pub cdr_of : CdrMembers → Result Cdr MemberFault
 cdr_of parts = do
-  id_in_range ← true_or name.Id (is_some parts.totals.credit || nat_le (length parts.opening.id) 36)
-  volumes_in_range ← true_or name.Volume (is_some parts.totals.credit || list_all has_volumes_in_range parts.charging_periods)
-  energy_in_range ← true_or name.TotalEnergy (is_some parts.totals.credit || int_le (pos 0) parts.totals.total_energy)
+  id_in_range ← true_or (fault_at (member_of name.Id) expected.CdrId) (is_some parts.totals.credit || nat_le (length parts.opening.id) 36)
+  volumes_in_range ← true_or (fault_of_volume parts.charging_periods) (is_some parts.totals.credit || list_all has_volumes_in_range parts.charging_periods)
+  energy_in_range ← true_or (fault_at (member_of name.TotalEnergy) expected.CdrNumber) (is_some parts.totals.credit || int_le (pos 0) parts.totals.total_energy)
   Ok (cdr_with parts id_in_range volumes_in_range energy_in_range)
 
-unfoldable pub cdr_in_parts : Data → Result Cdr Name
+unfoldable pub cdr_in_parts : Data → Result Cdr MemberFault
 cdr_in_parts node = do
   parts ← parts_at node
   cdr_of parts

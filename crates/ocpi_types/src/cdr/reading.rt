@@ -1,16 +1,18 @@
 //! Reading a CDR, its members in groups.
 
-ghost use Rattle.std.specs.Prelude.{◌≡◌, ◌||◌, is_some, pos, int_le, nat_le, length};
+ghost use Rattle.std.specs.Prelude.{◌≡◌, ◌||◌, find, is_some, not, option_and_then, option_copied, pos, position, int_le, nat_le, length};
 ghost use Rattle.std.specs.List.{list_all};
 ghost use Rattle.ocpi_json.specs.Faults.{Finds};
-ghost use Rattle.ocpi_types.specs.Cdr.{cost_at, credit_at, periods_at, reference_at, session_token_at, tariffs_at};
+ghost use Rattle.ocpi_types.specs.Cdr.{cost_at, credit_at, fault_of_volume, periods_at, reference_at, session_token_at, tariffs_at};
 ghost use Rattle.ocpi_types.specs.ChargingPeriod.{has_volumes_in_range};
+ghost use Rattle.ocpi_types.specs.Dimension.{is_in_range};
 ghost use Rattle.ocpi_types.specs.Inner.CdrParts.{authorised_at, cdr_in_parts, cdr_of, opening_at, parts_at, totals_at};
 
 use super::Cdr;
 use crate::cdr_token::{AuthMethod, CdrToken};
 use crate::charging_period::ChargingPeriod;
 use crate::currency::Currency;
+use crate::dimension::Dimension;
 use crate::known_tariffs::KnownTariffs;
 use crate::members;
 use crate::party::Party;
@@ -22,16 +24,17 @@ use jiff::Timestamp;
 use ocpi_json::ci_text::CiText;
 use ocpi_json::fields::{self, FieldFault};
 use ocpi_json::name::Name;
-use ocpi_json::objects::{FromNode, FromNodeIn};
+use ocpi_json::objects::{FromNode, FromNodeIn, within};
 use ocpi_json::sequence::Sequence;
-use ocpi_json::{HasMembers, Node};
+use ocpi_json::{Expected, HasMembers, MemberFault, Node, Step};
 use std::alloc::Global;
 
 #[tactic(auto, unfolding(crate::specs::Cdr::session_token_at))]
-fn read_session_token<'n, M: HasMembers<'n>>(node: &M) -> Result<CdrToken, Name>
+fn read_session_token<'n, M: HasMembers<'n>>(node: &M) -> Result<CdrToken, MemberFault>
     ensures { result ≡ session_token_at (M.object node.now) }
 {
-    CdrToken::from_node(&fields::object(node, Name::CdrToken)?)
+    let object = fields::object(node, Name::CdrToken)?;
+    within(Step::Member(Name::CdrToken), CdrToken::from_node(&object))
 }
 
 #[tactic(auto, unfolding(crate::specs::Cdr::tariffs_at))]
@@ -52,21 +55,26 @@ fn read_periods<'n, M: HasMembers<'n>>(
 ) -> Result<UpTo<ChargingPeriod, 1000>, FieldFault>
     ensures { Finds result (periods_at (M.object node.now)) }
 {
-    read_up_to(alloc, fields::list(node, Name::ChargingPeriods, 1, 1000)?)
+    let items = fields::list(node, Name::ChargingPeriods, 1, 1000)?;
+    read_up_to(alloc, Name::ChargingPeriods, items)
 }
 
 #[tactic(auto, unfolding(crate::specs::Cdr::cost_at))]
-fn read_cost<'n, M: HasMembers<'n>>(node: &M) -> Result<Millionths, Name>
+fn read_cost<'n, M: HasMembers<'n>>(node: &M) -> Result<Millionths, MemberFault>
     ensures { result ≡ cost_at (M.object node.now) }
 {
-    fields::number(&fields::object(node, Name::TotalCost)?, Name::ExclVat)
+    let object = fields::object(node, Name::TotalCost)?;
+    within(
+        Step::Member(Name::TotalCost),
+        fields::number(&object, Name::ExclVat),
+    )
 }
 
 #[tactic(auto, unfolding(crate::specs::Cdr::reference_at))]
 fn read_reference<'n, M: HasMembers<'n>>(
     is_credit: bool,
     node: &M,
-) -> Result<Option<CiText<39>>, Name>
+) -> Result<Option<CiText<39>>, MemberFault>
     ensures { result ≡ reference_at is_credit (M.object node.now) }
 {
     if is_credit {
@@ -78,7 +86,7 @@ fn read_reference<'n, M: HasMembers<'n>>(
 }
 
 #[tactic(auto, unfolding(crate::specs::Cdr::credit_at))]
-fn read_credit<'n, M: HasMembers<'n>>(node: &M) -> Result<Option<CiText<39>>, Name>
+fn read_credit<'n, M: HasMembers<'n>>(node: &M) -> Result<Option<CiText<39>>, MemberFault>
     ensures { result ≡ credit_at (M.object node.now) }
 {
     let is_credit = fields::flag_or_none(node, Name::Credit)?.unwrap_or(false);
@@ -114,7 +122,7 @@ struct Totals {
 }
 
 #[tactic(auto, unfolding(crate::specs::Inner::CdrParts::opening_at))]
-fn read_opening<'n, M: HasMembers<'n>>(node: &M) -> Result<Opening, Name>
+fn read_opening<'n, M: HasMembers<'n>>(node: &M) -> Result<Opening, MemberFault>
     ensures { result ≡ opening_at (M.object node.now) }
 {
     let operator = Party::from_members(node)?;
@@ -130,7 +138,7 @@ fn read_opening<'n, M: HasMembers<'n>>(node: &M) -> Result<Opening, Name>
 }
 
 #[tactic(auto, unfolding(crate::specs::Inner::CdrParts::authorised_at))]
-fn read_authorised<'n, M: HasMembers<'n>>(node: &M) -> Result<Authorised, Name>
+fn read_authorised<'n, M: HasMembers<'n>>(node: &M) -> Result<Authorised, MemberFault>
     ensures { result ≡ authorised_at (M.object node.now) }
 {
     let cdr_token = read_session_token(node)?;
@@ -146,7 +154,7 @@ fn read_authorised<'n, M: HasMembers<'n>>(node: &M) -> Result<Authorised, Name>
 }
 
 #[tactic(auto, unfolding(crate::specs::Inner::CdrParts::totals_at))]
-fn read_totals<'n, M: HasMembers<'n>>(node: &M) -> Result<Totals, Name>
+fn read_totals<'n, M: HasMembers<'n>>(node: &M) -> Result<Totals, MemberFault>
     ensures { result ≡ totals_at (M.object node.now) }
 {
     let total_cost = read_cost(node)?;
@@ -201,6 +209,48 @@ fn have_volumes_in_range(periods: &[ChargingPeriod]) -> bool
     periods.iter().all(|period| period.has_volumes_in_range())
 }
 
+fn period_below_0(periods: &[ChargingPeriod]) -> Option<usize>
+    ensures { result ≡ position (λ period. not (has_volumes_in_range period)) periods.now }
+{
+    periods
+        .iter()
+        .position(|period| !period.has_volumes_in_range())
+}
+
+fn dimension_below_0(dimensions: &[Dimension]) -> Option<usize>
+    ensures { result ≡ position (λ dimension. not (is_in_range dimension)) dimensions.now }
+{
+    dimensions
+        .iter()
+        .position(|dimension| !dimension.is_in_range())
+}
+
+fn first_period_below_0(periods: &[ChargingPeriod]) -> Option<&ChargingPeriod>
+    ensures { option_copied result ≡ find (λ period. not (has_volumes_in_range period)) periods.now }
+{
+    periods.iter().find(|period| !period.has_volumes_in_range())
+}
+
+fn first_dimension_below_0(periods: &[ChargingPeriod]) -> Option<usize>
+    ensures { result ≡ option_and_then (λ period. position (λ dimension. not (is_in_range dimension)) period.dimensions)
+        (find (λ period. not (has_volumes_in_range period)) periods.now) }
+{
+    match first_period_below_0(periods) {
+        Some(period) => dimension_below_0(period.dimensions.as_slice()),
+        None => None,
+    }
+}
+
+#[tactic(auto, unfolding(crate::specs::Cdr::fault_of_volume))]
+fn fault_of_volume(periods: &[ChargingPeriod]) -> MemberFault
+    ensures { result ≡ fault_of_volume periods.now }
+{
+    let period = Step::new(Name::ChargingPeriods, period_below_0(periods));
+    let dimension = Step::new(Name::Dimensions, first_dimension_below_0(periods));
+    let volume = MemberFault::at(Step::Member(Name::Volume), Expected::CdrNumber);
+    volume.seen_from(dimension).seen_from(period)
+}
+
 impl CdrMembers {
     fn is_credit(&self) -> bool
         ensures { result ≡ is_some self.now.totals.credit }
@@ -226,17 +276,19 @@ impl CdrMembers {
         self.is_credit() || self.totals.total_energy.get() >= 0
     }
 
-    fn into_cdr(self) -> Result<Cdr, Name>
+    fn into_cdr(self) -> Result<Cdr, MemberFault>
         ensures { result ≡ cdr_of self }
     {
         if !self.has_id_in_range() {
-            return Err(Name::Id);
+            let expected = Expected::CdrId;
+            return Err(MemberFault::at(Step::Member(Name::Id), expected));
         }
         if !self.has_volumes_in_range() {
-            return Err(Name::Volume);
+            return Err(fault_of_volume(self.charging_periods.as_slice()));
         }
         if !self.has_energy_in_range() {
-            return Err(Name::TotalEnergy);
+            let energy = Step::Member(Name::TotalEnergy);
+            return Err(MemberFault::at(energy, Expected::CdrNumber));
         }
         Ok(Cdr {
             operator: self.opening.operator,

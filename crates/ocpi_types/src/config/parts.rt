@@ -1,9 +1,11 @@
 //! Reading the parts of a configuration.
 
-ghost use Rattle.std.specs.Prelude.{◌≡◌, map};
+ghost use Rattle.std.specs.Prelude.{◌≡◌};
 ghost use Rattle.ocpi_json.specs.Faults.{Finds};
+ghost use Rattle.ocpi_json.specs.Fields.{each_of};
 ghost use Rattle.ocpi_json.specs.Members.{each};
-ghost use Rattle.ocpi_types.specs.ConfigParts.{currency_at, operator_at, provider_at};
+ghost use Rattle.ocpi_json.specs.declared.name.Name.TheVariants as name;
+ghost use Rattle.ocpi_types.specs.ConfigParts.{currency_at, listed_party, operator_at, provider_at};
 
 use super::lookups::{has_currency, operator_among, provider_among};
 use super::{Limits, Operator, PairLimit, Platform, Provider, ProviderLimit};
@@ -14,9 +16,9 @@ use crate::members::{self, at_most, at_most_or_none, ensure};
 use crate::party::Party;
 use ocpi_json::fields::{self, FieldFault};
 use ocpi_json::name::Name;
-use ocpi_json::objects::FromNode;
+use ocpi_json::objects::{FromNode, FromText, within, within_in};
 use ocpi_json::sequence::Sequence;
-use ocpi_json::{Node, Nodes};
+use ocpi_json::{Expected, MemberFault, Node, Nodes, Step};
 use std::alloc::Global;
 
 // No configuration has room for a list of so many items.
@@ -34,11 +36,11 @@ pub struct Listed {
 pub trait FromNodeWith<C>: Sized {
     ghost use Rattle.std.specs.Prelude.{◌≡◌, Result};
     ghost use Rattle.json.specs.Json.{Json as Data};
-    ghost use Rattle.ocpi_json.specs.declared.name.Name.{Name};
+    ghost use Rattle.ocpi_json.specs.declared.member_fault.MemberFault.{MemberFault};
 
-    ghost at_with: { C → Data → Result Self Name };
+    ghost at_with: { C → Data → Result Self MemberFault };
 
-    fn from_node_with(listed: &C, node: &Node) -> Result<Self, Name>
+    fn from_node_with(listed: &C, node: &Node) -> Result<Self, MemberFault>
         ensures { result ≡ at_with listed.now node.now };
 }
 
@@ -47,25 +49,27 @@ pub trait FromNodeWithIn<C>: Sized {
     ghost use Rattle.std.specs.Prelude.{Result};
     ghost use Rattle.json.specs.Json.{Json as Data};
     ghost use Rattle.ocpi_json.specs.Faults.{Finds};
-    ghost use Rattle.ocpi_json.specs.declared.name.Name.{Name};
+    ghost use Rattle.ocpi_json.specs.declared.member_fault.MemberFault.{MemberFault};
 
-    ghost at_with: { C → Data → Result Self Name };
+    ghost at_with: { C → Data → Result Self MemberFault };
 
     fn from_node_with_in(alloc: Global, listed: &C, node: &Node) -> Result<Self, FieldFault>
         ensures { Finds result (at_with listed.now node.now) };
 }
 
-/// The values that stand in the nodes, in order.
+/// The values that stand in the items of the list in the member of that name, in order.
 pub fn read_each_with<C, T: FromNodeWith<C> + Drop>(
     alloc: Global,
     listed: &C,
+    name: Name,
     mut nodes: Nodes,
 ) -> Result<Sequence<T>, FieldFault>
-    ensures { Finds result (each (T.at_with listed.now) nodes.entry) }
+    ensures { Finds result (each name (T.at_with listed.now) nodes.entry) }
 {
     let mut values = Sequence::with_capacity(alloc, nodes.len())?;
     while let Some(node) = nodes.next() {
-        values.push(T::from_node_with(listed, &node)?)?;
+        let step = Step::item(name, values.as_slice().len());
+        values.push(within(step, T::from_node_with(listed, &node))?)?;
     }
     Ok(values)
 }
@@ -74,56 +78,73 @@ pub fn read_each_with<C, T: FromNodeWith<C> + Drop>(
 pub fn read_each_with_in<C, T: FromNodeWithIn<C> + Drop>(
     alloc: Global,
     listed: &C,
+    name: Name,
     mut nodes: Nodes,
 ) -> Result<Sequence<T>, FieldFault>
-    ensures { Finds result (each (T.at_with listed.now) nodes.entry) }
+    ensures { Finds result (each name (T.at_with listed.now) nodes.entry) }
 {
     let mut values = Sequence::with_capacity(alloc, nodes.len())?;
     while let Some(node) = nodes.next() {
-        values.push(T::from_node_with_in(alloc, listed, &node)?)?;
+        let step = Step::item(name, values.as_slice().len());
+        values.push(within_in(step, T::from_node_with_in(alloc, listed, &node))?)?;
     }
     Ok(values)
 }
 
 #[tactic(auto, unfolding(crate::specs::ConfigParts::currency_at))]
-fn currency(currencies: &[Currency], node: &Node) -> Result<Currency, Name>
+fn currency(currencies: &[Currency], node: &Node) -> Result<Currency, MemberFault>
     ensures { result ≡ currency_at currencies.now node.now }
 {
     let currency = members::currency(node, Name::Currency)?;
-    ensure(has_currency(currencies, &currency), Name::Currency)?;
+    let is_known = has_currency(currencies, &currency);
+    ensure(is_known, Name::Currency, Expected::ListedCurrency)?;
     Ok(currency)
 }
 
 #[tactic(auto, unfolding(crate::specs::ConfigParts::operator_at))]
-fn operator(listed: &Listed, node: &Node) -> Result<Party, Name>
+fn operator(listed: &Listed, node: &Node) -> Result<Party, MemberFault>
     ensures { result ≡ operator_at listed.now node.now }
 {
     let operator = members::party(node, Name::Operator)?;
-    let is_known = operator_among(listed.operators.as_slice(), &operator).is_some();
-    ensure(is_known, Name::Operator)?;
+    let is_known = listed.has_operator(&operator);
+    ensure(is_known, Name::Operator, Expected::ListedOperator)?;
     Ok(operator)
 }
 
 #[tactic(auto, unfolding(crate::specs::ConfigParts::provider_at))]
-fn provider(listed: &Listed, node: &Node) -> Result<Party, Name>
+fn provider(listed: &Listed, node: &Node) -> Result<Party, MemberFault>
     ensures { result ≡ provider_at listed.now node.now }
 {
     let provider = members::party(node, Name::Provider)?;
-    let is_known = provider_among(listed.providers.as_slice(), &provider).is_some();
-    ensure(is_known, Name::Provider)?;
+    let is_known = listed.has_provider(&provider);
+    ensure(is_known, Name::Provider, Expected::ListedProvider)?;
     Ok(provider)
 }
 
 impl Listed {
-    ghost use Rattle.std.specs.Prelude.{◌≡◌};
+    ghost use Rattle.std.specs.Prelude.{◌≡◌, is_some};
+    ghost use Rattle.ocpi_types.specs.Config.{operator_among, provider_among};
     ghost use Rattle.ocpi_types.specs.ConfigParts.{has_party};
+
+    /// The party is configured as an operator.
+    fn has_operator(&self, party: &Party) -> bool
+        ensures { result ≡ is_some (operator_among self.now.operators party.now) }
+    {
+        operator_among(self.operators.as_slice(), party).is_some()
+    }
+
+    /// The party is configured as a provider.
+    fn has_provider(&self, party: &Party) -> bool
+        ensures { result ≡ is_some (provider_among self.now.providers party.now) }
+    {
+        provider_among(self.providers.as_slice(), party).is_some()
+    }
 
     /// The party is configured as an operator or as a provider.
     fn has_party(&self, party: &Party) -> bool
         ensures { result ≡ has_party self.now party.now }
     {
-        operator_among(self.operators.as_slice(), party).is_some()
-            || provider_among(self.providers.as_slice(), party).is_some()
+        self.has_operator(party) || self.has_provider(party)
     }
 }
 
@@ -133,7 +154,7 @@ impl FromNode for Operator {
     ghost at = { operator_entry_at };
 
     #[tactic(auto, unfolding(crate::specs::ConfigParts::operator_entry_at))]
-    fn from_node(node: &Node) -> Result<Operator, Name> {
+    fn from_node(node: &Node) -> Result<Operator, MemberFault> {
         let party = members::party(node, Name::Party)?;
         let zone = fields::parsed(node, Name::Zone)?;
         Ok(Operator { party, zone })
@@ -149,7 +170,7 @@ impl FromNodeWith<Distinct<Currency, 16>> for ProviderLimit {
     fn from_node_with(
         currencies: &Distinct<Currency, 16>,
         node: &Node,
-    ) -> Result<ProviderLimit, Name> {
+    ) -> Result<ProviderLimit, MemberFault> {
         let currency = currency(currencies.as_slice(), node)?;
         let limit = at_most(node, Name::Limit, 0)?;
         let hold = at_most(node, Name::Hold, 1)?;
@@ -174,23 +195,41 @@ impl FromNodeWithIn<Distinct<Currency, 16>> for Provider {
     ) -> Result<Provider, FieldFault> {
         let party = members::party(node, Name::Party)?;
         let nodes = fields::list_or_empty(node, Name::Limits, MOST_ITEMS)?;
-        let limits = read_each_with(alloc, currencies, nodes)?;
-        ensure(are_all_different(limits.as_slice()), Name::Limits)?;
+        let limits = read_each_with(alloc, currencies, Name::Limits, nodes)?;
+        let are_different = are_all_different(limits.as_slice());
+        ensure(are_different, Name::Limits, Expected::Different)?;
         Ok(Provider { party, limits })
     }
 }
 
-impl FromNodeWith<Listed> for Party {
-    ghost use Rattle.ocpi_types.specs.ConfigParts.{platform_party_at};
-
-    ghost at_with = { platform_party_at };
-
-    #[tactic(auto, unfolding(crate::specs::ConfigParts::platform_party_at))]
-    fn from_node_with(listed: &Listed, node: &Node) -> Result<Party, Name> {
-        let party = members::party_in(node, Name::Parties)?;
-        ensure(listed.has_party(&party), Name::Parties)?;
-        Ok(party)
+// The party of an item of a platform's list.
+fn listed_party(listed: &Listed, node: &Node) -> Option<Party>
+    ensures { result ≡ (listed_party listed.now).means node.now }
+{
+    let party = Party::from_text(node.as_str()?)?;
+    if listed.has_party(&party) {
+        Some(party)
+    } else {
+        None
     }
+}
+
+fn read_parties(
+    alloc: Global,
+    listed: &Listed,
+    mut nodes: Nodes,
+) -> Result<Sequence<Party>, FieldFault>
+    ensures { Finds result (each_of (listed_party listed.now) name.Parties 0 nodes.entry) }
+{
+    let mut parties = Sequence::with_capacity(alloc, nodes.len())?;
+    while let Some(node) = nodes.next() {
+        let step = Step::item(Name::Parties, parties.as_slice().len());
+        let Some(party) = listed_party(listed, &node) else {
+            return Err(FieldFault::Field(MemberFault::at(step, Expected::ListedParty)));
+        };
+        parties.push(party)?;
+    }
+    Ok(parties)
 }
 
 impl FromNodeWithIn<Listed> for Platform {
@@ -206,7 +245,7 @@ impl FromNodeWithIn<Listed> for Platform {
     ) -> Result<Platform, FieldFault> {
         let name = fields::ci_text(node, Name::Name)?;
         let nodes = fields::list_or_empty(node, Name::Parties, MOST_ITEMS)?;
-        let parties = read_each_with(alloc, listed, nodes)?;
+        let parties = read_parties(alloc, listed, nodes)?;
         let hub = fields::flag_or_none(node, Name::Hub)?.unwrap_or(false);
         Ok(Platform { name, parties, hub })
     }
@@ -218,7 +257,7 @@ impl FromNodeWith<Listed> for PairLimit {
     ghost at_with = { pair_limit_at };
 
     #[tactic(auto, unfolding(crate::specs::ConfigParts::pair_limit_at))]
-    fn from_node_with(listed: &Listed, node: &Node) -> Result<PairLimit, Name> {
+    fn from_node_with(listed: &Listed, node: &Node) -> Result<PairLimit, MemberFault> {
         let operator = operator(listed, node)?;
         let provider = provider(listed, node)?;
         let currency = currency(listed.currencies.as_slice(), node)?;
@@ -256,7 +295,7 @@ impl FromNode for Limits {
     ghost at = { limits_at };
 
     #[tactic(auto, unfolding(crate::specs::ConfigParts::limits_at))]
-    fn from_node(node: &Node) -> Result<Limits, Name> {
+    fn from_node(node: &Node) -> Result<Limits, MemberFault> {
         let cdrs = at_most_or_none(node, Name::Cdrs, 1)?.unwrap_or(AtMost::most());
         let tariffs = at_most_or_none(node, Name::Tariffs, 1)?.unwrap_or(AtMost::most());
         let entries = at_most_or_none(node, Name::Entries, 1)?.unwrap_or(AtMost::most());

@@ -10,11 +10,11 @@ use super::{Config, Limits, Operator, PairLimit, Platform, Provider, Tolerance};
 use crate::bounded::AtMost;
 use crate::currency::Currency;
 use crate::different::Distinct;
-use crate::members::{at_most_or_none, ensure};
+use crate::members::at_most_or_none;
 use ocpi_json::fields::{self, FieldFault};
 use ocpi_json::name::Name;
 use ocpi_json::objects::{FromNodeIn, parsed_each, read_each, read_if_any};
-use ocpi_json::{Node, ReadFault, Room};
+use ocpi_json::{MemberFault, Node, ReadFault, Room};
 use std::alloc::Global;
 use thiserror::Error;
 
@@ -25,8 +25,8 @@ pub enum ConfigFault {
     #[error("config: syntax")]
     Syntax,
     /// The member is missing, of a wrong kind or out of bounds, names what is not configured, or says something twice.
-    #[error("config: {name}")]
-    Member { name: Name },
+    #[error("config: {0}")]
+    Member(MemberFault),
     #[error("no memory")]
     NoMemory,
 }
@@ -53,7 +53,7 @@ impl From<FieldFault> for ConfigFault {
 
     fn from(fault: FieldFault) -> ConfigFault {
         match fault {
-            FieldFault::Field(name) => ConfigFault::Member { name },
+            FieldFault::Field(fault) => ConfigFault::Member(fault),
             FieldFault::NoMemory => ConfigFault::NoMemory,
         }
     }
@@ -64,7 +64,7 @@ fn read_currencies(alloc: Global, node: &Node) -> Result<Distinct<Currency, 16>,
     ensures { Finds result (currencies_at node.now) }
 {
     let nodes = fields::list(node, Name::Currencies, 1, 16)?;
-    let currencies = parsed_each(alloc, nodes, Name::Currencies)?;
+    let currencies = parsed_each(alloc, Name::Currencies, nodes)?;
     Ok(Distinct::new(currencies, Name::Currencies)?)
 }
 
@@ -72,7 +72,8 @@ fn read_currencies(alloc: Global, node: &Node) -> Result<Distinct<Currency, 16>,
 fn read_operators(alloc: Global, node: &Node) -> Result<Distinct<Operator, 64>, FieldFault>
     ensures { Finds result (operators_at node.now) }
 {
-    let operators = read_each(alloc, fields::list(node, Name::Operators, 1, 64)?)?;
+    let nodes = fields::list(node, Name::Operators, 1, 64)?;
+    let operators = read_each(alloc, Name::Operators, nodes)?;
     Ok(Distinct::new(operators, Name::Operators)?)
 }
 
@@ -85,7 +86,7 @@ fn read_providers(
     ensures { Finds result (providers_at currencies.now node.now) }
 {
     let nodes = fields::list(node, Name::Providers, 1, 64)?;
-    let providers = read_each_with_in(alloc, currencies, nodes)?;
+    let providers = read_each_with_in(alloc, currencies, Name::Providers, nodes)?;
     Ok(Distinct::new(providers, Name::Providers)?)
 }
 
@@ -98,15 +99,16 @@ fn read_platforms(
     ensures { Finds result (platforms_at listed.now node.now) }
 {
     let nodes = fields::list(node, Name::Platforms, 1, 128)?;
-    let platforms = read_each_with_in(alloc, listed, nodes)?;
+    let platforms = read_each_with_in(alloc, listed, Name::Platforms, nodes)?;
     Ok(Distinct::new(platforms, Name::Platforms)?)
 }
 
 #[tactic(auto, unfolding(crate::specs::ConfigText::house_limits_at))]
-fn read_limits(node: &Node) -> Result<Limits, Name>
+fn read_limits(node: &Node) -> Result<Limits, MemberFault>
     ensures { result ≡ house_limits_at node.now }
 {
-    let limits = read_if_any(fields::object_or_none(node, Name::Limits)?)?;
+    let found = fields::object_or_none(node, Name::Limits)?;
+    let limits = read_if_any(Name::Limits, found)?;
     Ok(limits.unwrap_or(Limits::largest()))
 }
 
@@ -119,7 +121,7 @@ fn read_stated_pair_limits(
     ensures { Finds result (stated_pair_limits_at listed.now node.now) }
 {
     let nodes = fields::list_or_empty(node, Name::PairLimits, 4096)?;
-    let pair_limits = read_each_with(alloc, listed, nodes)?;
+    let pair_limits = read_each_with(alloc, listed, Name::PairLimits, nodes)?;
     Ok(Distinct::new(pair_limits, Name::PairLimits)?)
 }
 
@@ -140,7 +142,7 @@ fn read_pair_limits(
 }
 
 #[tactic(auto, unfolding(crate::specs::ConfigText::credit_window_at))]
-fn read_credit_window(version: u64, node: &Node) -> Result<Option<AtMost<10_000>>, Name>
+fn read_credit_window(version: u64, node: &Node) -> Result<Option<AtMost<10_000>>, MemberFault>
     ensures { result ≡ credit_window_at version node.now }
 {
     if version == 2 {

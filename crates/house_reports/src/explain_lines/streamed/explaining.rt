@@ -3,14 +3,14 @@
 use crate::explain_lines::asked::rights;
 use crate::explain_lines::explaining::of_reply;
 use crate::explain_lines::line::found::found;
-use crate::explain_lines::line::no_json;
+use crate::explain_lines::line::{failing, no_json};
 use crate::explain_lines::member_path::MemberPath;
-use crate::explain_lines::streamed::members;
 use crate::explain_lines::telling::{Cause, Told, Value};
-use line_streams::{Asked, RequestId, StreamReply, asked_of};
+use line_streams::{Asked, RequestId, StreamReply, asked_of, read_asked_line};
 use ocpi_json::ci_text::CiText;
+use ocpi_json::fields::FieldFault;
 use ocpi_json::name::Name;
-use ocpi_json::{ReadFault, Room};
+use ocpi_json::{Expected, MemberFault, Node, ReadFault, Room};
 use ocpi_types::{Config, Refusal};
 use plain_house::Event;
 use request_lines::LineRoom;
@@ -66,17 +66,27 @@ fn of_used_id(
     Ok(Told::new(path, Cause::IdOfAnotherLine, found))
 }
 
+// The fault at a member of a line, in which the command may be one of a stream.
+fn at_fault(alloc: Global, line: Node, fault: &MemberFault) -> Result<Told, AllocError> {
+    let told = failing::told(alloc, line, fault)?;
+    if fault.expected == Expected::Command {
+        return Ok(told.against(Value::StreamCommand));
+    }
+    Ok(told)
+}
+
 // The member of a line that cannot be read.
-fn of_member(
-    alloc: Global,
-    room: &mut Room,
-    line: &[u8],
-    at: Name,
-) -> Result<Option<Told>, AllocError> {
-    match room.read(line) {
-        Ok(read) => members::told(alloc, read.value(), at),
-        Err(ReadFault::NoMemory) => Err(AllocError),
-        Err(ReadFault::Syntax) => Ok(None),
+fn of_member(alloc: Global, room: &mut LineRoom, line: &[u8]) -> Result<Option<Told>, AllocError> {
+    let LineRoom { room, tariffs } = room;
+    let read = match room.read(line) {
+        Ok(read) => read,
+        Err(ReadFault::NoMemory) => return Err(AllocError),
+        Err(ReadFault::Syntax) => return Ok(None),
+    };
+    match read_asked_line(alloc, tariffs, &read.value()) {
+        Ok(_) => Ok(None),
+        Err(FieldFault::Field(fault)) => Ok(Some(at_fault(alloc, read.value(), &fault)?)),
+        Err(FieldFault::NoMemory) => Err(AllocError),
     }
 }
 
@@ -96,7 +106,7 @@ pub fn of_line(
             (None, None) => None,
         },
         Err(Refusal::NoMemory) => return Err(AllocError),
-        Err(Refusal::Field { name: at }) => of_member(alloc, &mut room.room, line, at)?,
+        Err(Refusal::Field { .. }) => of_member(alloc, room, line)?,
         Err(_) => return no_json::told(alloc, line),
     };
     Ok(told.unwrap_or(Told::new(MemberPath::nowhere(), Cause::Untold, Value::Nothing)))

@@ -5,5 +5,5 @@ use Rattle.ocpi_types.proofs.up_to.read_up_to.Goals as goal
 
 pub unwrap-requires : goal.unwrap-requires
 unwrap-requires g c =
-    let long = each_keeps_length g.T.FromNodeIn.at c.args.nodes c.in_ok-values.values c.in_ok-values.ensures in
+    let long = each_keeps_length c.args.name 0 g.T.FromNodeIn.at c.args.nodes c.in_ok-values.values c.in_ok-values.ensures in
     c.new.ensures.most.1 (omega (arith, long, c.requires))

@@ -1,8 +1,0 @@
--- Reading the items of a list in order.
-use Rattle.std.proofs.Common.{List, ◌++◌, Result, Ok, Err}
-use Rattle.ocpi_json.specs.declared.name.Name.{Name}
-
--- the items, with these before them
-abbrev pub behind_items : {X : Type 0} → List X → Result (List X) Name → Result (List X) Name
-behind_items xs (Ok ys) = Ok (xs ++ ys)
-behind_items xs (Err n) = Err n
