@@ -16,19 +16,18 @@ use Rattle.plain_house.specs.House.{positions_in, verdict}
 use Rattle.plain_house.specs.Obligations.{obligations}
 use Rattle.plain_house.specs.Replies.{Reply, stamped}
 use Rattle.plain_house.specs.Verdict.{Verdict}
+use Rattle.period_order.specs.declared.decided.Decided.{Decided}
 use Rattle.period_order.specs.declared.decided.Outcome.{Outcome}
 use Rattle.period_order.specs.declared.decided.Outcome.TheVariants as outcome
 use Rattle.period_order.specs.Decided.{Decides, closed_by, seen, stated_by}
 use Rattle.period_order.specs.Order.{PlainOrder, point_of}
-use Rattle.shared_house.specs.declared.ledgers.tally.Tally.{Tally}
-use Rattle.shared_house.specs.declared.locked.placed.Placed.{Placed}
 use Rattle.shared_house.specs.Inner.Collecting.{CollectingLaws, IsNetted, IsStated}
 use Rattle.period_order.specs.Kept.{IsConfiguration}
 use Rattle.shared_house.specs.Inner.HouseLaws.{HouseLaws}
 use Rattle.shared_house.specs.Inner.Outcomes.{with_room}
 use Rattle.shared_house.specs.Inner.Tallies.{tally_of, tally_of_event}
 use Rattle.shared_house.proofs.DecidedLemmas.{verdict_of}
-use Rattle.shared_house.specs.Inner.Told.{IsPlacedAlone, IsRight}
+use Rattle.shared_house.specs.Inner.Told.{IsPlaced, IsRight}
 use Rattle.shared_house.proofs.CollectLemmas.{none_read}
 use Rattle.shared_house.proofs.HeldLemmas.{returned, right}
 
@@ -75,40 +74,38 @@ module _ (laws : HouseLaws) (config : Config) (order : PlainOrder) (point least 
         counted = is_right.counted ∙ ap (λ (e : Option Event). (tally_of_event e).events) (ap (λ (x : Verdict). x.event) v);
       }
 
--- what is left to be collected is nothing
-pub replied_right : HouseLaws → CollectingLaws → (config : Config) → IsConfiguration config → (told : Command) (point : ℕ) (reply : Result Answer Refusal) (event : Option Event)
-    → IsPlacedAlone config told point (outcome.Replied reply event) → (least : ℕ) → least ≤ point → IsRight config told least (tally_of (outcome.Replied reply event)).events (stamped point reply)
-replied_right laws collecting config is_config told point reply event placed least le =
-    returned laws config told None None placed.order point least placed.point_is le (λ h. (laws.empty config).in_book) (λ h. none_read collecting config is_config) (laws.empty config).in_account
-    (outcome.Replied reply event) (stamped point reply) placed.decides reply refl refl
-
 -- ---- what is left once a close or a statement has its place
 
-module _ (laws : HouseLaws) (collecting : CollectingLaws) (config : Config) (is_config : IsConfiguration config) (placed : Placed) where
-  as_counted : (told : Command) (outcome : Outcome) (right reply : Reply) → placed.outcome ≡ outcome → reply ≡ right → (least : ℕ)
-      → IsRight config told least (tally_of outcome).events right → IsRight config told least placed.added.events reply
-  as_counted told outcome right reply is r least h =
-      subst (λ (x : Reply). IsRight config told least placed.added.events x) (sym r)
-      (subst (λ (n : ℕ). IsRight config told least n right) (sym (ap (λ (t : Tally). t.events) placed.tallied ∙ ap (λ (o : Outcome). (tally_of o).events) is)) h)
+module _ (laws : HouseLaws) (collecting : CollectingLaws) (config : Config) (is_config : IsConfiguration config) (told : Command) (decided : Decided) (placed : IsPlaced config None None told decided)
+    (result : Reply) (least : ℕ) (le : least ≤ decided.point) where
+  as_decided : (outcome : Outcome) → decided.outcome ≡ outcome → Decides config None None (with_room placed.order) told outcome
+  as_decided outcome is = subst (Decides config None None (with_room placed.order) told) is placed.decides
 
-  pub ended_replied : (told : Command) (reply : Result Answer Refusal) (event : Option Event) (result : Reply) → placed.outcome ≡ outcome.Replied reply event → IsPlacedAlone config told placed.point placed.outcome
-      → result ≡ stamped placed.point reply → (least : ℕ) → least ≤ placed.point → IsRight config told least placed.added.events result
-  ended_replied told reply event result is alone r least le =
-      as_counted told (outcome.Replied reply event) (stamped placed.point reply) result is r least
-      (replied_right laws collecting config is_config told placed.point reply event (subst (IsPlacedAlone config told placed.point) is alone) least le)
+  as_counted : (outcome : Outcome) (right : Reply) → decided.outcome ≡ outcome → result ≡ right → IsRight config told least (tally_of outcome).events right
+      → IsRight config told least (tally_of decided.outcome).events result
+  as_counted outcome right is r h =
+      subst (λ (x : Reply). IsRight config told least (tally_of decided.outcome).events x) (sym r) (subst (λ (o : Outcome). IsRight config told least (tally_of o).events right) (sym is) h)
 
-  pub ended_closed : (close : Close) (period : ℕ) (positions : List NetPosition) (result : Reply) → placed.outcome ≡ outcome.Closed period → IsPlacedAlone config (command.Close close) placed.point placed.outcome
-      → IsNetted config close.period positions → result ≡ stamped placed.point (Ok (answer.Closed close.period positions)) → (least : ℕ) → least ≤ placed.point
-      → IsRight config (command.Close close) least placed.added.events result
-  ended_closed close period positions result is alone netted r least le =
-      let at = subst (IsPlacedAlone config (command.Close close) placed.point) is alone in
-      as_counted (command.Close close) (outcome.Closed period) (stamped placed.point (Ok (answer.Closed close.period positions))) result is r least
-      (closed_right laws config at.order placed.point least at.point_is le close period at.decides positions netted)
+  -- what is left to be collected is nothing
+  pub ended_replied : (reply : Result Answer Refusal) (event : Option Event) → decided.outcome ≡ outcome.Replied reply event → result ≡ stamped decided.point reply
+      → IsRight config told least (tally_of decided.outcome).events result
+  ended_replied reply event is r =
+      as_counted (outcome.Replied reply event) (stamped decided.point reply) is r
+      (returned laws config told None None placed.order decided.point least placed.point_is le (λ h. (laws.empty config).in_book) (λ h. none_read collecting config is_config) (laws.empty config).in_account
+      (outcome.Replied reply event) (stamped decided.point reply) (as_decided (outcome.Replied reply event) is) reply refl refl)
 
-  pub ended_stated : (ask found : StatementOf) (rows : List StatementRow) (result : Reply) → placed.outcome ≡ outcome.Stated found → IsPlacedAlone config (command.Statement ask) placed.point placed.outcome
-      → IsStated config ask rows → result ≡ stamped placed.point (Ok (answer.Statement rows)) → (least : ℕ) → least ≤ placed.point
-      → IsRight config (command.Statement ask) least placed.added.events result
-  ended_stated ask found rows result is alone stated r least le =
-      let at = subst (IsPlacedAlone config (command.Statement ask) placed.point) is alone in
-      as_counted (command.Statement ask) (outcome.Stated found) (stamped placed.point (Ok (answer.Statement rows))) result is r least
-      (stated_right laws config at.order placed.point least at.point_is le ask found at.decides rows stated)
+  pub ended_closed : (close : Close) (period : ℕ) (positions : List NetPosition) → told ≡ command.Close close → decided.outcome ≡ outcome.Closed period → IsNetted config close.period positions
+      → result ≡ stamped decided.point (Ok (answer.Closed close.period positions)) → IsRight config told least (tally_of decided.outcome).events result
+  ended_closed close period positions t is netted r =
+      as_counted (outcome.Closed period) (stamped decided.point (Ok (answer.Closed close.period positions))) is r
+      (subst (λ (c : Command). IsRight config c least (tally_of (outcome.Closed period)).events (stamped decided.point (Ok (answer.Closed close.period positions)))) (sym t)
+      (closed_right laws config placed.order decided.point least placed.point_is le close period
+      (subst (λ (c : Command). Decides config None None (with_room placed.order) c (outcome.Closed period)) t (as_decided (outcome.Closed period) is)) positions netted))
+
+  pub ended_stated : (ask found : StatementOf) (rows : List StatementRow) → told ≡ command.Statement ask → decided.outcome ≡ outcome.Stated found → IsStated config ask rows
+      → result ≡ stamped decided.point (Ok (answer.Statement rows)) → IsRight config told least (tally_of decided.outcome).events result
+  ended_stated ask found rows t is stated r =
+      as_counted (outcome.Stated found) (stamped decided.point (Ok (answer.Statement rows))) is r
+      (subst (λ (c : Command). IsRight config c least (tally_of (outcome.Stated found)).events (stamped decided.point (Ok (answer.Statement rows)))) (sym t)
+      (stated_right laws config placed.order decided.point least placed.point_is le ask found
+      (subst (λ (c : Command). Decides config None None (with_room placed.order) c (outcome.Stated found)) t (as_decided (outcome.Stated found) is)) rows stated))

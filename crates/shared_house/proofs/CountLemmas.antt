@@ -1,5 +1,5 @@
 -- What one event more adds to the counts of the order, of a book and of an account.
-use Rattle.std.proofs.Common.{◌≡◌, ℕ, ◌+◌, List, [], ◌∷◌, ◌++◌, Bool, cond, refl, sym, ap, ◌∙◌, arith, length, count_by, unsigned_abs, Option, None, Some, option_map, length-append}
+use Rattle.std.proofs.Common.{◌≡◌, ℕ, ◌+◌, List, [], ◌∷◌, ◌++◌, Bool, cond, refl, ap, ◌∙◌, arith, length, count_by, unsigned_abs, Option, None, Some, option_map, length-append}
 use Rattle.std.proofs.lemmas.List.Sums.{sum_by-append, sum_by_push}
 use Rattle.ocpi_types.specs.declared.config.Config.{Config}
 use Rattle.operator_book.specs.State.{PlainBook}
@@ -90,12 +90,12 @@ pub record IsCounted (order now : PlainOrder) (added : Tally) : Type 0 where
   pub accounts : count_by names_account now.entries ≡ count_by names_account order.entries + added.accounts
   pub events : length now.entries ≡ length order.entries + added.events
 
-pub ordered : (config : Config) (book : Option PlainBook) (account : Option PlainAccount) (order now : PlainOrder) (outcome : Outcome) (added : Tally)
-    → added ≡ tally_of outcome → now ≡ order_with config book account (with_room order) outcome → IsCounted order now added
-ordered config book account order now outcome added t h = record {
-  books = ap (λ (o : PlainOrder). count_by names_book o.entries) h ∙ books_with config book account (with_room order) outcome ∙ ap (λ (x : Tally). count_by names_book order.entries + x.books) (sym t);
-  accounts = ap (λ (o : PlainOrder). count_by names_account o.entries) h ∙ accounts_with config book account (with_room order) outcome ∙ ap (λ (x : Tally). count_by names_account order.entries + x.accounts) (sym t);
-  events = ap (λ (o : PlainOrder). length o.entries) h ∙ events_with config book account (with_room order) outcome ∙ ap (λ (x : Tally). length order.entries + x.events) (sym t);
+pub ordered : (config : Config) (book : Option PlainBook) (account : Option PlainAccount) (order now : PlainOrder) (outcome : Outcome)
+    → now ≡ order_with config book account (with_room order) outcome → IsCounted order now (tally_of outcome)
+ordered config book account order now outcome h = record {
+  books = ap (λ (o : PlainOrder). count_by names_book o.entries) h ∙ books_with config book account (with_room order) outcome;
+  accounts = ap (λ (o : PlainOrder). count_by names_account o.entries) h ∙ accounts_with config book account (with_room order) outcome;
+  events = ap (λ (o : PlainOrder). length o.entries) h ∙ events_with config book account (with_room order) outcome;
 }
 
 -- ---- books and accounts

@@ -1,5 +1,5 @@
 -- What a decision is by the verdict, and what it adds to a book or an account that it does not look into: nothing.
-use Rattle.std.proofs.Common.{arith, length, count_by, ◌+◌, ◌≤◌, Result, Ok, Err, IfOk, OnErr, ◌≡◌, ◌||◌, ℕ, List, [], Bool, true, false, refl, sym, ap, ◌∙◌, Option, None, Some, is_some}
+use Rattle.std.proofs.Common.{◌≡◌, ◌||◌, List, [], Bool, true, false, refl, sym, ap, ◌∙◌, Option, None, Some, is_some}
 use Rattle.ocpi_types.specs.declared.config.Config.{Config}
 use Rattle.ocpi_types.specs.declared.party.Party.{Party}
 use Rattle.cdr_checks.specs.declared.request.Command.{Command}
@@ -15,15 +15,12 @@ use Rattle.plain_house.specs.Own.{IsOfCommand}
 use Rattle.plain_house.specs.Verdict.{Verdict}
 use Rattle.period_order.specs.declared.decided.Outcome.{Outcome}
 use Rattle.period_order.specs.declared.decided.Outcome.TheVariants as outcome
-use Rattle.period_order.specs.Decided.{AreOfAccount, AreOfBook, Collects, Decides, event_of, is_close_command, is_statement_command, order_with, seen, verdict_with}
-use Rattle.period_order.specs.Order.{PlainOrder, names_account, names_book}
-use Rattle.shared_house.specs.declared.locked.placed.Placed.{Placed}
-use Rattle.shared_house.specs.declared.ledgers.tally.Tally.{Tally}
+use Rattle.period_order.specs.Decided.{AreOfAccount, AreOfBook, Collects, Decides, event_of, is_close_command, is_statement_command, seen, verdict_with}
+use Rattle.period_order.specs.Order.{PlainOrder}
 use Rattle.shared_house.specs.Calls.{is_collecting}
 use Rattle.shared_house.specs.Inner.HouseLaws.{HouseLaws}
-use Rattle.shared_house.specs.Inner.Outcomes.{reply_in, with_room}
+use Rattle.shared_house.specs.Inner.Outcomes.{reply_in}
 use Rattle.shared_house.specs.Inner.Tallies.{tally_of, tally_of_event}
-use Rattle.shared_house.proofs.CountLemmas.{ordered}
 
 -- ---- entries
 
@@ -107,27 +104,6 @@ module _ (laws : HouseLaws) (config : Config) (book : Option PlainBook) (account
       by : (e : Option Event) → (verdict config (seen (entries_of book) (others_of account) order) told).event ≡ e → ((tally_of_event e).accounts ≡ 0) × ((tally_of_event e).amount ≡ 0)
       by None g = (refl, refl)
       by (Some e) g = no_account told e (laws.their config (seen (entries_of book) (others_of account) order) told e g) h
-
--- ---- an order that no book and no account is given to
-
-pub alone_kept : {E : Type 0} → HouseLaws → (config : Config) (order now : PlainOrder) (told : Command) (total total' mine mine' : ℕ) (r : Result Placed E)
-    → IfOk r (λ placed. Decides config None None (with_room order) told placed.outcome)
-    → IfOk r (λ placed. now ≡ order_with config None None (with_room order) placed.outcome)
-    → IfOk r (λ placed. total' ≡ total + placed.added.events)
-    → OnErr r ((now.entries ≡ order.entries) × (total' ≡ total) × (mine' ≡ mine))
-    → is_some (operator_of_command told) ≡ false → is_some (provider_of_command told) ≡ false → total ≡ length order.entries
-    → (count_by names_book now.entries ≡ count_by names_book order.entries) × (count_by names_account now.entries ≡ count_by names_account order.entries)
-    × (total' ≡ length now.entries) × (length order.entries ≤ length now.entries)
-alone_kept laws config order now told total total' mine mine' (Ok placed) decides ordered_is more same operator provider counted =
-    let x = ordered config None None order now placed.outcome placed.added placed.tallied ordered_is in
-    let no_book = adds_no_book laws config None None (with_room order) told placed.outcome decides operator in
-    let no_account = adds_no_account laws config None None (with_room order) told placed.outcome decides provider in
-    let books = ap (λ (t : Tally). t.books) placed.tallied in
-    let accounts = ap (λ (t : Tally). t.accounts) placed.tallied in
-    (omega (arith, x.books, no_book.0, books), omega (arith, x.accounts, no_account.0, accounts), omega (arith, x.events, more, counted), omega (arith, x.events))
-alone_kept laws config order now told total total' mine mine' (Err e) decides ordered_is more same operator provider counted =
-    let long = ap length same.0 in
-    (ap (count_by names_book) same.0, ap (count_by names_account) same.0, omega (arith, same.1, counted, long), omega (arith, long))
 
 -- ---- commands that collect nothing
 

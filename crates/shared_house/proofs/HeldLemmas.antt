@@ -16,18 +16,18 @@ use Rattle.plain_house.specs.Laws.{adds_event, tells_event}
 use Rattle.plain_house.specs.LegalEntries.{IsLegalAccount, IsLegalBook}
 use Rattle.plain_house.specs.Replies.{Reply, is_no_memory, stamped}
 use Rattle.plain_house.specs.Verdict.{Verdict}
+use Rattle.period_order.specs.declared.decided.Decided.{Decided}
 use Rattle.period_order.specs.declared.decided.Outcome.{Outcome}
 use Rattle.period_order.specs.declared.decided.Outcome.TheVariants as outcome
 use Rattle.period_order.specs.Decided.{Decides, event_of, seen}
 use Rattle.period_order.specs.Order.{PlainOrder, current_of, point_of}
 use Rattle.shared_house.specs.Calls.{AreRead, IsAtLeast, event_count, is_collecting}
 use Rattle.shared_house.specs.Counts.{total_of_account, total_of_book}
-use Rattle.shared_house.specs.Locked.{IsCountedAccount, IsCountedBook}
-use Rattle.shared_house.specs.declared.ledgers.tally.Tally.{Tally}
+use Rattle.shared_house.specs.Locked.{IsCountedAccount, IsCountedBook, PlainShares, raised}
 use Rattle.shared_house.specs.Inner.HouseLaws.{HouseLaws}
 use Rattle.shared_house.specs.Inner.Outcomes.{account_with, book_with, reply_in, with_room}
 use Rattle.shared_house.specs.Inner.Tallies.{tally_of, tally_of_event}
-use Rattle.shared_house.specs.Inner.Told.{IsRight}
+use Rattle.shared_house.specs.Inner.Told.{IsPlaced, IsRight}
 use Rattle.shared_house.proofs.CountLemmas.{account_with_counted, account_with_summed, book_with_counted, book_with_summed, events_entry}
 use Rattle.shared_house.proofs.DecidedLemmas.{entries_of, event_is, is_replied, others_of, verdict_is}
 
@@ -44,41 +44,41 @@ module _ (laws : HouseLaws) (config : Config) (told : Command) (admitted : IsAdm
 
 -- ---- what is held
 
-module _ (laws : HouseLaws) (config : Config) (told : Command) (admitted : IsAdmitted config told) (outcome : Outcome) (added : Tally) (t : added ≡ tally_of outcome) (order : PlainOrder) (period : ℕ)
-    (p : period ≡ current_of order) where
-  pub book_kept : (book : PlainBook) (account : Option PlainAccount) → Decides config (Some book) account (with_room order) told outcome
-      → (old new : List BookEntry) (count total count' total' : ℕ) → book.entries ≡ old → new ≡ book_with book.entries period (event_of outcome)
-      → IsCountedBook config old count total → count' ≡ count + added.books → total' ≡ total + added.amount → IsCountedBook config new count' total'
-  book_kept book account decides old new count total count' total' same is keeps c m =
-      let known = seen book.entries (others_of account) (with_room order) in
-      let grown : new ≡ book_with old (current_of order) (event_of outcome) = is ∙ ap (λ n. book_with book.entries n (event_of outcome)) p ∙ ap (λ l. book_with l (current_of order) (event_of outcome)) same in
-      let legal = book_after laws config told admitted known (event_of outcome) (event_is laws config (with_room order) told outcome (Some book) account decides) (subst (IsLegalBook config) (sym same) keeps.legal) in
-      let entries = ap (λ (x : Tally). x.books) t in
-      let amount = ap (λ (x : Tally). x.amount) t in
-      let long = ap length grown ∙ book_with_counted old (current_of order) (event_of outcome) in
-      let sum = ap total_of_book grown ∙ book_with_summed old (current_of order) (event_of outcome) in
+module _ (laws : HouseLaws) (config : Config) (told : Command) (admitted : IsAdmitted config told) (decided : Decided) where
+  pub book_kept : (book : PlainBook) (account : Option PlainAccount) → IsPlaced config (Some book) account told decided → (old new : List BookEntry) (shares more : PlainShares)
+      → book.entries ≡ old → new ≡ book_with book.entries decided.period (event_of decided.outcome) → IsCountedBook config old shares
+      → Some more ≡ raised (Some shares) (tally_of decided.outcome).books (tally_of decided.outcome).amount → IsCountedBook config new more
+  book_kept book account placed old new shares more same is keeps h =
+      let event = event_of decided.outcome in
+      let period = current_of placed.order in
+      let known = seen book.entries (others_of account) (with_room placed.order) in
+      let counts : more ≡ record { entries = shares.entries + (tally_of decided.outcome).books; amounts = shares.amounts + (tally_of decided.outcome).amount } = cc in
+      let grown : new ≡ book_with old period event = is ∙ ap (λ n. book_with book.entries n event) placed.period_is ∙ ap (λ l. book_with l period event) same in
+      let legal = book_after laws config told admitted known event (event_is laws config (with_room placed.order) told decided.outcome (Some book) account placed.decides) (subst (IsLegalBook config) (sym same) keeps.legal) in
+      let long = ap length grown ∙ book_with_counted old period event in
+      let sum = ap total_of_book grown ∙ book_with_summed old period event in
       record {
-        legal = subst (IsLegalBook config) (ap (λ l. book_with l (current_of order) (event_of outcome)) same ∙ sym grown) legal;
-        counted = omega (arith, keeps.counted, c, entries, long);
-        summed = omega (arith, keeps.summed, m, amount, sum);
+        legal = subst (IsLegalBook config) (ap (λ l. book_with l period event) same ∙ sym grown) legal;
+        counted = omega (arith, keeps.counted, ap (λ (x : PlainShares). x.entries) counts, long);
+        summed = omega (arith, keeps.summed, ap (λ (x : PlainShares). x.amounts) counts, sum);
       }
 
-  pub account_kept : (book : Option PlainBook) (account : PlainAccount) → Decides config book (Some account) (with_room order) told outcome
-      → (old new : List AccountEntry) (count total count' total' : ℕ) → account.entries ≡ old → new ≡ account_with account.entries period (event_of outcome)
-      → IsCountedAccount config old count total → count' ≡ count + added.accounts → total' ≡ total + added.amount → IsCountedAccount config new count' total'
-  account_kept book account decides old new count total count' total' same is keeps c m =
-      let known = seen (entries_of book) account.entries (with_room order) in
-      let grown : new ≡ account_with old (current_of order) (event_of outcome) =
-      is ∙ ap (λ n. account_with account.entries n (event_of outcome)) p ∙ ap (λ l. account_with l (current_of order) (event_of outcome)) same in
-      let legal = account_after laws config told admitted known (event_of outcome) (event_is laws config (with_room order) told outcome book (Some account) decides) (subst (IsLegalAccount config) (sym same) keeps.legal) in
-      let entries = ap (λ (x : Tally). x.accounts) t in
-      let amount = ap (λ (x : Tally). x.amount) t in
-      let long = ap length grown ∙ account_with_counted old (current_of order) (event_of outcome) in
-      let sum = ap total_of_account grown ∙ account_with_summed old (current_of order) (event_of outcome) in
+  pub account_kept : (book : Option PlainBook) (account : PlainAccount) → IsPlaced config book (Some account) told decided → (old new : List AccountEntry) (shares more : PlainShares)
+      → account.entries ≡ old → new ≡ account_with account.entries decided.period (event_of decided.outcome) → IsCountedAccount config old shares
+      → Some more ≡ raised (Some shares) (tally_of decided.outcome).accounts (tally_of decided.outcome).amount → IsCountedAccount config new more
+  account_kept book account placed old new shares more same is keeps h =
+      let event = event_of decided.outcome in
+      let period = current_of placed.order in
+      let known = seen (entries_of book) account.entries (with_room placed.order) in
+      let counts : more ≡ record { entries = shares.entries + (tally_of decided.outcome).accounts; amounts = shares.amounts + (tally_of decided.outcome).amount } = cc in
+      let grown : new ≡ account_with old period event = is ∙ ap (λ n. account_with account.entries n event) placed.period_is ∙ ap (λ l. account_with l period event) same in
+      let legal = account_after laws config told admitted known event (event_is laws config (with_room placed.order) told decided.outcome book (Some account) placed.decides) (subst (IsLegalAccount config) (sym same) keeps.legal) in
+      let long = ap length grown ∙ account_with_counted old period event in
+      let sum = ap total_of_account grown ∙ account_with_summed old period event in
       record {
-        legal = subst (IsLegalAccount config) (ap (λ l. account_with l (current_of order) (event_of outcome)) same ∙ sym grown) legal;
-        counted = omega (arith, keeps.counted, c, entries, long);
-        summed = omega (arith, keeps.summed, m, amount, sum);
+        legal = subst (IsLegalAccount config) (ap (λ l. account_with l period event) same ∙ sym grown) legal;
+        counted = omega (arith, keeps.counted, ap (λ (x : PlainShares). x.entries) counts, long);
+        summed = omega (arith, keeps.summed, ap (λ (x : PlainShares). x.amounts) counts, sum);
       }
 
 -- ---- what is returned
@@ -134,14 +134,15 @@ module _ (laws : HouseLaws) (config : Config) (told : Command) (book : Option Pl
       }
 
 -- a command that collects nothing
-pub replied : HouseLaws → (config : Config) (told : Command) (book : Option PlainBook) (account : Option PlainAccount) (order : PlainOrder) (point least : ℕ) → point ≡ point_of order → least ≤ point
-    → IsLegalBook config (entries_of book) → IsLegalAccount config (others_of account) → is_collecting told ≡ false → (outcome : Outcome) (result : Reply)
-    → Decides config book account (with_room order) told outcome → ((reply : Result Answer Refusal) → reply_in outcome ≡ Some reply → result ≡ stamped point reply)
-    → IsRight config told least (tally_of outcome).events result
-replied laws config told book account order point least p le legal others alone outcome result decides is =
-    by (reply_in outcome) refl (is_replied told outcome decides.collects alone)
+pub replied : HouseLaws → (config : Config) (told : Command) (book : Option PlainBook) (account : Option PlainAccount) (decided : Decided) (least : ℕ) → IsPlaced config book account told decided
+    → least ≤ decided.point → IsLegalBook config (entries_of book) → IsLegalAccount config (others_of account) → is_collecting told ≡ false → (result : Reply)
+    → ((reply : Result Answer Refusal) → reply_in decided.outcome ≡ Some reply → result ≡ stamped decided.point reply)
+    → IsRight config told least (tally_of decided.outcome).events result
+replied laws config told book account decided least placed le legal others alone result is =
+    by (reply_in decided.outcome) refl (is_replied told decided.outcome placed.decides.collects alone)
   where
-    by : (o : Option (Result Answer Refusal)) → reply_in outcome ≡ o → is_some o ≡ true → IsRight config told least (tally_of outcome).events result
+    by : (o : Option (Result Answer Refusal)) → reply_in decided.outcome ≡ o → is_some o ≡ true → IsRight config told least (tally_of decided.outcome).events result
     by None e h = absurd (cc)
     by (Some reply) e h =
-        returned laws config told book account order point least p le (λ h. legal) (λ h. absurd (let x : true ≡ false = sym h ∙ alone in cc)) others outcome result decides reply e (is reply e)
+        returned laws config told book account placed.order decided.point least placed.point_is le (λ h. legal) (λ h. absurd (let x : true ≡ false = sym h ∙ alone in cc)) others
+        decided.outcome result placed.decides reply e (is reply e)

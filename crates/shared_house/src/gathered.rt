@@ -9,7 +9,7 @@ ghost use Rattle.shared_house.specs.Counts.{total_of_account, total_of_book};
 
 use crate::call::Call;
 use crate::house::{House, Locks};
-use crate::ledgers::{AccountShares, BookShares, Configured, Names, Part, Rest};
+use crate::ledgers::{Configured, Names, Part, Rest, Shares};
 use crate::locked::{LockedAccount, LockedBook, LockedOrder};
 use crate::pass::Pass;
 use operator_book::Book;
@@ -50,7 +50,7 @@ fn unlock_books<N: Names>(
     let mut books = Vec::new(alloc);
     for lock in locks {
         let LockedBook { book, shares } = lock.into_inner();
-        let BookShares {
+        let Shares {
             entries: some_entries,
             amounts: some_amounts,
         } = shares;
@@ -79,7 +79,7 @@ fn unlock_accounts<N: Names>(
     let mut accounts = Vec::new(alloc);
     for lock in locks {
         let LockedAccount { account, shares } = lock.into_inner();
-        let AccountShares {
+        let Shares {
             entries: some_entries,
             amounts: some_amounts,
         } = shares;

@@ -4,6 +4,7 @@ mod blanks;
 mod calls;
 mod closing;
 mod collecting;
+mod held;
 mod keeping;
 mod locks;
 mod making;

@@ -5,5 +5,5 @@ mod shares;
 mod tally;
 
 pub use names::{Configured, Names, Part};
-pub use shares::{AccountShares, BookShares, Rest};
+pub use shares::{Counts, NoShares, Rest, Shares};
 pub use tally::{Tally, tally_of};

@@ -8,7 +8,6 @@ mod ended;
 mod finishing;
 mod gate;
 mod gathered;
-mod held;
 mod house;
 mod laws;
 mod ledgers;

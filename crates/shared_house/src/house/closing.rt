@@ -1,21 +1,21 @@
 //! A close: the period ends in the order, and its net positions are collected behind that.
 
-ghost use Rattle.std.specs.Prelude.{◌≡◌, ◌+◌, ◌≤◌, ℕ, []};
+ghost use Rattle.std.specs.Prelude.{◌≡◌, ◌+◌, ◌≤◌, ℕ, [], None};
 ghost use Rattle.cdr_checks.specs.declared.request.Command.TheVariants.{Close as CloseCommand};
 ghost use Rattle.netting_positions.specs.Netting.{parties};
 ghost use Rattle.shared_house.specs.Calls.{Returns, event_count};
-ghost use Rattle.shared_house.specs.Inner.Told.{IsPlacedAlone, IsRight};
+ghost use Rattle.shared_house.specs.Inner.Tallies.{tally_of};
+ghost use Rattle.shared_house.specs.Inner.Told.{IsPlaced, IsRight};
 
 use super::collecting::is_configuration;
 use super::locks::House;
 use crate::gate::Gate;
 use crate::laws::{collecting_laws, house_laws};
-use crate::ledgers::{Configured, Names, Part};
-use crate::locked::Placed;
+use crate::ledgers::{Configured, Names, NoShares, Part};
 use crate::waiting::take_lock;
 use cdr_checks::{Close, Command};
 use netting_positions::Positions;
-use period_order::Outcome;
+use period_order::{Decided, Outcome};
 use plain_house::{Answer, Refused, Replied, out_of_memory, stamped};
 use std::sync::Wait;
 use std::sync::ledger::Share;
@@ -29,21 +29,20 @@ impl<N: Names> House<N> {
         gate: &G,
         close: &Close,
         positions: Positions,
-        placed: Placed,
+        decided: Decided,
     ) -> Result<Replied, Refused>
         requires empty { positions ≡ record { parties = parties N.BookEntries.config; currencies = N.BookEntries.config.currencies; obligations = [] } }
-        requires decides { IsPlacedAlone N.BookEntries.config (CloseCommand close.now) placed.point placed.outcome }
-        ensures { (least : ℕ) → least ≤ placed.point → IsRight N.BookEntries.config (CloseCommand close.now) least placed.added.events result }
+        requires decides { IsPlaced N.BookEntries.config None None (CloseCommand close.now) decided }
+        ensures { (least : ℕ) → least ≤ decided.point → IsRight N.BookEntries.config (CloseCommand close.now) least (tally_of decided.outcome).events result }
     {
         house_laws();
         collecting_laws();
         is_configuration(&self.config);
-        let Placed {
+        let Decided {
             point,
             period: _,
             outcome,
-            added: _,
-        } = placed;
+        } = decided;
         match outcome {
             Outcome::Replied { reply, .. } => stamped(point, reply),
             Outcome::Closed { .. } => {
@@ -73,14 +72,18 @@ impl<N: Names> House<N> {
         let Ok(positions) = Positions::new(alloc, &self.config) else {
             return Err(out_of_memory());
         };
-        let placed = take_lock(rt, &self.locks.order).decide_alone(
+        let in_order = take_lock(rt, &self.locks.order).decide(
             &self.config,
             Command::Close(*close),
+            None,
+            &mut NoShares,
+            None,
+            &mut NoShares,
             mine,
         );
-        let Ok(placed) = placed else {
+        let Ok(decided) = in_order else {
             return Err(out_of_memory());
         };
-        self.end_close(rt, pass, gate, close, positions, placed)
+        self.end_close(rt, pass, gate, close, positions, decided)
     }
 }

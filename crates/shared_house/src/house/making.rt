@@ -7,7 +7,7 @@ ghost use Rattle.shared_house.specs.Names.{IsLedgerOf};
 use super::blanks::Blanks;
 use super::locks::{House, Locks};
 use crate::laws::house_laws;
-use crate::ledgers::{AccountShares, BookShares, Configured, Names, Part, Rest};
+use crate::ledgers::{Configured, Names, Part, Rest, Shares};
 use crate::locked::{LockedAccount, LockedBook, LockedOrder};
 use crate::pass::Pass;
 use ocpi_types::Config;
@@ -36,7 +36,7 @@ fn lock_books<N: Names>(
     house_laws();
     let alloc = *books.allocator();
     for _number in 0..count {
-        let shares: BookShares<N> = BookShares {
+        let shares = Shares {
             entries: entries.split_off(1, 0),
             amounts: amounts.split_off(1, 0),
         };
@@ -64,7 +64,7 @@ fn lock_accounts<N: Names>(
     house_laws();
     let alloc = *accounts.allocator();
     for _number in 0..count {
-        let shares: AccountShares<N> = AccountShares {
+        let shares = Shares {
             entries: entries.split_off(1, 0),
             amounts: amounts.split_off(1, 0),
         };

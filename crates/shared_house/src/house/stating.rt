@@ -1,21 +1,21 @@
 //! A statement: it has its place in the order, and its rows are collected behind that.
 
-ghost use Rattle.std.specs.Prelude.{◌≡◌, ◌+◌, ◌≤◌, ℕ, []};
+ghost use Rattle.std.specs.Prelude.{◌≡◌, ◌+◌, ◌≤◌, ℕ, [], None};
 ghost use Rattle.cdr_checks.specs.declared.request.Command.TheVariants.{Statement as StatementCommand};
 ghost use Rattle.netting_positions.specs.Netting.{parties};
 ghost use Rattle.shared_house.specs.Calls.{Returns, event_count};
-ghost use Rattle.shared_house.specs.Inner.Told.{IsPlacedAlone, IsRight};
+ghost use Rattle.shared_house.specs.Inner.Tallies.{tally_of};
+ghost use Rattle.shared_house.specs.Inner.Told.{IsPlaced, IsRight};
 
 use super::collecting::is_configuration;
 use super::locks::House;
 use crate::gate::Gate;
 use crate::laws::{collecting_laws, house_laws};
-use crate::ledgers::{Configured, Names, Part};
-use crate::locked::Placed;
+use crate::ledgers::{Configured, Names, NoShares, Part};
 use crate::waiting::take_lock;
 use cdr_checks::{Command, StatementOf};
 use netting_positions::StatementTable;
-use period_order::Outcome;
+use period_order::{Decided, Outcome};
 use plain_house::{Answer, Refused, Replied, out_of_memory, stamped};
 use std::sync::Wait;
 use std::sync::ledger::Share;
@@ -29,21 +29,20 @@ impl<N: Names> House<N> {
         gate: &G,
         ask: &StatementOf,
         table: StatementTable,
-        placed: Placed,
+        decided: Decided,
     ) -> Result<Replied, Refused>
         requires empty { table ≡ record { party = ask.now.party; parties = parties N.BookEntries.config; currencies = N.BookEntries.config.currencies; obligations = [] } }
-        requires decides { IsPlacedAlone N.BookEntries.config (StatementCommand ask.now) placed.point placed.outcome }
-        ensures { (least : ℕ) → least ≤ placed.point → IsRight N.BookEntries.config (StatementCommand ask.now) least placed.added.events result }
+        requires decides { IsPlaced N.BookEntries.config None None (StatementCommand ask.now) decided }
+        ensures { (least : ℕ) → least ≤ decided.point → IsRight N.BookEntries.config (StatementCommand ask.now) least (tally_of decided.outcome).events result }
     {
         house_laws();
         collecting_laws();
         is_configuration(&self.config);
-        let Placed {
+        let Decided {
             point,
             period: _,
             outcome,
-            added: _,
-        } = placed;
+        } = decided;
         match outcome {
             Outcome::Replied { reply, .. } => stamped(point, reply),
             Outcome::Stated { .. } => {
@@ -72,14 +71,18 @@ impl<N: Names> House<N> {
         let Ok(table) = StatementTable::new(alloc, &self.config, ask.party) else {
             return Err(out_of_memory());
         };
-        let placed = take_lock(rt, &self.locks.order).decide_alone(
+        let in_order = take_lock(rt, &self.locks.order).decide(
             &self.config,
             Command::Statement(*ask),
+            None,
+            &mut NoShares,
+            None,
+            &mut NoShares,
             mine,
         );
-        let Ok(placed) = placed else {
+        let Ok(decided) = in_order else {
             return Err(out_of_memory());
         };
-        self.end_statement(rt, pass, gate, ask, table, placed)
+        self.end_statement(rt, pass, gate, ask, table, decided)
     }
 }

@@ -3,24 +3,69 @@
 ghost use Rattle.std.specs.Prelude.{◌≡◌};
 
 use super::names::Names;
-use std::sync::ledger::Share;
+use std::marker::Model;
+use std::sync::ledger::{Book, Ledger, Share};
 
-/// One part of each ledger over the books.
+/// One part of a ledger of entries and of the ledger of their amounts.
 #[derive(Drop)]
-pub struct BookShares<N: Names> {
-    pub entries: Share<N::BookEntries>,
-    pub amounts: Share<N::BookAmounts>,
-    ghost entries_part: { entries.parts ≡ 1 },
-    ghost amounts_part: { amounts.parts ≡ 1 },
+pub struct Shares<E: Ledger, A: Ledger> {
+    pub entries: Share<E>,
+    pub amounts: Share<A>,
 }
 
-/// One part of each ledger over the accounts.
+impl<E: Ledger, A: Ledger> Model for Shares<E, A> {
+    ghost use Rattle.std.specs.Prelude.{◌≡◌};
+    ghost use Rattle.shared_house.specs.Locked.{PlainShares};
+
+    ghost Value = { PlainShares };
+
+    ghost view = { λ shares. record { entries = shares.entries.amount; amounts = shares.amounts.amount } };
+
+    ghost invariant = { λ shares. (shares.entries.parts ≡ 1) × (shares.amounts.parts ≡ 1) };
+}
+
+/// Counts the entries that a command adds: in the shares of the book or account that it looks into, or in none.
+pub trait Counts<E: Ledger, A: Ledger> {
+    ghost use Rattle.std.specs.Prelude.{◌≡◌, ◌+◌, Option, None};
+    ghost use Rattle.shared_house.specs.Locked.{PlainShares, raised};
+
+    ghost counted: { Self → Option PlainShares };
+
+    /// Adds `count` entries, and `amount` ten-thousandths, to the ledgers and to the shares.
+    fn count(&mut self, entries: &mut Book<E>, amounts: &mut Book<A>, count: u64, amount: u64)
+        requires nothing { counted self.old ≡ None → (count ≡ 0) × (amount ≡ 0) }
+        ensures entries { entries.new.total ≡ entries.old.total + count }
+        ensures amounts { amounts.new.total ≡ amounts.old.total + amount }
+        ensures counted { counted self.new ≡ raised (counted self.old) count amount };
+}
+
+impl<E: Ledger, A: Ledger> Counts<E, A> for Shares<E, A> {
+    ghost use Rattle.std.specs.Prelude.{Some};
+
+    ghost counted = { λ shares. Some shares };
+
+    fn count(&mut self, entries: &mut Book<E>, amounts: &mut Book<A>, count: u64, amount: u64) {
+        entries.add(&mut self.entries, count);
+        amounts.add(&mut self.amounts, amount);
+    }
+}
+
+/// The shares of a command that looks into no book, or into no account.
 #[derive(Drop)]
-pub struct AccountShares<N: Names> {
-    pub entries: Share<N::AccountEntries>,
-    pub amounts: Share<N::AccountAmounts>,
-    ghost entries_part: { entries.parts ≡ 1 },
-    ghost amounts_part: { amounts.parts ≡ 1 },
+pub struct NoShares;
+
+impl<E: Ledger, A: Ledger> Counts<E, A> for NoShares {
+    ghost use Rattle.std.specs.Prelude.{None};
+
+    ghost counted = { λ _. None };
+
+    fn count(
+        &mut self,
+        _entries: &mut Book<E>,
+        _amounts: &mut Book<A>,
+        _count: u64,
+        _amount: u64,
+    ) {}
 }
 
 /// Shares without a part, into which all others are merged when the house ends.

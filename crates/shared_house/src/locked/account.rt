@@ -1,4 +1,4 @@
-use crate::ledgers::{AccountShares, Names};
+use crate::ledgers::{Names, Shares};
 use plain_house::AccountEntry;
 use provider_account::Account;
 use std::marker::Model;
@@ -8,7 +8,7 @@ use std::marker::Model;
 #[derive(Drop)]
 pub struct LockedAccount<N: Names> {
     pub(crate) account: Account,
-    pub(crate) shares: AccountShares<N>,
+    pub(crate) shares: Shares<N::AccountEntries, N::AccountAmounts>,
 }
 
 impl<N: Names> Model for LockedAccount<N> {
@@ -19,7 +19,7 @@ impl<N: Names> Model for LockedAccount<N> {
 
     ghost view = { λ held. held.account };
 
-    ghost invariant = { λ held. IsCountedAccount N.BookEntries.config held.account.entries held.shares.entries.amount held.shares.amounts.amount };
+    ghost invariant = { λ held. IsCountedAccount N.BookEntries.config held.account.entries held.shares };
 }
 
 impl<N: Names> LockedAccount<N> {

@@ -1,4 +1,4 @@
-use crate::ledgers::{BookShares, Names};
+use crate::ledgers::{Names, Shares};
 use operator_book::Book;
 use plain_house::BookEntry;
 use std::marker::Model;
@@ -8,7 +8,7 @@ use std::marker::Model;
 #[derive(Drop)]
 pub struct LockedBook<N: Names> {
     pub(crate) book: Book,
-    pub(crate) shares: BookShares<N>,
+    pub(crate) shares: Shares<N::BookEntries, N::BookAmounts>,
 }
 
 impl<N: Names> Model for LockedBook<N> {
@@ -19,7 +19,7 @@ impl<N: Names> Model for LockedBook<N> {
 
     ghost view = { λ held. held.book };
 
-    ghost invariant = { λ held. IsCountedBook N.BookEntries.config held.book.entries held.shares.entries.amount held.shares.amounts.amount };
+    ghost invariant = { λ held. IsCountedBook N.BookEntries.config held.book.entries held.shares };
 }
 
 impl<N: Names> LockedBook<N> {

@@ -1,15 +1,17 @@
-//! The order under its lock, and how a command is given its place there with what it adds counted.
+//! The order under its lock, and how a command gets its place there.
 
-ghost use Rattle.std.specs.Prelude.{◌≡◌, count_by, ◌+◌, ◌*◌, ◌^◌, ◌≤◌, true, false, None, Some, is_some, length, IfOk, OnErr};
+ghost use Rattle.std.specs.Prelude.{◌≡◌, count_by, ◌+◌, ◌*◌, ◌^◌, ◌≤◌, is_some, length, IfOk, OnErr};
 ghost use Rattle.std.specs.Option.{option_copied};
 ghost use Rattle.cdr_checks.specs.Parties.{operator_of_command, provider_of_command};
-ghost use Rattle.period_order.specs.Decided.{Decides, order_with};
+ghost use Rattle.period_order.specs.Decided.{Decides};
 ghost use Rattle.period_order.specs.Order.{current_of, is_close_entry, names_account, names_book, point_of};
 ghost use Rattle.shared_house.specs.Inner.Outcomes.{with_room};
+ghost use Rattle.shared_house.specs.Inner.Tallies.{tally_of};
+ghost use Rattle.shared_house.specs.Inner.Told.{IsPlaced};
+ghost use Rattle.shared_house.specs.Locked.{raised};
 
-use super::placed::Placed;
 use crate::laws::house_laws;
-use crate::ledgers::{AccountShares, BookShares, Names, tally_of};
+use crate::ledgers::{Configured, Counts, Names, tally_of};
 use cdr_checks::Command;
 use ocpi_types::Config;
 use operator_book::Book;
@@ -17,7 +19,7 @@ use period_order::{Decided, Order, decide};
 use provider_account::Account;
 use std::alloc::AllocError;
 use std::sync::ledger;
-use std::sync::ledger::{Ledger, Share};
+use std::sync::ledger::Share;
 
 /// The order under its lock, with the totals of the five ledgers.
 ///
@@ -38,47 +40,6 @@ pub struct LockedOrder<N: Names> {
     ghost bounded: { book_amounts.total ≤ 10 ^ 12 * length order.entries },
 }
 
-// Gives a command its place, by the book and the account that it looks into, and counts its event.
-fn place<L: Ledger>(
-    config: &Config,
-    command: Command,
-    book: Option<&Book>,
-    account: Option<&Account>,
-    order: &mut Order,
-    all: &mut ledger::Book<L>,
-    mine: &mut Share<L>,
-) -> Result<Placed, AllocError>
-    requires operator { is_some book ≡ is_some (operator_of_command command) }
-    requires provider { is_some account ≡ is_some (provider_of_command command) }
-    requires counted { all.old.total ≡ length order.old.entries }
-    requires part { mine.old.parts ≡ 1 }
-    ensures point { IfOk result (λ placed. placed.point ≡ point_of order.old) }
-    ensures at { IfOk result (λ placed. mine.old.amount ≤ placed.point) }
-    ensures period { IfOk result (λ placed. placed.period ≡ current_of order.old) }
-    ensures decides { IfOk result (λ placed. Decides config.now (option_copied book.entry) (option_copied account.entry) (with_room order.old) command placed.outcome) }
-    ensures order { IfOk result (λ placed. order.new ≡ order_with config.now (option_copied book.entry) (option_copied account.entry) (with_room order.old) placed.outcome) }
-    ensures total { IfOk result (λ placed. all.new.total ≡ all.old.total + placed.added.events) }
-    ensures mine { IfOk result (λ placed. mine.new.amount ≡ mine.old.amount + placed.added.events) }
-    ensures part { mine.new.parts ≡ 1 }
-    ensures unchanged { OnErr result ((order.new.entries ≡ order.old.entries) × (all.new.total ≡ all.old.total) × (mine.new.amount ≡ mine.old.amount)) }
-{
-    order.reserve()?;
-    all.audit(mine);
-    let Decided {
-        point,
-        period,
-        outcome,
-    } = decide(config, command, book, account, order);
-    let added = tally_of(&outcome);
-    all.add(mine, added.events);
-    Ok(Placed {
-        point,
-        period,
-        outcome,
-        added,
-    })
-}
-
 impl<N: Names> LockedOrder<N> {
     /// The current period: the number of closes so far.
     pub fn current(&self) -> u64
@@ -87,32 +48,43 @@ impl<N: Names> LockedOrder<N> {
         self.order.current()
     }
 
-    /// Gives a command its place that looks into a book and an account. What it adds to them is counted before it is put.
-    pub(crate) fn decide_both(
+    /// Gives a command its place in the order, by the book and the account that it looks into, if any. Counts the entries that it
+    /// adds, before they are put.
+    ///
+    /// # Errors
+    ///
+    /// `AllocError` if there is no memory for the order. The shares are as before.
+    pub(crate) fn decide<B, A>(
         &mut self,
         config: &Config,
         command: Command,
-        book: &Book,
-        in_book: &mut BookShares<N>,
-        account: &Account,
-        in_account: &mut AccountShares<N>,
+        book: Option<&Book>,
+        in_book: &mut B,
+        account: Option<&Account>,
+        in_account: &mut A,
         mine: &mut Share<N::Events>,
-    ) -> Result<Placed, AllocError>
-        requires operator { is_some (operator_of_command command) ≡ true }
-        requires provider { is_some (provider_of_command command) ≡ true }
+    ) -> Result<Decided, AllocError>
+    where
+        B: Counts<N::BookEntries, N::BookAmounts>,
+        A: Counts<N::AccountEntries, N::AccountAmounts>,
+        requires config { config.now ≡ N.BookEntries.config }
+        requires operator { is_some book ≡ is_some (operator_of_command command) }
+        requires provider { is_some account ≡ is_some (provider_of_command command) }
+        requires in_book { is_some (B.counted in_book.old) ≡ is_some book }
+        requires in_account { is_some (A.counted in_account.old) ≡ is_some account }
         requires part { mine.old.parts ≡ 1 }
-        ensures point { IfOk result (λ placed. placed.point ≡ point_of self.old.order) }
-        ensures at { IfOk result (λ placed. mine.old.amount ≤ placed.point) }
-        ensures period { IfOk result (λ placed. placed.period ≡ current_of self.old.order) }
-        ensures decides { IfOk result (λ placed. Decides config.now (Some book.now) (Some account.now) (with_room self.old.order) command placed.outcome) }
-        ensures book { IfOk result (λ placed. (in_book.new.entries.amount ≡ in_book.old.entries.amount + placed.added.books) × (in_book.new.amounts.amount ≡ in_book.old.amounts.amount + placed.added.amount)) }
-        ensures account { IfOk result (λ placed. (in_account.new.entries.amount ≡ in_account.old.entries.amount + placed.added.accounts) × (in_account.new.amounts.amount ≡ in_account.old.amounts.amount + placed.added.amount)) }
-        ensures mine { IfOk result (λ placed. mine.new.amount ≡ mine.old.amount + placed.added.events) }
+        ensures placed { IfOk result (λ decided. IsPlaced N.BookEntries.config (option_copied book.entry) (option_copied account.entry) command decided) }
+        ensures point { IfOk result (λ decided. decided.point ≡ point_of self.old.order) }
+        ensures period { IfOk result (λ decided. decided.period ≡ current_of self.old.order) }
+        ensures decides { IfOk result (λ decided. Decides config.now (option_copied book.entry) (option_copied account.entry) (with_room self.old.order) command decided.outcome) }
+        ensures at { IfOk result (λ decided. mine.old.amount ≤ decided.point) }
+        ensures book { IfOk result (λ decided. B.counted in_book.new ≡ raised (B.counted in_book.old) (tally_of decided.outcome).books (tally_of decided.outcome).amount) }
+        ensures account { IfOk result (λ decided. A.counted in_account.new ≡ raised (A.counted in_account.old) (tally_of decided.outcome).accounts (tally_of decided.outcome).amount) }
+        ensures mine { IfOk result (λ decided. mine.new.amount ≡ mine.old.amount + (tally_of decided.outcome).events) }
         ensures part { mine.new.parts ≡ 1 }
-        ensures book_unchanged { OnErr result ((in_book.new.entries.amount ≡ in_book.old.entries.amount) × (in_book.new.amounts.amount ≡ in_book.old.amounts.amount)) }
-        ensures account_unchanged { OnErr result ((in_account.new.entries.amount ≡ in_account.old.entries.amount) × (in_account.new.amounts.amount ≡ in_account.old.amounts.amount)) }
-        ensures unchanged { OnErr result (mine.new.amount ≡ mine.old.amount) }
+        ensures unchanged { OnErr result ((B.counted in_book.new ≡ B.counted in_book.old) × (A.counted in_account.new ≡ A.counted in_account.old) × (mine.new.amount ≡ mine.old.amount)) }
     {
+        house_laws();
         let LockedOrder {
             order,
             book_entries,
@@ -121,123 +93,18 @@ impl<N: Names> LockedOrder<N> {
             account_amounts,
             events,
         } = self;
-        let placed = place(
-            config,
-            command,
-            Some(book),
-            Some(account),
-            order,
-            events,
-            mine,
-        )?;
-        book_entries.add(&mut in_book.entries, placed.added.books);
-        book_amounts.add(&mut in_book.amounts, placed.added.amount);
-        account_entries.add(&mut in_account.entries, placed.added.accounts);
-        account_amounts.add(&mut in_account.amounts, placed.added.amount);
-        Ok(placed)
-    }
-
-    /// The same of a command that looks into a book alone.
-    pub(crate) fn decide_in_book(
-        &mut self,
-        config: &Config,
-        command: Command,
-        book: &Book,
-        in_book: &mut BookShares<N>,
-        mine: &mut Share<N::Events>,
-    ) -> Result<Placed, AllocError>
-        requires operator { is_some (operator_of_command command) ≡ true }
-        requires provider { is_some (provider_of_command command) ≡ false }
-        requires part { mine.old.parts ≡ 1 }
-        ensures point { IfOk result (λ placed. placed.point ≡ point_of self.old.order) }
-        ensures at { IfOk result (λ placed. mine.old.amount ≤ placed.point) }
-        ensures period { IfOk result (λ placed. placed.period ≡ current_of self.old.order) }
-        ensures decides { IfOk result (λ placed. Decides config.now (Some book.now) None (with_room self.old.order) command placed.outcome) }
-        ensures book { IfOk result (λ placed. (in_book.new.entries.amount ≡ in_book.old.entries.amount + placed.added.books) × (in_book.new.amounts.amount ≡ in_book.old.amounts.amount + placed.added.amount)) }
-        ensures mine { IfOk result (λ placed. mine.new.amount ≡ mine.old.amount + placed.added.events) }
-        ensures part { mine.new.parts ≡ 1 }
-        ensures book_unchanged { OnErr result ((in_book.new.entries.amount ≡ in_book.old.entries.amount) × (in_book.new.amounts.amount ≡ in_book.old.amounts.amount)) }
-        ensures unchanged { OnErr result (mine.new.amount ≡ mine.old.amount) }
-    {
-        house_laws();
-        let LockedOrder {
-            order,
-            book_entries,
-            book_amounts: _,
-            account_entries: _,
-            account_amounts: _,
-            events,
-        } = self;
-        let placed = place(config, command, Some(book), None, order, events, mine)?;
-        book_entries.add(&mut in_book.entries, placed.added.books);
-        Ok(placed)
-    }
-
-    /// The same of a command that looks into an account alone.
-    pub(crate) fn decide_in_account(
-        &mut self,
-        config: &Config,
-        command: Command,
-        account: &Account,
-        in_account: &mut AccountShares<N>,
-        mine: &mut Share<N::Events>,
-    ) -> Result<Placed, AllocError>
-        requires operator { is_some (operator_of_command command) ≡ false }
-        requires provider { is_some (provider_of_command command) ≡ true }
-        requires part { mine.old.parts ≡ 1 }
-        ensures point { IfOk result (λ placed. placed.point ≡ point_of self.old.order) }
-        ensures at { IfOk result (λ placed. mine.old.amount ≤ placed.point) }
-        ensures period { IfOk result (λ placed. placed.period ≡ current_of self.old.order) }
-        ensures decides { IfOk result (λ placed. Decides config.now None (Some account.now) (with_room self.old.order) command placed.outcome) }
-        ensures account { IfOk result (λ placed. (in_account.new.entries.amount ≡ in_account.old.entries.amount + placed.added.accounts) × (in_account.new.amounts.amount ≡ in_account.old.amounts.amount + placed.added.amount)) }
-        ensures mine { IfOk result (λ placed. mine.new.amount ≡ mine.old.amount + placed.added.events) }
-        ensures part { mine.new.parts ≡ 1 }
-        ensures account_unchanged { OnErr result ((in_account.new.entries.amount ≡ in_account.old.entries.amount) × (in_account.new.amounts.amount ≡ in_account.old.amounts.amount)) }
-        ensures unchanged { OnErr result (mine.new.amount ≡ mine.old.amount) }
-    {
-        house_laws();
-        let LockedOrder {
-            order,
-            book_entries: _,
-            book_amounts: _,
+        order.reserve()?;
+        events.audit(mine);
+        let decided = decide(config, command, book, account, order);
+        let added = tally_of(&decided.outcome);
+        events.add(mine, added.events);
+        in_book.count(book_entries, book_amounts, added.books, added.amount);
+        in_account.count(
             account_entries,
-            account_amounts: _,
-            events,
-        } = self;
-        let placed = place(config, command, None, Some(account), order, events, mine)?;
-        account_entries.add(&mut in_account.entries, placed.added.accounts);
-        Ok(placed)
-    }
-
-    /// The same of a command that looks into neither, or into all books.
-    pub(crate) fn decide_alone(
-        &mut self,
-        config: &Config,
-        command: Command,
-        mine: &mut Share<N::Events>,
-    ) -> Result<Placed, AllocError>
-        requires operator { is_some (operator_of_command command) ≡ false }
-        requires provider { is_some (provider_of_command command) ≡ false }
-        requires part { mine.old.parts ≡ 1 }
-        ensures point { IfOk result (λ placed. placed.point ≡ point_of self.old.order) }
-        ensures at { IfOk result (λ placed. mine.old.amount ≤ placed.point) }
-        ensures decides { IfOk result (λ placed. Decides config.now None None (with_room self.old.order) command placed.outcome) }
-        ensures mine { IfOk result (λ placed. mine.new.amount ≡ mine.old.amount + placed.added.events) }
-        ensures part { mine.new.parts ≡ 1 }
-        ensures unchanged { OnErr result (mine.new.amount ≡ mine.old.amount) }
-    {
-        house_laws();
-        let LockedOrder {
-            order,
-            book_entries: _,
-            book_amounts: _,
-            account_entries: _,
-            account_amounts: _,
-            events,
-        } = self;
-        let Ok(placed) = place(config, command, None, None, order, events, mine) else {
-            return Err(AllocError);
-        };
-        Ok(placed)
+            account_amounts,
+            added.accounts,
+            added.amount,
+        );
+        Ok(decided)
     }
 }
