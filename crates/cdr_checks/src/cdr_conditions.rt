@@ -5,7 +5,7 @@ ghost use Rattle.cdr_checks.specs.CdrConditions.{counts_reservation, has_dates_i
 use cdr_rating::energy_of;
 use exact_money::{Amount, Millionths};
 use ocpi_types::config::Tolerance;
-use ocpi_types::{Cdr, ChargingPeriod, Dimension, DimensionKind};
+use ocpi_types::{Cdr, ChargingPeriod, Dimension, DimensionKind, KeptKind};
 use tariff_elements::supported;
 
 /// Each of its tariffs has its currency.
@@ -44,10 +44,10 @@ pub(crate) fn has_supported_tariffs(cdr: &Cdr) -> bool
         .all(|tariff| supported(tariff))
 }
 
-fn counts_reservation(kind: &DimensionKind) -> bool
+fn counts_reservation(kind: &KeptKind) -> bool
     ensures { result ≡ counts_reservation kind.now }
 {
-    match kind {
+    match kind.get() {
         DimensionKind::ReservationTime => true,
         DimensionKind::Energy
         | DimensionKind::ParkingTime

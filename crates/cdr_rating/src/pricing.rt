@@ -30,8 +30,8 @@ fn tariff_among<'a>(tariffs: &'a [Shared<Tariff>], id: &CiText<36>) -> Option<&'
 pub(crate) fn tariff_of<'a>(cdr: &'a Cdr, period: &ChargingPeriod) -> Option<&'a Tariff>
     ensures { option_copied result ≡ tariff_of cdr.now period.now }
 {
-    match &period.tariff_id {
-        Some(id) => Some(tariff_among(cdr.tariffs.as_slice(), id)?),
+    match period.tariff_id.get() {
+        Some(id) => Some(tariff_among(cdr.tariffs.as_slice(), &id)?),
         None => None,
     }
 }

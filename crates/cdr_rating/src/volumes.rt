@@ -2,13 +2,13 @@ ghost use Rattle.std.specs.Prelude.{◌≡◌, ◌*◌, ◌^◌, ◌≤◌, ℤ,
 ghost use Rattle.cdr_rating.specs.Inner.Counted.{millionths_of};
 ghost use Rattle.cdr_rating.specs.Volumes.{charges_for, charging_kind, energy_of, millionths_in, most_volume, seconds_of_hours, volume_in};
 
-use ocpi_types::{Cdr, ChargingPeriod, ComponentKind, Dimension, DimensionKind};
+use ocpi_types::{Cdr, ChargingPeriod, ComponentKind, Dimension, DimensionKind, KeptKind};
 
 // The kind of component that charges for what a dimension counts.
-fn charging_kind(counted: &DimensionKind) -> Option<ComponentKind>
+fn charging_kind(counted: &KeptKind) -> Option<ComponentKind>
     ensures { result ≡ charging_kind counted.now }
 {
-    match counted {
+    match counted.get() {
         DimensionKind::Energy => Some(ComponentKind::Energy),
         DimensionKind::ParkingTime => Some(ComponentKind::ParkingTime),
         DimensionKind::Time => Some(ComponentKind::Time),
@@ -16,7 +16,7 @@ fn charging_kind(counted: &DimensionKind) -> Option<ComponentKind>
     }
 }
 
-fn charges_for(kind: ComponentKind, counted: &DimensionKind) -> bool
+fn charges_for(kind: ComponentKind, counted: &KeptKind) -> bool
     ensures { result ≡ charges_for kind counted.now }
 {
     match charging_kind(counted) {

@@ -8,7 +8,7 @@ ghost use Rattle.input_reports.specs.Ratable.{ratable, rated_price, all_rated};
 
 use cdr_rating::{lacks_tariff, rate};
 use exact_money::Amount;
-use ocpi_types::{Cdr, ChargingPeriod, Dimension, DimensionKind, Refusal, Zone};
+use ocpi_types::{Cdr, ChargingPeriod, Dimension, DimensionKind, KeptKind, Refusal, Zone};
 use tariff_elements::supported;
 
 fn has_supported_tariffs(cdr: &Cdr) -> bool
@@ -20,10 +20,10 @@ fn has_supported_tariffs(cdr: &Cdr) -> bool
         .all(|tariff| supported(tariff))
 }
 
-fn counts_reservation(kind: &DimensionKind) -> bool
+fn counts_reservation(kind: &KeptKind) -> bool
     ensures { result ≡ counts_reservation kind.now }
 {
-    match kind {
+    match kind.get() {
         DimensionKind::ReservationTime => true,
         DimensionKind::Energy
         | DimensionKind::ParkingTime

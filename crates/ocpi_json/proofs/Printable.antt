@@ -1,5 +1,5 @@
 -- Printable texts are UTF-8, and lie in cells.
-use Rattle.std.proofs.Common.{◌≡◌, ◌+◌, ◌-◌, ◌<◌, ◌≤◌, ◌∙◌, ℕ, zero, suc, Bool, List, [], ◌∷◌, ◌++◌, true, false, cond, length, drop, replicate, refl, sym, ap, ap₂, arith, length-append}
+use Rattle.std.proofs.Common.{◌≡◌, ◌+◌, ◌-◌, ◌<◌, ◌≤◌, ◌∙◌, ℕ, zero, suc, Bool, List, [], ◌∷◌, ◌++◌, true, false, cond, length, drop, replicate, refl, sym, ap, ap₂, append_assoc, arith, length-append, take-append-drop}
 use Rattle.std.specs.Str.{IsAscii, IsUtf8}
 use Rattle.std.proofs.Math.Seq.{take-append_seam, drop-append_seam}
 use Rattle.std.proofs.lemmas.List.{drop-replicate, length-replicate, length-map, map-append}
@@ -51,6 +51,33 @@ laid most text fits h =
       printable = rw (e, take-append_seam) h;
       rest = rw (e, drop-append_seam) refl;
     }
+
+joined_zeros : (m n : ℕ) → zeros m ++ zeros n ≡ zeros (m + n)
+joined_zeros zero n = let e : zero + n ≡ n = omega arith in rw e refl
+joined_zeros (suc m) n = let e : suc m + n ≡ suc (m + n) = omega arith in rw e (ap (λ rest. 0 ∷ rest) (joined_zeros m n))
+
+zeros_behind : (text : List ℕ) (most more : ℕ) → length text ≤ most → most ≤ more
+    → padded most text ++ drop most (replicate more 0) ≡ text ++ drop (length text) (replicate more 0)
+zeros_behind text most more fits wider =
+    let first : drop most (replicate more 0) ≡ zeros (more - most) = rw drop-replicate refl in
+    let second : drop (length text) (replicate more 0) ≡ zeros (more - length text) = rw drop-replicate refl in
+    let e : (most - length text) + (more - most) ≡ more - length text = omega (arith, fits, wider) in
+    let behind : zeros (most - length text) ++ drop most (replicate more 0) ≡ drop (length text) (replicate more 0) =
+    ap (λ rest. zeros (most - length text) ++ rest) first ∙ joined_zeros (most - length text) (more - most) ∙ ap zeros e ∙ sym second in
+    append_assoc text (zeros (most - length text)) (drop most (replicate more 0)) ∙ ap (λ rest. text ++ rest) behind
+
+pub written_fits : (most : ℕ) (cells : List ℕ) → Holds most cells → length (written cells) ≤ most
+written_fits most cells h =
+    let whole = ap length (take-append-drop (written_len cells) cells) in
+    let parts = length-append (written cells) (drop (written_len cells) cells) in
+    omega (arith, whole, parts, h.full)
+
+-- cells of a text, and zeros behind them up to more bytes
+pub widened_cells : (most more : ℕ) (cells : List ℕ) → most ≤ more → Holds most cells
+    → cells ++ drop most (replicate more 0) ≡ written cells ++ drop (length (written cells)) (replicate more 0)
+widened_cells most more cells wider h =
+    let fits = written_fits most cells h in
+    ap (λ front. front ++ drop most (replicate more 0)) (sym (refilled most cells h)) ∙ zeros_behind (written cells) most more fits wider
 
 zeros_folded : (k : ℕ) → folded (zeros k) ≡ zeros k
 zeros_folded zero = refl

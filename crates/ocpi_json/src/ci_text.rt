@@ -100,6 +100,16 @@ impl<const MOST: usize> CiText<MOST> {
         unsafe { str::from_utf8_unchecked(&self.cells[..len]) }
     }
 
+    /// The same text, with room for more bytes.
+    pub fn widened<const MORE: usize>(&self) -> CiText<MORE>
+        requires { MOST ≤ MORE }
+        ensures { result ≡ self.now }
+    {
+        let mut cells = [0; MORE];
+        cells[..MOST].copy_from_slice(&self.cells);
+        CiText { cells }
+    }
+
     /// The same text in the same letters.
     pub(crate) fn is_written_like(&self, other: &CiText<MOST>) -> bool
         ensures { (result ≡ true) ↔ (self.now ≡ other.now) }

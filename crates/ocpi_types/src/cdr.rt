@@ -8,13 +8,11 @@ use super::cdr_token::{AuthMethod, CdrToken};
 use super::charging_period::ChargingPeriod;
 use super::currency::Currency;
 use super::party::Party;
-use super::shared::Shared;
-use super::tariff::Tariff;
+use super::tariffs::Tariffs;
 use super::up_to::UpTo;
 use exact_money::Millionths;
 use jiff::Timestamp;
 use ocpi_json::ci_text::CiText;
-use ocpi_json::sequence::Sequence;
 
 /// A charge detail record of an operator (OCPI 2.2.1, CDR object). One that is no Credit CDR has an id of up to 36 bytes and no
 /// volume or total energy below 0.
@@ -23,11 +21,14 @@ pub struct Cdr {
     pub id: CiText<39>,
     pub start_date_time: Timestamp,
     pub end_date_time: Timestamp,
+    pub last_updated: Timestamp,
     pub cdr_token: CdrToken,
     pub auth_method: AuthMethod,
     pub authorization_reference: Option<CiText<36>>,
     pub currency: Currency,
-    pub tariffs: Sequence<Shared<Tariff>>,
+    /// The id of the CDR that a Credit CDR credits; none where this is no Credit CDR.
+    pub credit: Option<CiText<39>>,
+    pub tariffs: Tariffs,
     pub charging_periods: UpTo<ChargingPeriod, 1000>,
     /// Without tax, in millionths of the currency unit.
     pub total_cost: Millionths,
@@ -35,9 +36,6 @@ pub struct Cdr {
     pub total_energy: Millionths,
     /// In millionths of an hour.
     pub total_time: Millionths,
-    /// The id of the CDR that a Credit CDR credits; none where this is no Credit CDR.
-    pub credit: Option<CiText<39>>,
-    pub last_updated: Timestamp,
     pub ghost id_in_range: { (is_some credit || nat_le (length id) 36) ≡ true },
     pub ghost volumes_in_range: { (is_some credit || list_all has_volumes_in_range charging_periods) ≡ true },
     pub ghost energy_in_range: { (is_some credit || int_le (pos 0) total_energy) ≡ true },

@@ -3,10 +3,10 @@ ghost use Rattle.std.specs.List.{list_all};
 ghost use Rattle.ocpi_types.specs.Dimension.{is_in_range};
 
 use super::dimension::Dimension;
-use super::up_to::{UpTo, read_up_to};
+use super::dimensions::{Dimensions, read_dimensions};
+use super::optional_id::OptionalId;
 use jiff::Timestamp;
 use ocpi_json::Node;
-use ocpi_json::ci_text::CiText;
 use ocpi_json::fields::{self, FieldFault};
 use ocpi_json::name::Name;
 use ocpi_json::objects::FromNodeIn;
@@ -16,8 +16,8 @@ use std::alloc::Global;
 #[derive(Drop)]
 pub struct ChargingPeriod {
     pub start_date_time: Timestamp,
-    pub dimensions: UpTo<Dimension, 100>,
-    pub tariff_id: Option<CiText<36>>,
+    pub dimensions: Dimensions,
+    pub tariff_id: OptionalId,
 }
 
 fn are_in_range(dimensions: &[Dimension]) -> bool
@@ -47,8 +47,8 @@ impl FromNodeIn for ChargingPeriod {
     fn from_node_in(alloc: Global, node: &Node) -> Result<ChargingPeriod, FieldFault> {
         let start_date_time = fields::instant(node, Name::StartDateTime)?;
         let items = fields::list(node, Name::Dimensions, 1, 100)?;
-        let dimensions = read_up_to(alloc, Name::Dimensions, items)?;
-        let tariff_id = fields::ci_text_or_none(node, Name::TariffId)?;
+        let dimensions = read_dimensions(alloc, items)?;
+        let tariff_id = OptionalId::new(alloc, fields::ci_text_or_none(node, Name::TariffId)?)?;
         Ok(ChargingPeriod {
             start_date_time,
             dimensions,

@@ -2,28 +2,57 @@ ghost use Rattle.std.specs.Prelude.{◌≡◌};
 ghost use Rattle.ocpi_json.specs.Faults.{Finds};
 ghost use Rattle.ocpi_types.specs.Dimension.{dimension_kind_at};
 
-use super::kind_text::KindText;
+use super::kept_kind::KeptKind;
 use exact_money::Millionths;
 use ocpi_json::Node;
 use ocpi_json::fields::{self, FieldFault};
 use ocpi_json::name::Name;
 use ocpi_json::objects::FromNodeIn;
 use std::alloc::Global;
+use std::marker::Model;
+
+/// A text that names a kind, compared byte by byte.
+#[derive(Drop)]
+pub struct KindText<'a> {
+    text: &'a str,
+}
+
+impl<'a> Model for KindText<'a> {
+    ghost use Rattle.std.specs.Prelude.{ℕ, List};
+
+    ghost Value = { List ℕ };
+
+    ghost view = { λ t. t.text.now };
+}
+
+impl<'a> KindText<'a> {
+    pub(crate) fn new(text: &'a str) -> KindText<'a>
+        ensures { result ≡ text.now }
+    {
+        KindText { text }
+    }
+
+    pub fn as_str(&self) -> &str
+        ensures { result.now ≡ self.now }
+    {
+        self.text
+    }
+}
 
 /// What a volume counts (OCPI 2.2.1, CdrDimensionType enum). Every text that is none of the four is kept.
 #[derive(Drop)]
-pub enum DimensionKind {
+pub enum DimensionKind<'a> {
     Energy,
     ParkingTime,
     ReservationTime,
     Time,
-    Other(KindText),
+    Other(KindText<'a>),
 }
 
 /// A volume of a charging period (OCPI 2.2.1, CdrDimension object). Its `type` is the field `kind`.
 #[derive(Drop)]
 pub struct Dimension {
-    pub kind: DimensionKind,
+    pub kind: KeptKind,
     /// In millionths of a kWh, of an hour, or of the unit of another kind.
     pub volume: Millionths,
 }
@@ -36,7 +65,7 @@ impl Dimension {
     pub fn is_in_range(&self) -> bool
         ensures { result ≡ is_in_range self.now }
     {
-        match self.kind {
+        match self.kind.get() {
             DimensionKind::Energy
             | DimensionKind::ParkingTime
             | DimensionKind::ReservationTime
@@ -47,16 +76,10 @@ impl Dimension {
 }
 
 #[tactic(auto, unfolding(crate::specs::Dimension::dimension_kind_at))]
-fn read_kind(alloc: Global, node: &Node) -> Result<DimensionKind, FieldFault>
+fn read_kind(alloc: Global, node: &Node) -> Result<KeptKind, FieldFault>
     ensures { Finds result (dimension_kind_at node.now) }
 {
-    match fields::word(node, Name::Type)? {
-        "ENERGY" => Ok(DimensionKind::Energy),
-        "PARKING_TIME" => Ok(DimensionKind::ParkingTime),
-        "RESERVATION_TIME" => Ok(DimensionKind::ReservationTime),
-        "TIME" => Ok(DimensionKind::Time),
-        other => Ok(DimensionKind::Other(KindText::new(alloc, other)?)),
-    }
+    Ok(KeptKind::new(alloc, fields::word(node, Name::Type)?)?)
 }
 
 impl FromNodeIn for Dimension {

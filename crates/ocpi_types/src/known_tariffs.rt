@@ -1,6 +1,6 @@
 //! Tariffs that were read before.
 
-ghost use Rattle.std.specs.Prelude.{◌≡◌, Ok, IfSome};
+ghost use Rattle.std.specs.Prelude.{◌≡◌, Ok, IfSome, length};
 ghost use Rattle.ocpi_json.specs.Faults.{Finds};
 ghost use Rattle.ocpi_json.specs.Members.{each};
 ghost use Rattle.ocpi_json.specs.declared.name.Name.TheVariants as name;
@@ -8,6 +8,7 @@ ghost use Rattle.ocpi_types.specs.Tariff.{tariff_at};
 
 use super::shared::Shared;
 use super::tariff::Tariff;
+use super::tariffs::Tariffs;
 use ocpi_json::fields::FieldFault;
 use ocpi_json::name::Name;
 use ocpi_json::objects::{FromNodeIn, within_in};
@@ -136,12 +137,16 @@ impl KnownTariffs {
         Ok(tariff)
     }
 
-    /// Returns the tariffs of the items of the list in the member `tariffs`, in order.
-    ///
-    /// # Errors
-    ///
-    /// That of the first tariff that has one, and `NoMemory` if an allocation fails.
-    pub fn read_each(
+    fn read_one(&mut self, alloc: Global, mut nodes: Nodes) -> Result<Tariffs, FieldFault>
+        requires { length nodes ≡ 1 }
+        ensures { Finds result (each name.Tariffs tariff_at nodes.entry) }
+    {
+        let step = Step::item(Name::Tariffs, 0);
+        let tariff = within_in(step, self.read(alloc, &nodes.next().unwrap()))?;
+        Ok(Tariffs::one(tariff))
+    }
+
+    fn read_any(
         &mut self,
         alloc: Global,
         mut nodes: Nodes,
@@ -154,5 +159,20 @@ impl KnownTariffs {
             tariffs.push(within_in(step, self.read(alloc, &node))?)?;
         }
         Ok(tariffs)
+    }
+
+    /// Returns the tariffs of the items of the list in the member `tariffs`, in order.
+    ///
+    /// # Errors
+    ///
+    /// That of the first tariff that has one, and `NoMemory` if an allocation fails.
+    pub fn read_each(&mut self, alloc: Global, nodes: Nodes) -> Result<Tariffs, FieldFault>
+        ensures { Finds result (each name.Tariffs tariff_at nodes.entry) }
+    {
+        if nodes.len() == 1 {
+            self.read_one(alloc, nodes)
+        } else {
+            Ok(Tariffs::of(self.read_any(alloc, nodes)?))
+        }
     }
 }

@@ -7,7 +7,7 @@ use super::charging_period::ChargingPeriod;
 use super::component::{ComponentKind, PriceComponent};
 use super::currency::Currency;
 use super::day_of_week::DayOfWeek;
-use super::dimension::{Dimension, DimensionKind};
+use super::dimension::{Dimension, DimensionKind, KindText};
 use super::element::Element;
 use super::party::Party;
 use super::refusal::{Refusal, Store};
@@ -137,8 +137,14 @@ impl Same for CdrToken {
     }
 }
 
-impl Same for DimensionKind {
-    fn is_same(&self, other: &DimensionKind) -> bool {
+impl Same for KindText<'_> {
+    fn is_same(&self, other: &KindText<'_>) -> bool {
+        self.as_str() == other.as_str()
+    }
+}
+
+impl Same for DimensionKind<'_> {
+    fn is_same(&self, other: &DimensionKind<'_>) -> bool {
         match (self, other) {
             (DimensionKind::Energy, DimensionKind::Energy) => true,
             (DimensionKind::ParkingTime, DimensionKind::ParkingTime) => true,

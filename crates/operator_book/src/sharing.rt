@@ -5,8 +5,7 @@ ghost use Rattle.operator_book.specs.Inner.Versions.{FindsVersions};
 
 use crate::versions::Versions;
 use ocpi_json::same::Same;
-use ocpi_json::sequence::Sequence;
-use ocpi_types::{Cdr, Shared, Tariff, Unseen};
+use ocpi_types::{Cdr, Shared, Tariff, Tariffs, Unseen};
 use plain_house::BookEntry;
 
 impl Versions {
@@ -24,7 +23,7 @@ impl Versions {
     }
 
     // Puts the stored versions in the places of tariffs that are the same.
-    fn share(&self, entries: &[BookEntry], tariffs: &mut Sequence<Shared<Tariff>>)
+    fn share(&self, entries: &[BookEntry], tariffs: &mut Tariffs)
         requires { FindsVersions self.now entries.now }
         ensures { tariffs.new ≡ tariffs.old }
     {

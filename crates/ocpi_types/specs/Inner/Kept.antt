@@ -1,16 +1,22 @@
--- How the text of a kind is kept.
-use Rattle.std.specs.Prelude.{ℕ, List, codes}
-use Rattle.ocpi_types.specs.declared.kind_text.Kept.{Kept}
-use Rattle.ocpi_types.specs.declared.kind_text.Kept.TheVariants as kept
+-- How the kind of a dimension is kept.
+use Rattle.std.specs.Prelude.{codes}
+use Rattle.ocpi_types.specs.declared.dimension.DimensionKind.{DimensionKind}
+use Rattle.ocpi_types.specs.declared.dimension.DimensionKind.TheVariants as kind
+use Rattle.ocpi_types.specs.declared.kept_kind.Kept.{Kept}
+use Rattle.ocpi_types.specs.declared.kept_kind.Kept.TheVariants as kept
 
-abbrev pub text_of : Kept → List ℕ
-text_of kept.Current = codes "CURRENT"
-text_of kept.EnergyExport = codes "ENERGY_EXPORT"
-text_of kept.EnergyImport = codes "ENERGY_IMPORT"
-text_of kept.MaxCurrent = codes "MAX_CURRENT"
-text_of kept.MaxPower = codes "MAX_POWER"
-text_of kept.MinCurrent = codes "MIN_CURRENT"
-text_of kept.MinPower = codes "MIN_POWER"
-text_of kept.Power = codes "POWER"
-text_of kept.StateOfCharge = codes "STATE_OF_CHARGE"
-text_of (kept.Text text) = text.value
+abbrev pub kind_of : Kept → DimensionKind
+kind_of kept.Energy = kind.Energy
+kind_of kept.ParkingTime = kind.ParkingTime
+kind_of kept.ReservationTime = kind.ReservationTime
+kind_of kept.Time = kind.Time
+kind_of kept.Current = kind.Other (codes "CURRENT")
+kind_of kept.EnergyExport = kind.Other (codes "ENERGY_EXPORT")
+kind_of kept.EnergyImport = kind.Other (codes "ENERGY_IMPORT")
+kind_of kept.MaxCurrent = kind.Other (codes "MAX_CURRENT")
+kind_of kept.MaxPower = kind.Other (codes "MAX_POWER")
+kind_of kept.MinCurrent = kind.Other (codes "MIN_CURRENT")
+kind_of kept.MinPower = kind.Other (codes "MIN_POWER")
+kind_of kept.Power = kind.Other (codes "POWER")
+kind_of kept.StateOfCharge = kind.Other (codes "STATE_OF_CHARGE")
+kind_of (kept.Text text) = kind.Other text.value

@@ -16,8 +16,7 @@ use crate::dimension::Dimension;
 use crate::known_tariffs::KnownTariffs;
 use crate::members;
 use crate::party::Party;
-use crate::shared::Shared;
-use crate::tariff::Tariff;
+use crate::tariffs::Tariffs;
 use crate::up_to::{UpTo, read_up_to};
 use exact_money::Millionths;
 use jiff::Timestamp;
@@ -25,7 +24,6 @@ use ocpi_json::ci_text::CiText;
 use ocpi_json::fields::{self, FieldFault};
 use ocpi_json::name::Name;
 use ocpi_json::objects::{FromNode, FromNodeIn, within};
-use ocpi_json::sequence::Sequence;
 use ocpi_json::{Expected, HasMembers, MemberFault, Node, Step};
 use std::alloc::Global;
 
@@ -42,7 +40,7 @@ fn read_tariffs<'n, M: HasMembers<'n>>(
     alloc: Global,
     known: &mut KnownTariffs,
     node: &M,
-) -> Result<Sequence<Shared<Tariff>>, FieldFault>
+) -> Result<Tariffs, FieldFault>
     ensures { Finds result (tariffs_at (M.object node.now)) }
 {
     known.read_each(alloc, fields::list_or_empty(node, Name::Tariffs, 10)?)
@@ -176,7 +174,7 @@ fn read_totals<'n, M: HasMembers<'n>>(node: &M) -> Result<Totals, MemberFault>
 struct CdrMembers {
     opening: Opening,
     authorised: Authorised,
-    tariffs: Sequence<Shared<Tariff>>,
+    tariffs: Tariffs,
     charging_periods: UpTo<ChargingPeriod, 1000>,
     totals: Totals,
 }

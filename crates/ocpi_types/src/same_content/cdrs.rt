@@ -7,8 +7,9 @@ use super::{Part, are_same, are_same_if_any, same_tariff};
 use crate::cdr::Cdr;
 use crate::cdr_token::{AuthMethod, CdrToken};
 use crate::charging_period::ChargingPeriod;
-use crate::dimension::{Dimension, DimensionKind};
-use crate::kind_text::KindText;
+use crate::dimension::{Dimension, DimensionKind, KindText};
+use crate::kept_kind::KeptKind;
+use crate::optional_id::OptionalId;
 use crate::shared::Shared;
 use crate::tariff::Tariff;
 use exact_money::Millionths;
@@ -31,6 +32,17 @@ impl<const MOST: usize> Part for CiText<MOST> {
 
     fn is_same(&self, other: &CiText<MOST>) -> bool {
         *self == *other
+    }
+}
+
+impl Part for OptionalId {
+    ghost use Rattle.std.specs.Option.{option_eq};
+    ghost use Rattle.ocpi_json.specs.Folded.{same_folded};
+
+    ghost same = { option_eq same_folded };
+
+    fn is_same(&self, other: &OptionalId) -> bool {
+        are_same_if_any(&self.get(), &other.get())
     }
 }
 
@@ -57,22 +69,22 @@ impl Part for CdrToken {
     }
 }
 
-impl Part for KindText {
+impl Part for KindText<'_> {
     ghost use Rattle.std.specs.Str.{bytes_eq};
 
     ghost same = { bytes_eq };
 
-    fn is_same(&self, other: &KindText) -> bool {
+    fn is_same(&self, other: &KindText<'_>) -> bool {
         self.as_str() == other.as_str()
     }
 }
 
-impl Part for DimensionKind {
+impl Part for DimensionKind<'_> {
     ghost use Rattle.ocpi_types.specs.Dimension.{same_dimension_kind};
 
     ghost same = { same_dimension_kind };
 
-    fn is_same(&self, other: &DimensionKind) -> bool {
+    fn is_same(&self, other: &DimensionKind<'_>) -> bool {
         match (self, other) {
             (DimensionKind::Energy, DimensionKind::Energy) => true,
             (DimensionKind::ParkingTime, DimensionKind::ParkingTime) => true,
@@ -81,6 +93,16 @@ impl Part for DimensionKind {
             (DimensionKind::Other(ours), DimensionKind::Other(theirs)) => ours.is_same(theirs),
             _ => false,
         }
+    }
+}
+
+impl Part for KeptKind {
+    ghost use Rattle.ocpi_types.specs.Dimension.{same_dimension_kind};
+
+    ghost same = { same_dimension_kind };
+
+    fn is_same(&self, other: &KeptKind) -> bool {
+        self.get().is_same(&other.get())
     }
 }
 
@@ -103,7 +125,7 @@ impl Part for ChargingPeriod {
     fn is_same(&self, other: &ChargingPeriod) -> bool {
         self.start_date_time.is_same(&other.start_date_time)
             && are_same(self.dimensions.as_slice(), other.dimensions.as_slice())
-            && are_same_if_any(&self.tariff_id, &other.tariff_id)
+            && self.tariff_id.is_same(&other.tariff_id)
     }
 }
 

@@ -12,7 +12,7 @@ use crate::explain_lines::telling::{Cause, Told, Value};
 use cdr_checks::Ask;
 use ocpi_json::ci_text::CiText;
 use ocpi_json::name::Name;
-use ocpi_types::{Cdr, ChargingPeriod, ElectricBounds, Element, Shared, Tariff};
+use ocpi_types::{Cdr, ChargingPeriod, ElectricBounds, Element, OptionalId, Shared, Tariff};
 use tariff_elements::supported;
 
 fn is_id_of_one(tariffs: &[Shared<Tariff>], id: &CiText<36>) -> bool
@@ -21,11 +21,11 @@ fn is_id_of_one(tariffs: &[Shared<Tariff>], id: &CiText<36>) -> bool
     tariffs.iter().any(|tariff| tariff.id == *id)
 }
 
-fn is_not_given(tariffs: &[Shared<Tariff>], id: &Option<CiText<36>>) -> bool
+fn is_not_given(tariffs: &[Shared<Tariff>], id: &OptionalId) -> bool
     ensures { result ≡ is_not_given tariffs.now id.now }
 {
-    match id {
-        Some(id) => !is_id_of_one(tariffs, id),
+    match id.get() {
+        Some(id) => !is_id_of_one(tariffs, &id),
         None => false,
     }
 }
@@ -88,7 +88,7 @@ pub fn unsupported_tariff(tariffs: &[Shared<Tariff>]) -> Option<usize>
 pub fn not_given(cdr: &Cdr) -> Option<Told> {
     let periods = cdr.charging_periods.as_slice();
     let number = period_without_tariff(cdr.tariffs.as_slice(), periods)?;
-    let id = periods.get(number)?.tariff_id?;
+    let id = periods.get(number)?.tariff_id.get()?;
     let period = MemberPath::at(Name::Cdr).then(Name::ChargingPeriods, Some(number));
     let path = period.then(Name::TariffId, None);
     Some(Told::new(path, Cause::IdOfNoTariff, Value::Reference(id)))

@@ -17,7 +17,7 @@ const MOST: i64 = 1_000_000_000_000;
 fn is_reservation(dimension: &Dimension) -> bool
     ensures { result ≡ is_reservation dimension.now }
 {
-    match dimension.kind {
+    match dimension.kind.get() {
         DimensionKind::ReservationTime => 0 < dimension.volume.get(),
         DimensionKind::Energy
         | DimensionKind::ParkingTime

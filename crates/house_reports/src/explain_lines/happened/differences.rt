@@ -31,7 +31,7 @@ fn are_same_dimensions(some: &[Dimension], others: &[Dimension]) -> bool {
 
 fn is_same_period(one: &ChargingPeriod, other: &ChargingPeriod) -> bool {
     one.start_date_time.is_same(&other.start_date_time)
-        && one.tariff_id == other.tariff_id
+        && one.tariff_id.get() == other.tariff_id.get()
         && are_same_dimensions(one.dimensions.as_slice(), other.dimensions.as_slice())
 }
 

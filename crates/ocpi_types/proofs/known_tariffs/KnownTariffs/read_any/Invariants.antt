@@ -3,7 +3,7 @@ use Rattle.ocpi_json.specs.Members.{each_from}
 use Rattle.ocpi_json.specs.declared.name.Name.TheVariants as name
 use Rattle.ocpi_json.proofs.Eaches.{behind_items}
 use Rattle.ocpi_types.specs.Tariff.{tariff_at}
-use Rattle.ocpi_types.proofs.known_tariffs.KnownTariffs.read_each.Given as goal
+use Rattle.ocpi_types.proofs.known_tariffs.KnownTariffs.read_any.Given as goal
 
 abbrev pub invariant-loop-node : goal.invariant-loop-node
 invariant-loop-node l =
