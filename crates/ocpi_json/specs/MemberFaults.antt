@@ -12,7 +12,7 @@ use Rattle.ocpi_json.specs.declared.name.Name.{Name}
 abbrev pub member_of : Name → Step
 member_of n = Member n
 
--- an item of the list in the member of that name, by its index; one that comes after 65536 others is told as the list
+-- an item of the list in the member of that name, by its index; one that comes after 65536 others is reported as the list
 abbrev pub item_of : Name → ℕ → Step
 item_of n index = if nat_lt index 65536 then Item n index else Member n
 

@@ -15,7 +15,7 @@ pub enum Step {
 }
 
 impl Step {
-    /// An item of the list in the member of that name. One that comes after 65,536 others is told as the list.
+    /// An item of the list in the member of that name. One that comes after 65,536 others is reported as the list.
     pub fn item(name: Name, index: usize) -> Step
         ensures { result ≡ item_of name index }
     {
