@@ -129,6 +129,12 @@ impl fmt::Display for Around {
 
 /// Writes the name of the member alone, as an answer names it. `{around}{member}` is its path.
 impl fmt::Display for MemberFault {
+    ghost use Rattle.std.specs.Prelude.{Some};
+    ghost use Rattle.ocpi_json.specs.MemberFaults.{name_of};
+    ghost use Rattle.ocpi_json.specs.Name.{key_text};
+
+    ghost output = { λ fault. Some (key_text (name_of fault.member)) };
+
     fn fmt<W: fmt::Write>(&self, f: &mut fmt::Formatter<W>) -> fmt::Result {
         f.write_str(self.member.name().key())
     }
