@@ -16,7 +16,7 @@ const TEXT_AFTER: &[u8] = b"one\ntwo\n\nthree\n";
 const LIMIT: usize = 5;
 
 // The number of calls that a recovery of `BEFORE` makes on a disk, after the two that fill it.
-const RECOVERY_CALLS: u64 = 12;
+const RECOVERY_CALLS: u64 = 14;
 
 fn expect(text: &[u8], expected: &[u8]) -> Result<u64, Failure> {
     if text == expected {
@@ -83,7 +83,7 @@ fn next(seed: &mut u64) -> u8 {
 // A file with these bytes, recovered in full, and stopped at each call of a recovery.
 fn stopped_at_each_call(alloc: Global, bytes: &[u8], expected: &[u8]) -> Result<u64, Failure> {
     let mut count = expect(&text_of(alloc, bytes, LIMIT)?, expected)?;
-    for calls in 0..13u64 {
+    for calls in 0..15u64 {
         let text = text_after_stop(alloc, bytes, LIMIT, calls)?;
         count = count.saturating_add(expect(&text, expected)?);
     }

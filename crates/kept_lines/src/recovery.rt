@@ -1,4 +1,4 @@
-ghost use Rattle.std.specs.Prelude.{◌≡◌, ◌↔◌, ◌+◌, ◌-◌, ◌<◌, ◌≤◌, ◌^◌, ◌∷◌, [], ℕ, List, length, drop, IsTrue, IfOk, OnOk, OnErr, IfErr, IsErrOf, IfSome, IsNone, MatchResult, false};
+ghost use Rattle.std.specs.Prelude.{◌≡◌, ◌↔◌, ◌+◌, ◌-◌, ◌<◌, ◌≤◌, ◌^◌, ◌∷◌, [], ℕ, List, length, drop, take, IsTrue, IfOk, OnOk, OnErr, IfErr, IsErrOf, IfSome, IsNone, MatchResult, false};
 ghost use Rattle.sqlite_disk.specs.Disk.{Only, MoreFaults};
 ghost use Rattle.kept_lines.specs.File.{HasTornEnd, BeginsTooLong, HasTooLongLine, kept_in};
 ghost use Rattle.kept_lines.specs.Reading.{OnlyReads};
@@ -14,7 +14,7 @@ use crate::{KeepError, Log};
 use sqlite_disk::Disk;
 use std::alloc::Global;
 
-// The number of bytes of a read, beside those of the longest line.
+// The number of bytes of a read. If the next line has more, a read takes these beside the longest line.
 const CHUNK: usize = 1 << 16;
 
 /// Reads the lines of a file that a crash may have left, one after another. It changes nothing until
@@ -145,8 +145,31 @@ impl<D: Disk> Recovery<D> {
         if let Some(count) = line_length(&self.window[self.next..]) {
             return Ok(Some(count));
         }
+        self.read(CHUNK)?;
+        if let Some(count) = line_length(&self.window[self.next..]) {
+            return Ok(Some(count));
+        }
         self.fill()?;
         Ok(line_length(&self.window[self.next..]))
+    }
+
+    // Reads at most `most` bytes into the window, from the next line on.
+    fn read(&mut self, most: usize) -> Result<(), KeepError>
+        requires { most ≤ limit_of self.old + 65536 }
+        ensures taken { OnOk result (IsTrue (D.Disk.is_clean (disk_of self.new)) → drop self.new.next self.new.window.items ≡ take most (unread self.new)) }
+        ensures place { place_of self.new ≡ place_of self.old }
+        ensures limit { limit_of self.new ≡ limit_of self.old }
+        ensures reads { OnlyReads D.Disk (disk_of self.old) (disk_of self.new) }
+        ensures calm { OnOk result (D.Disk.faults (disk_of self.new) ≡ D.Disk.faults (disk_of self.old)) }
+        ensures failed { IfErr result (λ e. IsDiskError e → MoreFaults (D.Disk.faults (disk_of self.old)) (D.Disk.faults (disk_of self.new))) }
+        ensures full { IsErrOf result KeepError.Full → ⊥ }
+        ensures too_long { IsErrOf result KeepError.TooLong → ⊥ }
+    {
+        self.begin += self.next;
+        self.next = 0;
+        self.line = 0;
+        self.line_end = 0;
+        read_window(&mut self.disk, self.begin, most, &mut self.window)
     }
 
     // Reads the window again, from the next line on.
@@ -160,12 +183,7 @@ impl<D: Disk> Recovery<D> {
         ensures full { IsErrOf result KeepError.Full → ⊥ }
         ensures too_long { IsErrOf result KeepError.TooLong → ⊥ }
     {
-        self.begin += self.next;
-        self.next = 0;
-        self.line = 0;
-        self.line_end = 0;
-        let most = self.limit.saturating_add(CHUNK);
-        read_window(&mut self.disk, self.begin, most, &mut self.window)
+        self.read(self.limit.saturating_add(CHUNK))
     }
 
     /// Reads on to the end of the file, and returns whether it has more than its lines and a closed mark.
