@@ -381,8 +381,13 @@ class Explainer:
         return row('uid', 'token that is not valid', v['uid'])
 
     def NO_CREDIT(self, v, _):
-        limits = self.house.row(fold(v['provider']), v['currency'])
-        return row('provider', 'hold above a limit', money(limits['hold']), money(limits['limit']))
+        operator, provider, currency = fold(v['operator']), fold(v['provider']), v['currency']
+        limits, pair = self.house.row(provider, currency), self.house.pair_limit(operator, provider, currency)
+        exposure = sum(self.house.sums(provider, currency)) + limits['hold']
+        if exposure > limits['limit']:
+            return row('provider', "above the provider's limit", money(exposure), money(limits['limit']))
+        exposure = sum(self.house.sums(provider, currency, operator)) + limits['hold']
+        return row('provider', 'above the limit with the operator', money(exposure), money(pair))
 
     def UnknownHold(self, v, _):
         provider, reference = fold(v['provider']), fold(v['reference'])

@@ -1,3 +1,5 @@
+pub mod AdmissionLemmas
+pub mod ConditionLemmas
 pub mod PartyLemmas
 pub mod PostLemmas
 pub mod PriceLemmas

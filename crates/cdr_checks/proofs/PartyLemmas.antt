@@ -1,31 +1,27 @@
 -- An admitted command is of configured parties.
-use Rattle.std.proofs.Common.{◌≡◌, List, ℕ, Bool, true, false, is_some, refl, ap, sym, subst, ◌∙◌, Some, None, Result, Ok, Err}
+use Rattle.std.proofs.Common.{◌≡◌, List, ℕ, true, is_some, refl, ap, sym, subst, ◌∙◌, Some, None, Result, Ok, Err}
 use Rattle.ocpi_types.specs.declared.config.Config.{Config}
 use Rattle.ocpi_types.specs.declared.party.Party.{Party}
-use Rattle.ocpi_types.specs.declared.refusal.Refusal.{Refusal}
-use Rattle.ocpi_types.specs.declared.refusal.Refusal.TheVariants as refusal
 use Rattle.ocpi_types.specs.Config.{is_hub, is_operator, is_party, is_provider, has_currency, may_act_for}
-use Rattle.tariff_elements.specs.Active.{supported}
+use Rattle.tariff_elements.specs.Support.{unsupported}
+use Rattle.cdr_checks.specs.declared.cause.Cause.{Cause}
 use Rattle.cdr_checks.specs.declared.request.Ask.{Ask}
 use Rattle.cdr_checks.specs.declared.request.Ask.TheVariants as ask
 use Rattle.cdr_checks.specs.declared.request.Command.{Command}
 use Rattle.cdr_checks.specs.declared.request.Command.TheVariants as command
-use Rattle.cdr_checks.specs.Admission.{admission, ask_admission, IsAdmitted}
+use Rattle.cdr_checks.specs.Admission.{IsAdmitted, ask_admission}
 use Rattle.cdr_checks.specs.CdrAdmission.{checked_of}
 use Rattle.cdr_checks.specs.Checked.{Checked}
-use Rattle.cdr_checks.specs.FirstRefusal.{◌>>=◌, ensure}
+use Rattle.cdr_checks.specs.FirstRefusal.{◌>>=◌}
 use Rattle.cdr_checks.specs.Law.{IsChecked}
 use Rattle.cdr_checks.specs.Parties.{CommandsHaveParties, HasParties, operator_of_command, provider_of_command}
+use Rattle.cdr_checks.proofs.AdmissionLemmas.{admission_is, ensured, unless_none}
 use Rattle.cdr_checks.proofs.PostLemmas.{checked_has}
 
-ensured : (b : Bool) (why : Refusal) (rest : Result Command Refusal) (told : Command) → (ensure b why >>= λ _. rest) ≡ Ok told → (b ≡ true) × (rest ≡ Ok told)
-ensured true why rest told h = (refl, h)
-ensured false why rest told h = absurd (cc)
+abbrev done : Command → Result Command Cause
+done told = Ok told
 
-abbrev accepted : Command → Result Command Refusal
-accepted told = Ok told
-
-same_told : (given told : Command) → accepted given ≡ accepted told → given ≡ told
+same_told : (given told : Command) → done given ≡ done told → given ≡ told
 same_told given told h = cc
 
 abbrev HasOperator : Config → Command → Type 0
@@ -51,10 +47,10 @@ no_provider : (config : Config) (told : Command) → provider_of_command told �
 no_provider config told none provider h = absurd (let both : None ≡ Some provider = sym none ∙ h in cc)
 
 pub commands_have_parties : CommandsHaveParties
-unfolding IsAdmitted admission
-commands_have_parties config told admitted = by admitted.0.platform admitted.0.ask admitted.1
+unfolding IsAdmitted
+commands_have_parties config told admitted = by admitted.0.platform admitted.0.ask (admission_is config admitted.0 told admitted.1)
   where
-    posted : (platform : List ℕ) (m : Result Checked Refusal) → ((checked : Checked) → m ≡ Ok checked → IsChecked config checked)
+    posted : (platform : List ℕ) (m : Result Checked Cause) → ((checked : Checked) → m ≡ Ok checked → IsChecked config checked)
         → (m >>= λ checked. Ok (command.Post checked)) ≡ Ok told → HasParties config told
     posted platform (Ok checked) has h =
         let found = has checked refl in
@@ -67,63 +63,63 @@ commands_have_parties config told admitted = by admitted.0.platform admitted.0.a
 
     by : (platform : List ℕ) (asked : Ask) → ask_admission config platform asked ≡ Ok told → HasParties config told
     by platform (ask.PutTariff tariff) h =
-        let one = ensured (is_operator config tariff.operator) refusal.UnknownParty _ told h in
-        let two = ensured (may_act_for config platform tariff.operator) refusal.NotYours _ told one.1 in
-        let three = ensured (has_currency config tariff.currency) refusal.WrongCurrency _ told two.1 in
-        let four = ensured (supported tariff) refusal.UnsupportedRestriction _ told three.1 in
+        let one = ensured (is_operator config tariff.operator) _ _ told h in
+        let two = ensured (may_act_for config platform tariff.operator) _ _ told one.1 in
+        let three = ensured (has_currency config tariff.currency) _ _ told two.1 in
+        let four = unless_none (unsupported tariff) _ _ told three.1 in
         let given = command.PutTariff tariff in
         subst (HasParties config) (same_told given told four.1)
         (record { operator = with_operator config given tariff.operator refl one.0; provider = no_provider config given refl })
     by platform (ask.PutToken token) h =
-        let one = ensured (is_provider config token.provider) refusal.UnknownParty _ told h in
-        let two = ensured (may_act_for config platform token.provider) refusal.NotYours _ told one.1 in
+        let one = ensured (is_provider config token.provider) _ _ told h in
+        let two = ensured (may_act_for config platform token.provider) _ _ told one.1 in
         let given = command.PutToken token in
         subst (HasParties config) (same_told given told two.1)
         (record { operator = no_operator config given refl; provider = with_provider config given token.provider refl one.0 })
     by platform (ask.Authorize a) h =
-        let one = ensured (is_operator config a.operator) refusal.UnknownParty _ told h in
-        let two = ensured (is_provider config a.provider) refusal.UnknownParty _ told one.1 in
-        let three = ensured (may_act_for config platform a.operator) refusal.NotYours _ told two.1 in
-        let four = ensured (has_currency config a.currency) refusal.WrongCurrency _ told three.1 in
+        let one = ensured (is_operator config a.operator) _ _ told h in
+        let two = ensured (is_provider config a.provider) _ _ told one.1 in
+        let three = ensured (may_act_for config platform a.operator) _ _ told two.1 in
+        let four = ensured (has_currency config a.currency) _ _ told three.1 in
         let given = command.Authorize a in
         subst (HasParties config) (same_told given told four.1)
         (record { operator = no_operator config given refl; provider = with_provider config given a.provider refl two.0 })
     by platform (ask.Release r) h =
-        let one = ensured (is_operator config r.operator) refusal.UnknownParty _ told h in
-        let two = ensured (is_provider config r.provider) refusal.UnknownParty _ told one.1 in
-        let three = ensured (may_act_for config platform r.operator) refusal.NotYours _ told two.1 in
+        let one = ensured (is_operator config r.operator) _ _ told h in
+        let two = ensured (is_provider config r.provider) _ _ told one.1 in
+        let three = ensured (may_act_for config platform r.operator) _ _ told two.1 in
         let given = command.Release r in
         subst (HasParties config) (same_told given told three.1)
         (record { operator = no_operator config given refl; provider = with_provider config given r.provider refl two.0 })
     by platform (ask.Post cdr) h = posted platform (checked_of config platform cdr) (λ checked e. checked_has config platform cdr checked e) h
     by platform (ask.Close c) h =
-        let one = ensured (is_hub config platform) refusal.NotYours _ told h in
+        let one = ensured (is_hub config platform) _ _ told h in
         let given = command.Close c in
         subst (HasParties config) (same_told given told one.1)
         (record { operator = no_operator config given refl; provider = no_provider config given refl })
     by platform (ask.Settle s) h =
-        let one = ensured (is_provider config s.provider) refusal.UnknownParty _ told h in
-        let two = ensured (is_hub config platform) refusal.NotYours _ told one.1 in
-        let three = ensured (has_currency config s.currency) refusal.WrongCurrency _ told two.1 in
+        let one = ensured (is_provider config s.provider) _ _ told h in
+        let two = ensured (is_hub config platform) _ _ told one.1 in
+        let three = ensured (has_currency config s.currency) _ _ told two.1 in
         let given = command.Settle s in
         subst (HasParties config) (same_told given told three.1)
         (record { operator = no_operator config given refl; provider = with_provider config given s.provider refl one.0 })
     by platform (ask.Exposure x) h =
-        let one = ensured (is_provider config x.provider) refusal.UnknownParty _ told h in
-        let two = ensured (may_act_for config platform x.provider) refusal.NotYours _ told one.1 in
-        let three = ensured (has_currency config x.currency) refusal.WrongCurrency _ told two.1 in
+        let one = ensured (is_provider config x.provider) _ _ told h in
+        let two = ensured (may_act_for config platform x.provider) _ _ told one.1 in
+        let three = ensured (has_currency config x.currency) _ _ told two.1 in
         let given = command.Exposure x in
         subst (HasParties config) (same_told given told three.1)
         (record { operator = no_operator config given refl; provider = with_provider config given x.provider refl one.0 })
     by platform (ask.Find f) h =
-        let one = ensured (is_operator config f.operator) refusal.UnknownParty _ told h in
-        let two = ensured (may_act_for config platform f.operator) refusal.NotYours _ told one.1 in
+        let one = ensured (is_operator config f.operator) _ _ told h in
+        let two = ensured (may_act_for config platform f.operator) _ _ told one.1 in
         let given = command.Find f in
         subst (HasParties config) (same_told given told two.1)
         (record { operator = with_operator config given f.operator refl one.0; provider = no_provider config given refl })
     by platform (ask.Statement s) h =
-        let one = ensured (is_party config s.party) refusal.UnknownParty _ told h in
-        let two = ensured (may_act_for config platform s.party) refusal.NotYours _ told one.1 in
+        let one = ensured (is_party config s.party) _ _ told h in
+        let two = ensured (may_act_for config platform s.party) _ _ told one.1 in
         let given = command.Statement s in
         subst (HasParties config) (same_told given told two.1)
         (record { operator = no_operator config given refl; provider = no_provider config given refl })

@@ -1,5 +1,5 @@
 -- What the admission of a CDR that is posted says.
-use Rattle.std.proofs.Common.{◌≡◌, ℕ, ℤ, pos, List, Bool, true, false, not, refl, ap, subst, ◌∙◌, Option, Some, None, Result, Ok, Err, unsigned_abs, if◌then◌else◌, nat_lt, arith, ◌≤◌, ◌^◌, unwrap_or}
+use Rattle.std.proofs.Common.{◌≡◌, ℕ, ℤ, pos, List, Bool, true, false, refl, ap, subst, ◌∙◌, Option, Some, None, Result, Ok, Err, unsigned_abs, if◌then◌else◌, nat_lt, arith, ◌≤◌, ◌^◌, unwrap_or}
 use Rattle.std.proofs.lemmas.Bool.{ltb-false}
 use Rattle.jiff.specs.Types.{TimeZone as PlainZone}
 use Rattle.ocpi_types.specs.declared.cdr.Cdr.{Cdr}
@@ -9,19 +9,21 @@ use Rattle.ocpi_types.specs.declared.refusal.Refusal.{Refusal}
 use Rattle.ocpi_types.specs.declared.refusal.Refusal.TheVariants as refusal
 use Rattle.ocpi_types.specs.Cdr.{is_credit}
 use Rattle.ocpi_types.specs.Config.{operator_of, is_hub, is_operator, is_party, is_provider, has_currency, may_act_for}
-use Rattle.tariff_elements.specs.Active.{supported}
+use Rattle.tariff_elements.specs.Support.{unsupported}
 use Rattle.cdr_rating.specs.Price.{price, rounded_amount}
 use Rattle.cdr_rating.specs.Pricing.{lacks_tariff}
+use Rattle.cdr_checks.specs.declared.cause.Cause.{Cause}
 use Rattle.cdr_checks.specs.declared.request.Ask.{Ask}
 use Rattle.cdr_checks.specs.declared.request.Ask.TheVariants as ask
 use Rattle.cdr_checks.specs.declared.request.Command.{Command}
 use Rattle.cdr_checks.specs.declared.request.Command.TheVariants as command
-use Rattle.cdr_checks.specs.Admission.{admission, ask_admission, IsAdmitted}
-use Rattle.cdr_checks.specs.CdrAdmission.{checked_of, rated_cost, session_cost}
-use Rattle.cdr_checks.specs.CdrConditions.{has_dates_in_order, has_energy_of_periods, has_one_currency, has_reservation, has_supported_tariffs, is_within_tolerance}
+use Rattle.cdr_checks.specs.Admission.{IsAdmitted, ask_admission}
+use Rattle.cdr_checks.specs.CdrAdmission.{checked_of, priced, rated_cost, session_cost}
+use Rattle.cdr_checks.specs.CdrConditions.{has_energy_of_periods, is_within_tolerance, other_currency, out_of_order, reservation, tariff_not_given, unsupported_tariff}
 use Rattle.cdr_checks.specs.Checked.{Checked, IsCostOf}
-use Rattle.cdr_checks.specs.FirstRefusal.{◌>>=◌, ensure, or_refusal}
+use Rattle.cdr_checks.specs.FirstRefusal.{◌>>=◌}
 use Rattle.cdr_checks.specs.Law.{IsChecked, PostsAreChecked}
+use Rattle.cdr_checks.proofs.AdmissionLemmas.{admission_is, ensured, goes_on, there, unless_none}
 
 -- ---- the price
 
@@ -48,37 +50,32 @@ bounded cdr zone n h = by (lacks_tariff cdr) (nat_lt 1_000_000_000_000 (rounded_
         let most = ltb-false 1_000_000_000_000 (rounded_amount cdr zone) e in
         omega (arith, same, most)
 
+same_price : (m : Result ℤ Refusal) (amount : ℤ) → priced m ≡ Ok amount → m ≡ Ok amount
+same_price (Ok given) amount h = let same : given ≡ amount = cc in ap (λ (z : ℤ). Ok z) same
+same_price (Err why) amount h = absurd (cc)
+
 rated_price : (config : Config) (zone : PlainZone) (cdr : Cdr) (cost : ℕ) → rated_cost config zone cdr ≡ Ok cost → price cdr zone ≡ Ok (pos cost)
 unfolding rated_cost
 rated_price config zone cdr cost h =
-    by (has_one_currency cdr) (has_dates_in_order cdr) (not (lacks_tariff cdr)) (has_supported_tariffs cdr) (not (has_reservation cdr)) (has_energy_of_periods cdr) (price cdr zone) refl h
-  where
-    tolerated : (amount : ℤ) (b : Bool) → price cdr zone ≡ Ok amount → (ensure b (refusal.CostMismatch amount) >>= λ _. Ok (unsigned_abs amount)) ≡ Ok cost → price cdr zone ≡ Ok (pos cost)
-    tolerated amount true e g =
-        let same : unsigned_abs amount ≡ cost = cc in
-        e ∙ ap (λ (z : ℤ). Ok z) (natural cdr zone amount e ∙ ap (λ (n : ℕ). pos n) same)
-    tolerated amount false e g = absurd (cc)
-
-    by : (one dates given supported free energy : Bool) (m : Result ℤ Refusal) → price cdr zone ≡ m
-        → (ensure one refusal.WrongCurrency >>= λ _. (ensure dates refusal.BadDates >>= λ _. (ensure given refusal.TariffNotGiven >>= λ _.
-        (ensure supported refusal.UnsupportedRestriction >>= λ _. (ensure free refusal.Reservation >>= λ _. (ensure energy refusal.EnergyMismatch >>= λ _.
-        (m >>= λ amount. (ensure (is_within_tolerance config.tolerance cdr.total_cost amount) (refusal.CostMismatch amount) >>= λ _. Ok (unsigned_abs amount)))))))))
-        ≡ Ok cost → price cdr zone ≡ Ok (pos cost)
-    by true true true true true true (Ok amount) e g = tolerated amount (is_within_tolerance config.tolerance cdr.total_cost amount) e g
-    by true true true true true true (Err why) e g = absurd (cc)
-    by true true true true true false m e g = absurd (cc)
-    by true true true true false energy m e g = absurd (cc)
-    by true true true false free energy m e g = absurd (cc)
-    by true true false supported free energy m e g = absurd (cc)
-    by true false given supported free energy m e g = absurd (cc)
-    by false dates given supported free energy m e g = absurd (cc)
+    let currency = unless_none (other_currency cdr) _ _ cost h in
+    let dates = unless_none (out_of_order cdr) _ _ cost currency.1 in
+    let given = unless_none (tariff_not_given cdr) _ _ cost dates.1 in
+    let supported = unless_none (unsupported_tariff cdr) _ _ cost given.1 in
+    let free = unless_none (reservation cdr) _ _ cost supported.1 in
+    let energy = ensured (has_energy_of_periods cdr) _ _ cost free.1 in
+    let amount = goes_on (priced (price cdr zone)) _ cost energy.1 in
+    let tolerated = ensured (is_within_tolerance config.tolerance cdr.total_cost amount.0) _ _ cost amount.2 in
+    let is : price cdr zone ≡ Ok amount.0 = same_price (price cdr zone) amount.0 amount.1 in
+    let made : Result ℕ Cause = Ok (unsigned_abs amount.0) in
+    let same : unsigned_abs amount.0 ≡ cost = (let both : made ≡ Ok cost = tolerated.1 in cc) in
+    is ∙ ap (λ (z : ℤ). Ok z) (natural cdr zone amount.0 is ∙ ap (λ (n : ℕ). pos n) same)
 
 -- ---- the CDR
 
 session : (config : Config) (zone : PlainZone) (cdr : Cdr) (cost : Option ℕ) → session_cost config zone cdr ≡ Ok cost → IsCostOf cost cdr zone
 session config zone cdr cost h = by (is_credit cdr) refl h
   where
-    rated : (m : Result ℕ Refusal) → is_credit cdr ≡ false → rated_cost config zone cdr ≡ m → (m >>= λ n. Ok (Some n)) ≡ Ok cost → IsCostOf cost cdr zone
+    rated : (m : Result ℕ Cause) → is_credit cdr ≡ false → rated_cost config zone cdr ≡ m → (m >>= λ n. Ok (Some n)) ≡ Ok cost → IsCostOf cost cdr zone
     rated (Ok n) credit e g =
         let same : Some n ≡ cost = cc in
         subst (λ (o : Option ℕ). IsCostOf o cdr zone) same (credit, rated_price config zone cdr n e)
@@ -93,97 +90,82 @@ made cdr operator cost = record { cdr = cdr; zone = operator.zone; cost = cost }
 
 pub checked_has : (config : Config) (platform : List ℕ) (cdr : Cdr) (checked : Checked) → checked_of config platform cdr ≡ Ok checked → IsChecked config checked
 unfolding checked_of
-checked_has config platform cdr checked h = by (operator_of config cdr.operator) refl h
+checked_has config platform cdr checked h =
+    let its = there (operator_of config cdr.operator) _ _ checked h in
+    let operator : Operator = its.0 in
+    let known = ensured (is_provider config cdr.cdr_token.provider) _ _ checked its.2 in
+    let acts = ensured (may_act_for config platform cdr.operator) _ _ checked known.1 in
+    let currency = ensured (has_currency config cdr.currency) _ _ checked acts.1 in
+    let cost = goes_on (session_cost config operator.zone cdr) _ checked currency.1 in
+    let given : Result Checked Cause = Ok (made cdr operator cost.0) in
+    let same : made cdr operator cost.0 ≡ checked = (let both : given ≡ Ok checked = cost.2 in cc) in
+    let has : IsCostOf cost.0 cdr operator.zone = session config operator.zone cdr cost.0 cost.1 in
+    subst (IsChecked config) same
+    (record { operator = operator; has_operator = its.1; has_provider = known.0; has_currency = currency.0; in_zone = refl; at_cost = has; within = small cost.0 operator.zone has })
   where
     small : (cost : Option ℕ) (zone : PlainZone) → IsCostOf cost cdr zone → unwrap_or cost 0 ≤ 10 ^ 12
     small None zone is = omega arith
     small (Some n) zone is = bounded cdr zone n is.1
 
-    tests : (operator : Operator) → operator_of config cdr.operator ≡ Some operator → (known yours currency : Bool) (m : Result (Option ℕ) Refusal)
-        → is_provider config cdr.cdr_token.provider ≡ known → has_currency config cdr.currency ≡ currency → session_cost config operator.zone cdr ≡ m
-        → (ensure known refusal.UnknownParty >>= λ _. (ensure yours refusal.NotYours >>= λ _. (ensure currency refusal.WrongCurrency >>= λ _. (m >>= λ cost. Ok (made cdr operator cost)))))
-        ≡ Ok checked → IsChecked config checked
-    tests operator found true true true (Ok cost) p c e g =
-        let same : made cdr operator cost ≡ checked = cc in
-        let has : IsCostOf cost cdr operator.zone = session config operator.zone cdr cost e in
-        subst (IsChecked config) same
-        (record { operator = operator; has_operator = found; has_provider = p; has_currency = c; in_zone = refl; at_cost = has; within = small cost operator.zone has })
-    tests operator found true true true (Err why) p c e g = absurd (cc)
-    tests operator found true true false m p c e g = absurd (cc)
-    tests operator found true false currency m p c e g = absurd (cc)
-    tests operator found false yours currency m p c e g = absurd (cc)
-
-    by : (o : Option Operator) → operator_of config cdr.operator ≡ o
-        → (or_refusal refusal.UnknownParty o >>= λ operator. (ensure (is_provider config cdr.cdr_token.provider) refusal.UnknownParty >>= λ _.
-        (ensure (may_act_for config platform cdr.operator) refusal.NotYours >>= λ _. (ensure (has_currency config cdr.currency) refusal.WrongCurrency >>= λ _.
-        (session_cost config operator.zone cdr >>= λ cost. Ok (made cdr operator cost))))))
-        ≡ Ok checked → IsChecked config checked
-    by None e g = absurd (cc)
-    by (Some operator) e g =
-        tests operator e (is_provider config cdr.cdr_token.provider) (may_act_for config platform cdr.operator) (has_currency config cdr.currency)
-        (session_cost config operator.zone cdr) refl refl refl g
-
 -- ---- the request
 
+abbrev done : Command → Result Command Cause
+done given = Ok given
+
 pub posts_are_checked : PostsAreChecked
-unfolding IsAdmitted admission
-posts_are_checked config checked admitted = by admitted.0.platform admitted.0.ask admitted.1
+unfolding IsAdmitted
+posts_are_checked config checked admitted = by admitted.0.platform admitted.0.ask (admission_is config admitted.0 (command.Post checked) admitted.1)
   where
-    four : (a b c d : Bool) (w x y z : Refusal) (told : Command) → (ensure a w >>= λ _. (ensure b x >>= λ _. (ensure c y >>= λ _. (ensure d z >>= λ _. Ok told)))) ≡ Ok (command.Post checked) → told ≡ command.Post checked
-    four true true true true w x y z told h = cc
-    four true true true false w x y z told h = absurd (cc)
-    four true true false d w x y z told h = absurd (cc)
-    four true false c d w x y z told h = absurd (cc)
-    four false b c d w x y z told h = absurd (cc)
+    posted : (cdr : Cdr) (platform : List ℕ) → (checked_of config platform cdr >>= λ c. Ok (command.Post c)) ≡ done (command.Post checked) → IsChecked config checked
+    posted cdr platform h =
+        let its = goes_on (checked_of config platform cdr) _ (command.Post checked) h in
+        let same : its.0 ≡ checked = (let both : done (command.Post its.0) ≡ done (command.Post checked) = its.2 in cc) in
+        checked_has config platform cdr checked (its.1 ∙ ap (λ (x : Checked). Ok x) same)
 
-    three : (a b c : Bool) (w x y : Refusal) (told : Command) → (ensure a w >>= λ _. (ensure b x >>= λ _. (ensure c y >>= λ _. Ok told))) ≡ Ok (command.Post checked) → told ≡ command.Post checked
-    three true true true w x y told h = cc
-    three true true false w x y told h = absurd (cc)
-    three true false c w x y told h = absurd (cc)
-    three false b c w x y told h = absurd (cc)
+    other : (given : Command) → done given ≡ done (command.Post checked) → (given ≡ command.Post checked → IsChecked config checked) → IsChecked config checked
+    other given h otherwise = otherwise (let both : done given ≡ done (command.Post checked) = h in cc)
 
-    one : (a : Bool) (w : Refusal) (told : Command) → (ensure a w >>= λ _. Ok told) ≡ Ok (command.Post checked) → told ≡ command.Post checked
-    one true w told h = cc
-    one false w told h = absurd (cc)
-
-    two : (a b : Bool) (w x : Refusal) (told : Command) → (ensure a w >>= λ _. (ensure b x >>= λ _. Ok told)) ≡ Ok (command.Post checked) → told ≡ command.Post checked
-    two true true w x told h = cc
-    two true false w x told h = absurd (cc)
-    two false b w x told h = absurd (cc)
-
-    posted : (platform : List ℕ) (m : Result Checked Refusal) (cdr : Cdr) → checked_of config platform cdr ≡ m → (m >>= λ c. Ok (command.Post c)) ≡ Ok (command.Post checked) → IsChecked config checked
-    posted platform (Ok c) cdr e h = let same : c ≡ checked = cc in checked_has config platform cdr checked (e ∙ ap (λ (x : Checked). Ok x) same)
-    posted platform (Err why) cdr e h = absurd (cc)
-
-    by : (platform : List ℕ) (asked : Ask) → ask_admission config platform asked ≡ Ok (command.Post checked) → IsChecked config checked
+    by : (platform : List ℕ) (asked : Ask) → ask_admission config platform asked ≡ done (command.Post checked) → IsChecked config checked
     by platform (ask.PutTariff tariff) h =
-        let same = four (is_operator config tariff.operator) (may_act_for config platform tariff.operator) (has_currency config tariff.currency) (supported tariff)
-        refusal.UnknownParty refusal.NotYours refusal.WrongCurrency refusal.UnsupportedRestriction (command.PutTariff tariff) h in
-        absurd (cc)
+        let one = ensured (is_operator config tariff.operator) _ _ (command.Post checked) h in
+        let two = ensured (may_act_for config platform tariff.operator) _ _ (command.Post checked) one.1 in
+        let three = ensured (has_currency config tariff.currency) _ _ (command.Post checked) two.1 in
+        let four = unless_none (unsupported tariff) _ _ (command.Post checked) three.1 in
+        other (command.PutTariff tariff) four.1 (λ e. absurd (cc))
     by platform (ask.PutToken token) h =
-        let same = two (is_provider config token.provider) (may_act_for config platform token.provider) refusal.UnknownParty refusal.NotYours (command.PutToken token) h in
-        absurd (cc)
+        let one = ensured (is_provider config token.provider) _ _ (command.Post checked) h in
+        let two = ensured (may_act_for config platform token.provider) _ _ (command.Post checked) one.1 in
+        other (command.PutToken token) two.1 (λ e. absurd (cc))
     by platform (ask.Authorize a) h =
-        let same = four (is_operator config a.operator) (is_provider config a.provider) (may_act_for config platform a.operator) (has_currency config a.currency)
-        refusal.UnknownParty refusal.UnknownParty refusal.NotYours refusal.WrongCurrency (command.Authorize a) h in
-        absurd (cc)
+        let one = ensured (is_operator config a.operator) _ _ (command.Post checked) h in
+        let two = ensured (is_provider config a.provider) _ _ (command.Post checked) one.1 in
+        let three = ensured (may_act_for config platform a.operator) _ _ (command.Post checked) two.1 in
+        let four = ensured (has_currency config a.currency) _ _ (command.Post checked) three.1 in
+        other (command.Authorize a) four.1 (λ e. absurd (cc))
     by platform (ask.Release r) h =
-        let same = three (is_operator config r.operator) (is_provider config r.provider) (may_act_for config platform r.operator)
-        refusal.UnknownParty refusal.UnknownParty refusal.NotYours (command.Release r) h in
-        absurd (cc)
+        let one = ensured (is_operator config r.operator) _ _ (command.Post checked) h in
+        let two = ensured (is_provider config r.provider) _ _ (command.Post checked) one.1 in
+        let three = ensured (may_act_for config platform r.operator) _ _ (command.Post checked) two.1 in
+        other (command.Release r) three.1 (λ e. absurd (cc))
     by platform (ask.Exposure x) h =
-        let same = three (is_provider config x.provider) (may_act_for config platform x.provider) (has_currency config x.currency)
-        refusal.UnknownParty refusal.NotYours refusal.WrongCurrency (command.Exposure x) h in
-        absurd (cc)
-    by platform (ask.Post cdr) h = posted platform (checked_of config platform cdr) cdr refl h
-    by platform (ask.Close c) h = let same = one (is_hub config platform) refusal.NotYours (command.Close c) h in absurd (cc)
+        let one = ensured (is_provider config x.provider) _ _ (command.Post checked) h in
+        let two = ensured (may_act_for config platform x.provider) _ _ (command.Post checked) one.1 in
+        let three = ensured (has_currency config x.currency) _ _ (command.Post checked) two.1 in
+        other (command.Exposure x) three.1 (λ e. absurd (cc))
+    by platform (ask.Post cdr) h = posted cdr platform h
+    by platform (ask.Close c) h =
+        let one = ensured (is_hub config platform) _ _ (command.Post checked) h in
+        other (command.Close c) one.1 (λ e. absurd (cc))
     by platform (ask.Settle s) h =
-        let same = three (is_provider config s.provider) (is_hub config platform) (has_currency config s.currency)
-        refusal.UnknownParty refusal.NotYours refusal.WrongCurrency (command.Settle s) h in
-        absurd (cc)
+        let one = ensured (is_provider config s.provider) _ _ (command.Post checked) h in
+        let two = ensured (is_hub config platform) _ _ (command.Post checked) one.1 in
+        let three = ensured (has_currency config s.currency) _ _ (command.Post checked) two.1 in
+        other (command.Settle s) three.1 (λ e. absurd (cc))
     by platform (ask.Statement s) h =
-        let same = two (is_party config s.party) (may_act_for config platform s.party) refusal.UnknownParty refusal.NotYours (command.Statement s) h in
-        absurd (cc)
+        let one = ensured (is_party config s.party) _ _ (command.Post checked) h in
+        let two = ensured (may_act_for config platform s.party) _ _ (command.Post checked) one.1 in
+        other (command.Statement s) two.1 (λ e. absurd (cc))
     by platform (ask.Find f) h =
-        let same = two (is_operator config f.operator) (may_act_for config platform f.operator) refusal.UnknownParty refusal.NotYours (command.Find f) h in
-        absurd (cc)
+        let one = ensured (is_operator config f.operator) _ _ (command.Post checked) h in
+        let two = ensured (may_act_for config platform f.operator) _ _ (command.Post checked) one.1 in
+        other (command.Find f) two.1 (λ e. absurd (cc))

@@ -1,19 +1,23 @@
--- Tests in order: the first that fails gives the refusal.
+-- Tests in order: the first that fails decides why.
 use Rattle.std.specs.Prelude.{Bool, true, false, Option, Some, None, Result, Ok, Err}
-use Rattle.ocpi_types.specs.declared.refusal.Refusal.{Refusal}
 
 infixl 10 ◌>>=◌
--- the first refusal is the refusal of all
-abbrev pub ◌>>=◌ : {A B : Type 0} → Result A Refusal → (A → Result B Refusal) → Result B Refusal
+-- why the first fails is why all fail
+abbrev pub ◌>>=◌ : {A B Why : Type 0} → Result A Why → (A → Result B Why) → Result B Why
 (Ok x) >>= f = f x
-(Err refusal) >>= f = Err refusal
+(Err why) >>= f = Err why
 
--- nothing where it holds, and else the refusal
-abbrev pub ensure : Bool → Refusal → Result Unit Refusal
-ensure true refusal = Ok tt
-ensure false refusal = Err refusal
+-- nothing if it holds, and otherwise why
+abbrev pub ensure : {Why : Type 0} → Bool → Why → Result Unit Why
+ensure true why = Ok tt
+ensure false why = Err why
 
--- the value, or the refusal where there is none
-abbrev pub or_refusal : {X : Type 0} → Refusal → Option X → Result X Refusal
-or_refusal refusal None = Err refusal
-or_refusal refusal (Some x) = Ok x
+-- nothing if nothing is found, and otherwise why, by what is found
+abbrev pub unless : {X Why : Type 0} → Option X → (X → Why) → Result Unit Why
+unless None why = Ok tt
+unless (Some found) why = Err (why found)
+
+-- the value, or why if there is none
+abbrev pub or_refusal : {X Why : Type 0} → Why → Option X → Result X Why
+or_refusal why None = Err why
+or_refusal why (Some x) = Ok x

@@ -1,8 +1,12 @@
 pub mod Admission
+pub mod Asking
+pub mod Cause
 pub mod CdrAdmission
 pub mod CdrConditions
 pub mod Checked
+pub mod Conditions
 pub mod FirstRefusal
 pub mod Law
 pub mod Parties
+pub mod Place
 pub mod Tests

@@ -1,4 +1,4 @@
--- What a request is asked before it is admitted: all its tests, each with the refusal where it does not hold.
+-- The tests of a request: all conditions that it has to meet, each with the refusal if it does not.
 use Rattle.std.specs.Prelude.{◌≡◌, ℕ, ◌==◌, Bool, true, not, ◌&&◌, ◌||◌, List, [], ◌∷◌, Option, Some, None, Ok, Err, nat_le, pos, if◌then◌else◌}
 use Rattle.std.specs.List.{list_all, list_any}
 use Rattle.jiff.specs.Types.{TimeZone as PlainZone}
@@ -12,9 +12,7 @@ use Rattle.ocpi_types.specs.declared.token.Token.{Token}
 use Rattle.ocpi_types.specs.Cdr.{is_credit}
 use Rattle.ocpi_types.specs.Config.{has_currency, is_hub, is_operator, is_party, is_provider, may_act_for, operator_of}
 use Rattle.ocpi_types.specs.Refusal.{refusal_number}
-use Rattle.tariff_elements.specs.Active.{supported}
 use Rattle.cdr_rating.specs.Price.{rounded_amount}
-use Rattle.cdr_rating.specs.Pricing.{lacks_tariff}
 use Rattle.cdr_checks.specs.declared.request.Ask.{Ask}
 use Rattle.cdr_checks.specs.declared.request.Ask.TheVariants as ask
 use Rattle.cdr_checks.specs.declared.request.Authorize.{Authorize}
@@ -26,9 +24,10 @@ use Rattle.cdr_checks.specs.declared.request.Request.{Request}
 use Rattle.cdr_checks.specs.declared.request.Settlement.{Settlement}
 use Rattle.cdr_checks.specs.declared.request.StatementOf.{StatementOf}
 use Rattle.cdr_checks.specs.Admission.{admission}
-use Rattle.cdr_checks.specs.CdrConditions.{has_dates_in_order, has_energy_of_periods, has_one_currency, has_reservation, has_supported_tariffs, is_within_tolerance}
+use Rattle.cdr_checks.specs.CdrConditions.{has_energy_of_periods, is_within_tolerance}
+use Rattle.cdr_checks.specs.Conditions.{has_dates_in_order, has_no_reservation, has_one_currency, has_supported_tariffs, has_tariffs_given, is_supported}
 
--- a test, and the refusal where it does not hold
+-- a test, and the refusal if it does not hold
 pub record Test : Type 0 where
   pub holds : Bool
   pub refusal : Refusal
@@ -43,9 +42,9 @@ abbrev pub rated_tests : Config → PlainZone → Cdr → List Test
 rated_tests config zone cdr =
     test (has_one_currency cdr) WrongCurrency
     ∷ test (has_dates_in_order cdr) BadDates
-    ∷ test (not (lacks_tariff cdr)) TariffNotGiven
+    ∷ test (has_tariffs_given cdr) TariffNotGiven
     ∷ test (has_supported_tariffs cdr) UnsupportedRestriction
-    ∷ test (not (has_reservation cdr)) Reservation
+    ∷ test (has_no_reservation cdr) Reservation
     ∷ test (has_energy_of_periods cdr) EnergyMismatch
     ∷ test (nat_le (rounded_amount cdr zone) 1_000_000_000_000) AmountTooLarge
     ∷ test (is_within_tolerance config.tolerance cdr.total_cost (pos (rounded_amount cdr zone))) (CostMismatch (pos (rounded_amount cdr zone)))
@@ -71,7 +70,7 @@ put_tariff_tests config platform tariff =
     test (is_operator config tariff.operator) UnknownParty
     ∷ test (may_act_for config platform tariff.operator) NotYours
     ∷ test (has_currency config tariff.currency) WrongCurrency
-    ∷ test (supported tariff) UnsupportedRestriction
+    ∷ test (is_supported tariff) UnsupportedRestriction
     ∷ []
 
 abbrev pub put_token_tests : Config → List ℕ → Token → List Test
@@ -135,13 +134,13 @@ pub record IsFirst (asked : List Test) (refusal : Refusal) : Type 0 where
   pub fails : list_any (λ t. not t.holds && (refusal_number t.refusal == refusal_number refusal)) asked ≡ true
   pub no_smaller : list_all (λ t. t.holds || nat_le (refusal_number refusal) (refusal_number t.refusal)) asked ≡ true
 
--- where a request is admitted, all its tests hold
+-- if a request is admitted, all its tests hold
 abbrev pub AdmittedPassTheirTests : Type 0
 AdmittedPassTheirTests =
     (config : Config) (request : Request) (command : Command) → admission config request ≡ Ok command →
     list_all (λ t. t.holds) (tests config request.platform request.ask) ≡ true
 
--- where it is refused, it is by the first that does not hold, by the numbers of refusals
+-- if it is refused, it is by the first that does not hold, by the numbers of refusals
 abbrev pub RefusedByTheFirst : Type 0
 RefusedByTheFirst =
     (config : Config) (request : Request) (refusal : Refusal) → admission config request ≡ Err refusal →

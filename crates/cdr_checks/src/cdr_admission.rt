@@ -1,18 +1,21 @@
 ghost use Rattle.std.specs.Prelude.{◌≡◌, ◌≤◌, ◌^◌, pos, false, Ok, Err, IfOk, MatchResult, unsigned_abs};
 ghost use Rattle.ocpi_types.specs.Cdr.{is_credit};
 ghost use Rattle.cdr_rating.specs.Price.{price};
-ghost use Rattle.cdr_checks.specs.CdrAdmission.{checked_of, rated_cost, session_cost};
+ghost use Rattle.cdr_checks.specs.CdrAdmission.{checked_of, far_from, priced, rated_cost, session_cost, too_large};
 ghost use Rattle.cdr_checks.specs.Checked.{IsCostOf};
 
+use super::asking::{known_currency, known_provider, may_act, no_operator};
+use super::cause::{Cause, Reason};
 use super::cdr_conditions::{
-    has_dates_in_order, has_energy_of_periods, has_one_currency, has_reservation,
-    has_supported_tariffs, is_within_tolerance,
+    ensure_dates_in_order, ensure_energy_of_periods, ensure_no_reservation, ensure_one_currency,
+    ensure_supported, ensure_tariffs_given, is_within_tolerance,
 };
 use super::checked::Checked;
-use super::refusing::ensure;
-use cdr_rating::{lacks_tariff, rate};
+use super::place::Place;
+use cdr_rating::rate;
 use exact_money::Amount;
 use ocpi_json::ci_text::CiText;
+use ocpi_json::name::Name;
 use ocpi_types::{AtMost, Cdr, Config, Cost, Refusal, Shared, Zone};
 
 /// What the admission of a CDR finds beside it.
@@ -29,6 +32,26 @@ fn cost_of(amount: Amount) -> Cost
     AtMost::new(amount.ten_thousandths().unsigned_abs()).unwrap()
 }
 
+fn too_large() -> Cause
+    ensures { result ≡ too_large }
+{
+    let most = Amount::from_ten_thousandths(1_000_000_000_000);
+    Cause {
+        place: Place::at(Name::Cdr),
+        reason: Reason::AmountTooLarge { most },
+    }
+}
+
+fn far_from(cdr: &Cdr, rated: Amount) -> Cause
+    ensures { result ≡ far_from cdr.now rated }
+{
+    let declared = cdr.total_cost;
+    Cause {
+        place: Place::declared_cost(),
+        reason: Reason::FarFromRated { declared, rated },
+    }
+}
+
 fn price_of(cdr: &Cdr, zone: &Zone) -> Result<Amount, Refusal>
     requires { is_credit cdr.now ≡ false }
     ensures value { result ≡ price cdr.now zone.now }
@@ -38,56 +61,66 @@ fn price_of(cdr: &Cdr, zone: &Zone) -> Result<Amount, Refusal>
     rate(cdr, zone)
 }
 
+fn priced(cdr: &Cdr, zone: &Zone) -> Result<Amount, Cause>
+    requires { is_credit cdr.now ≡ false }
+    ensures value { result ≡ priced (price cdr.now zone.now) }
+    ensures price { IfOk result (λ amount. price cdr.now zone.now ≡ Ok amount) }
+    ensures not_negative { IfOk result (λ amount. amount ≡ pos (unsigned_abs amount)) }
+    ensures within_limit { IfOk result (λ amount. unsigned_abs amount ≤ 10 ^ 12) }
+{
+    match price_of(cdr, zone) {
+        Ok(amount) => Ok(amount),
+        Err(_) => Err(too_large()),
+    }
+}
+
 #[tactic(auto, unfolding(crate::specs::CdrAdmission::rated_cost))]
-fn rated_cost(config: &Config, zone: &Zone, cdr: &Cdr) -> Result<Cost, Refusal>
+fn rated_cost(config: &Config, zone: &Zone, cdr: &Cdr) -> Result<Cost, Cause>
     requires { is_credit cdr.now ≡ false }
     ensures value { result ≡ rated_cost config.now zone.now cdr.now }
     ensures price { IfOk result (λ cost. price cdr.now zone.now ≡ Ok (pos cost)) }
 {
-    ensure(has_one_currency(cdr), Refusal::WrongCurrency)?;
-    ensure(has_dates_in_order(cdr), Refusal::BadDates)?;
-    ensure(!lacks_tariff(cdr), Refusal::TariffNotGiven)?;
-    ensure(has_supported_tariffs(cdr), Refusal::UnsupportedRestriction)?;
-    ensure(!has_reservation(cdr), Refusal::Reservation)?;
-    ensure(has_energy_of_periods(cdr), Refusal::EnergyMismatch)?;
-    let rated = price_of(cdr, zone)?;
-    ensure(
-        is_within_tolerance(config.tolerance, cdr.total_cost, rated),
-        Refusal::CostMismatch { rated },
-    )?;
+    ensure_one_currency(cdr)?;
+    ensure_dates_in_order(cdr)?;
+    ensure_tariffs_given(cdr)?;
+    ensure_supported(cdr)?;
+    ensure_no_reservation(cdr)?;
+    ensure_energy_of_periods(cdr)?;
+    let rated = priced(cdr, zone)?;
+    if !is_within_tolerance(config.tolerance, cdr.total_cost, rated) {
+        return Err(far_from(cdr, rated));
+    }
     Ok(cost_of(rated))
 }
 
-fn session_cost(config: &Config, zone: &Zone, cdr: &Cdr) -> Result<Option<Cost>, Refusal>
+fn session_cost(config: &Config, zone: &Zone, cdr: &Cdr) -> Result<Option<Cost>, Cause>
     ensures value { result ≡ session_cost config.now zone.now cdr.now }
     ensures of_session { IfOk result (λ cost. IsCostOf cost cdr.now zone.now) }
 {
     if cdr.is_credit() {
         return Ok(None);
     }
-    let cost = rated_cost(config, zone, cdr)?;
-    Ok(Some(cost))
+    match rated_cost(config, zone, cdr) {
+        Ok(cost) => Ok(Some(cost)),
+        Err(cause) => Err(cause),
+    }
 }
 
 #[tactic(auto, unfolding(crate::specs::CdrAdmission::checked_of))]
-fn findings_of(config: &Config, platform: &CiText<36>, cdr: &Cdr) -> Result<Findings, Refusal>
+fn findings_of(config: &Config, platform: &CiText<36>, cdr: &Cdr) -> Result<Findings, Cause>
     ensures checked { MatchResult result
         (λ found. checked_of config.now platform.now cdr.now ≡ Ok (record { cdr = cdr.now; zone = found.zone; cost = found.cost }))
-        (λ refusal. checked_of config.now platform.now cdr.now ≡ Err refusal) }
+        (λ cause. checked_of config.now platform.now cdr.now ≡ Err cause) }
     ensures of_session { IfOk result (λ found. IsCostOf found.cost cdr.now found.zone) }
 {
     let Some(operator) = config.operator(&cdr.operator) else {
-        return Err(Refusal::UnknownParty);
+        return Err(no_operator(Place::at(Name::Cdr), &cdr.operator));
     };
-    ensure(
-        config.is_provider(&cdr.cdr_token.provider),
-        Refusal::UnknownParty,
-    )?;
-    ensure(
-        config.may_act_for(platform, &cdr.operator),
-        Refusal::NotYours,
-    )?;
-    ensure(config.has_currency(&cdr.currency), Refusal::WrongCurrency)?;
+    let token = Place::inside(Name::Cdr, Name::CdrToken);
+    known_provider(config, token, &cdr.cdr_token.provider)?;
+    may_act(config, platform, &cdr.operator)?;
+    let place = Place::inside(Name::Cdr, Name::Currency);
+    known_currency(config, place, &cdr.currency)?;
     let cost = session_cost(config, &operator.zone, cdr)?;
     Ok(Findings {
         zone: operator.zone.clone().unwrap(),
@@ -99,12 +132,12 @@ fn findings_of(config: &Config, platform: &CiText<36>, cdr: &Cdr) -> Result<Find
 ///
 /// # Errors
 ///
-/// The refusal of the first test that fails.
-pub fn check(config: &Config, platform: &CiText<36>, cdr: Shared<Cdr>) -> Result<Checked, Refusal>
+/// The cause of the first test that fails.
+pub fn check(config: &Config, platform: &CiText<36>, cdr: Shared<Cdr>) -> Result<Checked, Cause>
     ensures { result ≡ checked_of config.now platform.now cdr }
 {
     match findings_of(config, platform, &cdr) {
         Ok(found) => Ok(Checked::new(cdr, found.zone, found.cost)),
-        Err(refusal) => Err(refusal),
+        Err(cause) => Err(cause),
     }
 }

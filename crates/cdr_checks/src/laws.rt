@@ -1,6 +1,6 @@
 //! What follows from the definitions.
 
-ghost use Rattle.cdr_checks.specs.Law.{PostsAreChecked};
+ghost use Rattle.cdr_checks.specs.Law.{FirstsAreFound, PostsAreChecked};
 ghost use Rattle.cdr_checks.specs.Parties.{CommandsHaveParties};
 ghost use Rattle.cdr_checks.specs.Tests.{AdmittedPassTheirTests, RefusedByTheFirst};
 
@@ -23,4 +23,9 @@ pub fn refused_by_the_first()
 /// The operator and the provider whose book and account an admitted command looks into are configured.
 pub fn commands_have_parties()
     ensures { CommandsHaveParties }
+{}
+
+/// What is found of the tariffs, the charging periods and the volumes of a CDR is the first there.
+pub fn firsts_are_found()
+    ensures { FirstsAreFound }
 {}

@@ -16,6 +16,6 @@ pub use laws::{
 pub use measure::up_to_step;
 pub use ocpi_types::Zone;
 pub use price::{first_tariff, rate};
-pub use pricing::lacks_tariff;
+pub use pricing::{lacks_its_tariff, lacks_tariff};
 pub use tally::Priced;
 pub use volumes::{energy_of, volume_in};

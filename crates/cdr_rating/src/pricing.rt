@@ -36,7 +36,8 @@ pub(crate) fn tariff_of<'a>(cdr: &'a Cdr, period: &ChargingPeriod) -> Option<&'a
     }
 }
 
-fn lacks_its_tariff(cdr: &Cdr, period: &ChargingPeriod) -> bool
+/// The period names a tariff that the CDR does not have.
+pub fn lacks_its_tariff(cdr: &Cdr, period: &ChargingPeriod) -> bool
     ensures { result ≡ lacks_its_tariff cdr.now period.now }
 {
     period.tariff_id.is_some() && tariff_of(cdr, period).is_none()

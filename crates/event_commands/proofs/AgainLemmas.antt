@@ -5,7 +5,7 @@ use Rattle.cdr_checks.specs.declared.request.Ask.{Ask}
 use Rattle.cdr_checks.specs.declared.request.Ask.TheVariants as ask
 use Rattle.cdr_checks.specs.declared.request.Command.{Command}
 use Rattle.cdr_checks.specs.declared.request.Request.{Request}
-use Rattle.cdr_checks.specs.Admission.{IsAdmitted, admission, ask_admission}
+use Rattle.cdr_checks.specs.Admission.{IsAdmitted, admission}
 use Rattle.plain_house.specs.declared.event.Event.{Event}
 use Rattle.plain_house.specs.declared.event.Event.TheVariants as event
 use Rattle.event_commands.specs.AskedAgain.{AskedAgainIsGiven, ask_again, has_right}
@@ -27,14 +27,15 @@ its_ask (event.Settled settlement) done asked is again = ap asked_as is ∙ (cc)
 its_ask (event.Closed period) done asked is again = ap asked_as is ∙ (cc)
 
 pub asked_again : CommandsAreDetermined → AskedAgainIsGiven
-unfolding IsAdmitted admission
+unfolding IsAdmitted
 asked_again determined config known e asked is given =
     let done = given.0 in
     let request : Request = given.1.0 in
-    let found : IsOf config request.ask request.platform done = of_asked config request.platform request.ask done given.1.1 in
+    let found : IsOf config request.ask request.platform done = of_asked config request done given.1.1 in
     let same : request.ask ≡ asked = found.0 ∙ its_ask e done asked (determined config known done e given.2) is in
     let right : has_right config asked request.platform ≡ true = subst (λ (a : Ask). has_right config a request.platform ≡ true) same found.1 in
-    let its : ask_admission config request.platform asked ≡ Ok done = subst (λ (a : Ask). ask_admission config request.platform a ≡ Ok done) same given.1.1 in
+    let its : admission config (record { platform = request.platform; ask = asked }) ≡ Ok done =
+    subst (λ (a : Ask). admission config (record { platform = request.platform; ask = a }) ≡ Ok done) same given.1.1 in
     record {
       some_platform = request.platform;
       its_right = right;

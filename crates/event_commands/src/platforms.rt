@@ -98,6 +98,7 @@ impl Platforms {
 }
 
 // Returns the command of this request from a platform with the right, and `None` if it is admitted from no platform.
+#[tactic(auto, unfolding(cdr_checks::specs::Admission::admission))]
 fn admitted_by(config: &Config, platform: CiText<36>, asked: Ask) -> Option<Command>
     requires { has_right config.now asked platform ≡ true }
     ensures some { IfSome result (λ command. admission config.now (record { platform = platform; ask = asked }) ≡ Ok command) }

@@ -1,17 +1,12 @@
 pub mod Added
 pub mod Bookings
 pub mod Credits
-pub mod Currencies
-pub mod Dates
 pub mod Holds
 pub mod Inner
-pub mod Parties
-pub mod Rights
 pub mod Rows
 pub mod Settled
 pub mod StreamRows
 pub mod Table
-pub mod Tariffs
 pub mod Tokens
 pub mod TurnedDown
 pub mod Versions

@@ -3,7 +3,7 @@
 ghost use Rattle.std.specs.Prelude.{◌≡◌, ◌↔◌, false};
 
 mod added;
-mod asked;
+mod causes;
 mod explainer;
 mod explaining;
 mod happened;

@@ -17,12 +17,13 @@ ghost use Rattle.line_streams.specs.Inner.Base.{base_of};
 use crate::asked::{Asked, Change};
 use crate::in_force::{InForce, judges_commands};
 use crate::reply::StreamReply;
-use cdr_checks::{Request, admit};
+use cdr_checks::Request;
 use house_statements::event_name;
 use new_configuration::{TakeOverFault, house_of, loosened};
 use ocpi_types::{Config, Refusal, Shared, TryCopy};
 use period_order::BookHouse;
 use plain_house::{Event, Refused, Replied, is_out_of_memory};
+use request_lines::admitted;
 use std::alloc::{AllocError, Global};
 
 /// Returns the reply to a request.
@@ -38,7 +39,7 @@ fn reply_to_request(
     ensures unchanged { is_no_memory result ≡ true → house.new.events ≡ house.old.events }
 {
     judges_commands(in_force, house);
-    match admit(&in_force.config, request) {
+    match admitted(&in_force.config, request) {
         Ok(command) => house.do_command_under(&in_force.config, command),
         Err(refusal) => Err(Refused { at: None, refusal }),
     }

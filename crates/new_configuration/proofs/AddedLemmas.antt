@@ -55,10 +55,9 @@ is_added config events done e now admitted h is = record { given = (done, admitt
 pub asked_otherwise : (config its_config : Config) → its_config ≡ config → (events : List Event) (e : Event) (asked : Ask) (done : Command)
     → ((platform : List ℕ) × (admission config (record { platform = platform; ask = asked }) ≡ Ok done))
     → (added : Bool) → (added ≡ true) ↔ ((verdict its_config (known events) done).event ≡ Some e) → added ≡ false → IsAskedAgain config (known events) e asked → ⊥
-unfolding admission
 asked_otherwise config its_config is events e asked done some added iff false_is again =
     let platform : List ℕ = some.0 in
-    let right : has_right config asked platform ≡ true = (of_asked config platform asked done some.1).1 in
+    let right : has_right config asked platform ≡ true = (of_asked config (record { platform = platform; ask = asked }) done some.1).1 in
     let by_this : IsAskedBy config (known events) e asked platform = again.by_each platform right in
     let both : Ok by_this.command ≡ Ok done = sym by_this.admitted ∙ some.1 in
     let one : by_this.command ≡ done = cc in

@@ -5,14 +5,15 @@ use Rattle.ocpi_types.specs.declared.refusal.Refusal.{Refusal}
 use Rattle.ocpi_types.specs.declared.refusal.Store.{Store}
 use Rattle.ocpi_types.specs.declared.refusal.Store.TheVariants as store
 use Rattle.ocpi_types.specs.declared.token.TokenKind.{TokenKind}
-use Rattle.cdr_checks.specs.Admission.{IsAdmitted, admission, ask_admission}
+use Rattle.cdr_checks.specs.Admission.{IsAdmitted, admission}
 use Rattle.cdr_checks.specs.declared.request.Ask.{Ask}
 use Rattle.cdr_checks.specs.declared.request.Command.{Command}
 use Rattle.plain_house.specs.declared.event.Event.{Event}
 use Rattle.plain_house.specs.declared.event.Event.TheVariants as event
 use Rattle.plain_house.specs.declared.event.Hold.{Hold}
+use Rattle.plain_house.specs.declared.over_limit.OverLimit.{OverLimit}
 use Rattle.plain_house.specs.Full.{first_full, is_account_full, is_order_full}
-use Rattle.plain_house.specs.House.{allows, full_for, hold_for, lacks_credit, unless_covered, unless_valid, verdict}
+use Rattle.plain_house.specs.House.{allows, full_for, hold_for, over_credit, unless_covered, unless_valid, verdict}
 use Rattle.plain_house.specs.Known.{Known, known}
 use Rattle.plain_house.specs.Tokens.{validity}
 use Rattle.plain_house.specs.Verdict.{Verdict, refused_at, unless}
@@ -26,15 +27,15 @@ use Rattle.new_configuration.proofs.AddedLemmas.{is_added}
 
 -- ---- replies
 
-not_invalid : (full : Option Store) (lacks : Bool) (hold : Hold) → is_of_invalid (unless (refused_at full ∷ unless_covered lacks ∷ []) (allows hold)).reply ≡ false
-not_invalid None true hold = refl
-not_invalid None false hold = refl
-not_invalid (Some what) lacks hold = refl
+not_invalid : (full : Option Store) (found : Option OverLimit) (hold : Hold) → is_of_invalid (unless (refused_at full ∷ unless_covered found ∷ []) (allows hold)).reply ≡ false
+not_invalid None None hold = refl
+not_invalid None (Some over) hold = refl
+not_invalid (Some what) found hold = refl
 
 module _ (config : Config) (now : Known) (hold : Hold) (uid : List ℕ) (its : TokenKind) where
   abbrev tested : Option Bool → Verdict
   tested v =
-      unless (unless_valid v ∷ full_for config now hold.provider ∷ unless_covered (lacks_credit config (authorize_of hold uid its) now.account) ∷ [])
+      unless (unless_valid v ∷ full_for config now hold.provider ∷ unless_covered (over_credit config (authorize_of hold uid its) now.account) ∷ [])
       (allows (hold_for config (authorize_of hold uid its) now.account))
 
   abbrev Rejects : Bool → Type 0
@@ -52,7 +53,7 @@ module _ (config : Config) (now : Known) (hold : Hold) (uid : List ℕ) (its : T
   not_valid_of h valid =
       let other : is_of_invalid (tested (Some true)).reply ≡ false =
       not_invalid (first_full ((store.Account, is_account_full config hold.provider now.account) ∷ (store.Order, is_order_full config now.point) ∷ []))
-      (lacks_credit config (authorize_of hold uid its) now.account) (hold_for config (authorize_of hold uid its) now.account) in
+      (over_credit config (authorize_of hold uid its) now.account) (hold_for config (authorize_of hold uid its) now.account) in
       let one : is_of_invalid (tested (Some true)).reply ≡ true = ap (λ (v : Option Bool). is_of_invalid (tested v).reply) (sym valid) ∙ h in
       cc
 
@@ -67,22 +68,20 @@ module _ (config : Config) (events : List Event) (hold : Hold) (uid : List ℕ) 
 
   token_ends : (platform : List ℕ) (done : Command) → IsAdmittedFrom platform done → IsAdmitted config done
       → (now : List Event) (a : Attempt) → EndsIn config events done (event.Authorised hold) now a → TokenEndsIn config events hold uid its now a
-  unfolding admission
   token_ends platform done h admitted now attempt.Added ends = is_added config events done (event.Authorised hold) now admitted ends.0 ends.1
   token_ends platform done h admitted now attempt.Otherwise ends = λ again.
-      let is : done ≡ command_of hold uid its = same_command done (command_of hold uid its) (ask_admission config platform (hold_ask hold uid its)) h (any_token config platform hold uid uid its its done h) in
+      let is : done ≡ command_of hold uid its = same_command done (command_of hold uid its) _ h (any_token config platform hold uid uid its its done h) in
       let accepts : is_of_invalid (verdict config (known events) (command_of hold uid its)).reply ≡ false =
       subst (λ (t : Command). is_of_invalid (verdict config (known events) t).reply ≡ false) is ends.1 in
-      let right : has_right config (hold_ask hold uid its) platform ≡ true = (of_asked config platform (hold_ask hold uid its) done h).1 in
+      let right : has_right config (hold_ask hold uid its) platform ≡ true = (of_asked config (record { platform = platform; ask = hold_ask hold uid its }) done h).1 in
       let asked : IsAskedBy config (known events) (event.Authorised hold) (hold_ask hold uid its) platform = again.by_each uid its platform (valid_of config (known events) hold uid its accepts) right in
-      let same : asked.command ≡ done = same_command asked.command done (ask_admission config platform (hold_ask hold uid its)) asked.admitted h in
+      let same : asked.command ≡ done = same_command asked.command done _ asked.admitted h in
       ends.0 (subst (λ (t : Command). (verdict config (known events) t).event ≡ Some (event.Authorised hold)) same asked.adds)
   token_ends platform done h admitted now attempt.InvalidToken ends =
-      let is : done ≡ command_of hold uid its = same_command done (command_of hold uid its) (ask_admission config platform (hold_ask hold uid its)) h (any_token config platform hold uid uid its its done h) in
+      let is : done ≡ command_of hold uid its = same_command done (command_of hold uid its) _ h (any_token config platform hold uid uid its its done h) in
       (not_valid_of config (known events) hold uid its (subst (λ (t : Command). is_of_invalid (verdict config (known events) t).reply ≡ true) is ends.0), ends.1)
 
   none_ends : ((platform : List ℕ) (done : Command) → IsAdmittedFrom platform done → ⊥) → IsHeldAgain config (known events) hold → ⊥
-  unfolding admission
   none_ends none again =
       let asked : IsAskedBy config (known events) (event.Authorised hold) (hold_ask hold again.some_uid again.some_kind) again.some_platform =
       again.by_each again.some_uid again.some_kind again.some_platform again.its_token again.its_right in

@@ -1,5 +1,5 @@
 -- What a command adds under a configuration, it adds under the loosest one beside it.
-use Rattle.std.proofs.Common.{◌≡◌, ◌≤◌, ◌<◌, ◌+◌, ℕ, ℤ, pos, neg_ℤ, List, [], ◌∷◌, ◌++◌, Bool, true, false, not, ◌&&◌, ◌||◌, int_le, nat_le, nat_lt, count_by, arith, refl, ap, ap₂, ◌∙◌, Option, None, Some, Result, Ok, Err, if◌then◌else◌, max, ◌^◌}
+use Rattle.std.proofs.Common.{◌≡◌, ◌≤◌, ◌<◌, ◌+◌, ℕ, ℤ, pos, neg_ℤ, List, [], ◌∷◌, ◌++◌, Bool, true, false, not, ◌&&◌, int_le, nat_le, nat_lt, count_by, arith, refl, ap, ap₂, ◌∙◌, Option, None, Some, Result, Ok, Err, if◌then◌else◌, max, ◌^◌}
 use Rattle.std.specs.Option.{option_or}
 use Rattle.std.proofs.lemmas.Bool.{leb-false, lt-leb, ltb-false, ltb-true}
 use Rattle.std.proofs.Math.Nat.{le-max_left}
@@ -26,12 +26,14 @@ use Rattle.plain_house.specs.declared.entry.AccountEntry.TheVariants as account
 use Rattle.plain_house.specs.declared.event.Event.{Event}
 use Rattle.plain_house.specs.declared.event.Event.TheVariants as event
 use Rattle.plain_house.specs.declared.event.Hold.{Hold}
+use Rattle.plain_house.specs.declared.over_limit.OverLimit.{OverLimit}
 use Rattle.plain_house.specs.Booked.{Booked, booked_as, is_credited}
 use Rattle.plain_house.specs.Entries.{charge_of}
 use Rattle.plain_house.specs.Exposure.{exposure_of, of_pair, of_provider, released_hold}
 use Rattle.plain_house.specs.Full.{are_cdrs_full, are_periods_full, are_versions_full, first_full, is_account_full, is_order_full}
-use Rattle.plain_house.specs.House.{allows, credit_taken, full_for, full_for_cdr, hold_for, is_hold_of, lacks_credit, passes, positions_in, post_of, reference_text, release_of, stored_already, unless_covered, unless_current, unless_open, unless_settled, unless_valid, verdict}
+use Rattle.plain_house.specs.House.{allows, credit_taken, full_for, full_for_cdr, hold_for, is_hold_of, over_credit, positions_in, post_of, reference_text, release_of, stored_already, unless_covered, unless_current, unless_open, unless_settled, unless_valid, verdict}
 use Rattle.plain_house.specs.Known.{Known}
+use Rattle.plain_house.specs.OverLimit.{over, over_if_any}
 use Rattle.plain_house.specs.Posting.{above, above_if_any, booked_already, credited_amount, is_in_window, meets_original, original_of, over_limit, taken_back, unless_registered}
 use Rattle.plain_house.specs.Settlements.{is_settled}
 use Rattle.plain_house.specs.Tariffs.{lacks_registered, stored_version}
@@ -91,25 +93,21 @@ within limit amount h = by (nat_lt limit amount) refl
 still_within : (lower limit amount : ℕ) → lower ≤ limit → nat_lt lower amount ≡ false → nat_lt limit amount ≡ false
 still_within lower limit amount h e = within limit amount (let most = ltb-false lower amount e in omega arith)
 
-first_false : (a b : Bool) → (a || b) ≡ false → a ≡ false
-first_false true b h = absurd (cc)
-first_false false b h = refl
+is_covered : (found : Option OverLimit) → unless_covered found ≡ None → found ≡ None
+is_covered None h = refl
+is_covered (Some over) h = absurd (cc)
 
-is_covered : (lacks : Bool) → unless_covered lacks ≡ None → lacks ≡ false
-is_covered true h = absurd (cc)
-is_covered false h = refl
+test_fails : {X : Type 0} (x : X) (b : Bool) → (if b then Some x else None) ≡ None → b ≡ false
+test_fails x true h = absurd (cc)
+test_fails x false h = refl
 
-not_above : (limit amount : ℕ) (pair : Bool) → above limit amount pair ≡ None → nat_lt limit amount ≡ false
-not_above limit amount pair h = by (nat_lt limit amount) h
-  where
-    by : (b : Bool) → (if b then Some (refusal.OverLimit (pos amount) (pos limit) pair) else None) ≡ None → b ≡ false
-    by true g = absurd (cc)
-    by false g = refl
+-- an amount that is not above a limit is not above a higher limit
+still_none : {X : Type 0} (x y : X) (lower limit amount : ℕ) → lower ≤ limit
+    → (if nat_lt lower amount then Some x else None) ≡ None → (if nat_lt limit amount then Some y else None) ≡ None
+still_none x y lower limit amount h e =
+    ap (λ (b : Bool). if b then Some y else None) (still_within lower limit amount h (test_fails x (nat_lt lower amount) e))
 
-none_above : (limit amount : ℕ) (pair : Bool) → nat_lt limit amount ≡ false → above limit amount pair ≡ None
-none_above limit amount pair h = ap (λ (b : Bool). if b then Some (refusal.OverLimit (pos amount) (pos limit) pair) else None) h
-
-first_none : (a b : Option Refusal) → option_or a b ≡ None → a ≡ None
+first_none : {X : Type 0} (a b : Option X) → option_or a b ≡ None → a ≡ None
 first_none None b h = refl
 first_none (Some x) b h = absurd (cc)
 
@@ -145,24 +143,23 @@ module _ (config : Config) (now : Known) where
       }
 
   -- the loosest configuration has no pair limits
-  has_credit : (ask : Authorize) → lacks_credit config ask now.account ≡ false → lacks_credit loose ask now.account ≡ false
+  has_credit : (ask : Authorize) → over_credit config ask now.account ≡ None → over_credit loose ask now.account ≡ None
   has_credit ask h =
       let exposure = exposure_of (of_provider ask.provider ask.currency) now.account in
-      let held : hold_of loose ask.provider ask.currency ≡ hold_of config ask.provider ask.currency = same_hold config ask.provider ask.currency in
-      let lower : nat_lt (limit_of config ask.provider ask.currency) (exposure + hold_of config ask.provider ask.currency) ≡ false =
-      first_false (nat_lt (limit_of config ask.provider ask.currency) (exposure + hold_of config ask.provider ask.currency))
-      (passes (pair_limit_of config ask.operator ask.provider ask.currency) (exposure_of (of_pair ask.operator ask.provider ask.currency) now.account + hold_of config ask.provider ask.currency)) h in
-      ap (λ (b : Bool). b || false)
-      (ap (λ (n : ℕ). nat_lt (limit_of loose ask.provider ask.currency) (exposure + n)) held
-      ∙ still_within (limit_of config ask.provider ask.currency) (limit_of loose ask.provider ask.currency) (exposure + hold_of config ask.provider ask.currency)
+      let pair = exposure_of (of_pair ask.operator ask.provider ask.currency) now.account in
+      let hold = hold_of config ask.provider ask.currency in
+      let lower = first_none (over (limit_of config ask.provider ask.currency) (exposure + hold) false) (over_if_any (pair_limit_of config ask.operator ask.provider ask.currency) (pair + hold)) h in
+      ap (λ (o : Option OverLimit). option_or o None)
+      (ap (λ (n : ℕ). over (limit_of loose ask.provider ask.currency) (exposure + n) false) (same_hold config ask.provider ask.currency)
+      ∙ still_none _ _ (limit_of config ask.provider ask.currency) (limit_of loose ask.provider ask.currency) (exposure + hold)
       (higher_limit config ask.provider ask.currency) lower)
 
   authorized_wider : (ask : Authorize) (e : Event) → (verdict config now (command.Authorize ask)).event ≡ Some e → (verdict loose now (command.Authorize ask)).event ≡ Some e
   authorized_wider ask e h =
       ap (λ (hold : Hold). (unless cases (allows hold)).event) (hold_is ask)
-      ∙ still_added (unless_valid valid ∷ full_for config now ask.provider ∷ unless_covered (lacks_credit config ask now.account) ∷ []) cases
+      ∙ still_added (unless_valid valid ∷ full_for config now ask.provider ∷ unless_covered (over_credit config ask now.account) ∷ []) cases
       (answer.Allowed hold.reference) (answer.Allowed hold.reference) (event.Authorised hold) e
-      (λ none. (none.0, (room_for ask.provider none.1.0, (ap unless_covered (has_credit ask (is_covered (lacks_credit config ask now.account) none.1.1.0)), tt)))) h
+      (λ none. (none.0, (room_for ask.provider none.1.0, (ap unless_covered (has_credit ask (is_covered (over_credit config ask now.account) none.1.1.0)), tt)))) h
     where
       valid : Option Bool
       valid = validity ask.provider ask.uid ask.kind now.account
@@ -171,7 +168,7 @@ module _ (config : Config) (now : Known) where
       hold = hold_for config ask now.account
 
       cases : List Case
-      cases = unless_valid valid ∷ full_for loose now ask.provider ∷ unless_covered (lacks_credit loose ask now.account) ∷ []
+      cases = unless_valid valid ∷ full_for loose now ask.provider ∷ unless_covered (over_credit loose ask now.account) ∷ []
 
   released_wider : (release : Release) (hold : Option Hold) (e : Event) → (release_of config now release hold).event ≡ Some e → (release_of loose now release hold).event ≡ Some e
   released_wider release None e h = h
@@ -188,9 +185,7 @@ module _ (config : Config) (now : Known) where
       let pair = exposure_of (of_pair cdr.operator provider cdr.currency) (now.account ++ account.Charge (charge_of cdr cost now.period) ∷ []) in
       let lower = first_none (above (limit_of config provider cdr.currency) exposure false) (above_if_any (pair_limit_of config cdr.operator provider cdr.currency) pair) h in
       ap (λ (o : Option Refusal). option_or o None)
-      (none_above (limit_of loose provider cdr.currency) exposure false
-      (still_within (limit_of config provider cdr.currency) (limit_of loose provider cdr.currency) exposure (higher_limit config provider cdr.currency)
-      (not_above (limit_of config provider cdr.currency) exposure false lower)))
+      (still_none _ _ (limit_of config provider cdr.currency) (limit_of loose provider cdr.currency) exposure (higher_limit config provider cdr.currency) lower)
 
   -- a tolerance is asked last
   asked_last : (a b c : Bool) → (b ≡ true → c ≡ true) → (a && b) ≡ true → (a && c) ≡ true
@@ -212,8 +207,8 @@ module _ (config : Config) (now : Known) where
       taken original credited g =
           goes_on (ensure (not (is_credit original.cdr)) refusal.CreditOfCredit) _ _ amount (λ _ _.
           goes_on (ensure (not credited) refusal.AlreadyCredited) _ _ amount (λ _ _.
-          allowed (is_in_window config.credit_window original.period now.period) true (refusal.TooLate original.period now.period) _ _ amount (λ _. refl) (λ _.
-          allowed (meets_original config credit original) (meets_original loose credit original) refusal.CreditDiffers _ _ amount (meets original) (λ _ k. k)))) g
+          allowed (is_in_window config.credit_window original.period now.period) true _ (refusal.TooLate original.period now.period) _ _ amount (λ _. refl) (λ _.
+          allowed (meets_original config credit original) (meets_original loose credit original) _ _ _ _ amount (meets original) (λ _ k. k)))) g
 
   credit_wider : (credit : Cdr) (e : Event) → (post_of config now credit None).event ≡ Some e → (post_of loose now credit None).event ≡ Some e
   credit_wider credit e h =

@@ -22,11 +22,12 @@ use Rattle.plain_house.specs.declared.entry.BookEntry.{BookEntry}
 use Rattle.plain_house.specs.declared.event.Event.{Event}
 use Rattle.plain_house.specs.declared.event.Event.TheVariants as event
 use Rattle.plain_house.specs.declared.event.Hold.{Hold}
+use Rattle.plain_house.specs.declared.over_limit.OverLimit.{OverLimit}
 use Rattle.plain_house.specs.Booked.{Booked, booked_as}
 use Rattle.plain_house.specs.Entries.{account_entries, book_entries, charge_of, period_of}
 use Rattle.plain_house.specs.Exposure.{released_hold}
 use Rattle.plain_house.specs.Full.{are_periods_full, are_versions_full, first_full, is_order_full}
-use Rattle.plain_house.specs.House.{credit_taken, found_of, full_for, full_for_cdr, hold_for, lacks_credit, positions_in, post_of, release_of, stored_already, unless_covered, unless_current, unless_open, unless_settled, unless_valid, verdict}
+use Rattle.plain_house.specs.House.{credit_taken, found_of, full_for, full_for_cdr, hold_for, over_credit, positions_in, post_of, release_of, stored_already, unless_covered, unless_current, unless_open, unless_settled, unless_valid, verdict}
 use Rattle.plain_house.specs.Known.{Known, known}
 use Rattle.plain_house.specs.Legal.{IsGiven}
 use Rattle.plain_house.specs.Obligations.{obligations}
@@ -64,9 +65,9 @@ none_stored : (tariff : Tariff) (stored : Option Tariff) → stored_already tari
 none_stored tariff None h = refl
 none_stored tariff (Some stored) h = absurd (cc)
 
-covered : (lacks : Bool) → unless_covered lacks ≡ None → lacks ≡ false
-covered true h = absurd (cc)
-covered false h = refl
+covered : (over : Option OverLimit) → unless_covered over ≡ None → over ≡ None
+covered None h = refl
+covered (Some over) h = absurd (cc)
 
 none_refused : (refusal : Option Refusal) → refused_for refusal ≡ None → refusal ≡ None
 none_refused None h = refl
@@ -133,15 +134,15 @@ module _ (config : Config) (known : Known) where
   is_owed (command.Authorize ask) e h =
       let valid : Case = unless_valid (validity ask.provider ask.uid ask.kind known.account) in
       let full : Case = full_for config known ask.provider in
-      let lacks : Bool = lacks_credit config ask known.account in
+      let over : Option OverLimit = over_credit config ask known.account in
       let hold : Hold = hold_for config ask known.account in
-      accepted (valid ∷ full ∷ unless_covered lacks ∷ []) (answer.Allowed hold.reference) (event.Authorised hold) e h
+      accepted (valid ∷ full ∷ unless_covered over ∷ []) (answer.Allowed hold.reference) (event.Authorised hold) e h
       (λ none. record {
         book = tt;
         account =
-            let behind_valid = (none_of valid (full ∷ unless_covered lacks ∷ []) none).1 in
-            let behind_full = (none_of full (unless_covered lacks ∷ []) behind_valid).1 in
-            (covered lacks (none_of (unless_covered lacks) [] behind_full).0, refl);
+            let behind_valid = (none_of valid (full ∷ unless_covered over ∷ []) none).1 in
+            let behind_full = (none_of full (unless_covered over ∷ []) behind_valid).1 in
+            (covered over (none_of (unless_covered over) [] behind_full).0, refl);
       })
   is_owed (command.Release release) e h = released release (released_hold known.account release) e h
   is_owed (command.Post checked) e h = posted checked.cdr checked.cost e h

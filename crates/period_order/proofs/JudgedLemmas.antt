@@ -1,5 +1,5 @@
 -- A verdict under any configuration on a list that is legal: the entries of the command's own operator and provider decide it.
-use Rattle.std.proofs.Common.{◌≡◌, ℕ, ℤ, ◌+◌, pos, length, List, [], ◌∷◌, ◌++◌, Bool, true, false, cond, ◌||◌, refl, sym, ap, ap₂, ◌∙◌, Option, None, Some, Result, Ok, Err, nat_le, nat_lt}
+use Rattle.std.proofs.Common.{◌≡◌, ℕ, ℤ, ◌+◌, pos, length, List, [], ◌∷◌, ◌++◌, Bool, true, false, cond, refl, sym, ap, ap₂, ◌∙◌, Option, None, Some, Result, Ok, Err, nat_le}
 use Rattle.std.specs.Option.{option_or}
 use Rattle.std.proofs.lemmas.List.Elements.{filter-append}
 use Rattle.ocpi_types.specs.declared.cdr.Cdr.{Cdr}
@@ -22,15 +22,17 @@ use Rattle.plain_house.specs.declared.entry.Charge.{Charge}
 use Rattle.plain_house.specs.declared.event.Event.{Event}
 use Rattle.plain_house.specs.declared.event.Event.TheVariants as event
 use Rattle.plain_house.specs.declared.event.Hold.{Hold}
+use Rattle.plain_house.specs.declared.over_limit.OverLimit.{OverLimit}
 use Rattle.plain_house.specs.declared.scope.Scope.{Scope}
 use Rattle.plain_house.specs.Booked.{Booked, booked_as}
 use Rattle.plain_house.specs.Entries.{account_entries, book_entries, charge_of, period_of}
 use Rattle.plain_house.specs.Exposure.{exposure_of, of_pair, of_provider, released_hold}
 use Rattle.plain_house.specs.Full.{first_full, is_account_full, is_entry_of, is_order_full, own_entries}
-use Rattle.plain_house.specs.House.{allows, credit_posted, credit_taken, exposed, found_of, hold_for, is_hold_of, lacks_credit, passes, post_of, provider_as_configured, reference_text, release_of, stored_already, unless_covered, unless_open, unless_settled, unless_valid, verdict}
+use Rattle.plain_house.specs.House.{allows, credit_posted, credit_taken, exposed, found_of, hold_for, is_hold_of, over_credit, post_of, provider_as_configured, reference_text, release_of, stored_already, unless_covered, unless_open, unless_settled, unless_valid, verdict}
 use Rattle.plain_house.specs.Known.{Known, known}
 use Rattle.plain_house.specs.Legal.{IsLegal}
 use Rattle.plain_house.specs.Own.{AccountsAreOfOwnEntries, BooksAreOfOwnEntries, ExposureIsOfOwnEntries, ExposureWithChargeIsOfOwnEntries, IsOfOwnAccount, IsOfOwnBook, own_account, own_book, own_known}
+use Rattle.plain_house.specs.OverLimit.{over, over_if_any}
 use Rattle.plain_house.specs.Posting.{above, above_if_any, booked_already, credited_amount, over_limit, unless_registered}
 use Rattle.plain_house.specs.Settlements.{is_settled, settled_debt}
 use Rattle.plain_house.specs.Tokens.{validity}
@@ -62,11 +64,11 @@ module _ (books : BooksAreOfOwnEntries) (accounts : AccountsAreOfOwnEntries) (ex
 
   -- ---- authorisations and exposures
 
-  lacks : (ask : Authorize) → lacks_credit config ask (own_account ask.provider events) ≡ lacks_credit config ask (account_entries events)
-  lacks ask =
+  credit : (ask : Authorize) → over_credit config ask (own_account ask.provider events) ≡ over_credit config ask (account_entries events)
+  credit ask =
       ap₂ (λ exposure pair.
-      nat_lt (limit_of config ask.provider ask.currency) (exposure + hold_of config ask.provider ask.currency)
-      || passes (pair_limit_of config ask.operator ask.provider ask.currency) (pair + hold_of config ask.provider ask.currency))
+      option_or (over (limit_of config ask.provider ask.currency) (exposure + hold_of config ask.provider ask.currency) false)
+      (over_if_any (pair_limit_of config ask.operator ask.provider ask.currency) (pair + hold_of config ask.provider ask.currency)))
       (exposures base events (of_provider ask.provider ask.currency) legal).exposure (exposures base events (of_pair ask.operator ask.provider ask.currency) legal).exposure
 
   holds : (ask : Authorize) → hold_for config ask (own_account ask.provider events) ≡ hold_for config ask (account_entries events)
@@ -75,9 +77,9 @@ module _ (books : BooksAreOfOwnEntries) (accounts : AccountsAreOfOwnEntries) (ex
       ap (λ n. hold (reference_text (provider_as_configured config ask.provider) (n + 1)))
       (count_kept (is_hold_of ask.provider) (is_entry_of ask.provider) (hold_is_entry ask.provider) (account_entries events))
 
-  abbrev authorized_by : Option Bool → Bool → Bool → Hold → Verdict
-  authorized_by valid is_full lacks hold =
-      unless (unless_valid valid ∷ room_at is_full ∷ unless_covered lacks ∷ []) (allows hold)
+  abbrev authorized_by : Option Bool → Bool → Option OverLimit → Hold → Verdict
+  authorized_by valid is_full over hold =
+      unless (unless_valid valid ∷ room_at is_full ∷ unless_covered over ∷ []) (allows hold)
 
   exposes : (ask : ExposureOf) → exposed config ask (own_account ask.provider events) ≡ exposed config ask (account_entries events)
   exposes ask =
@@ -102,8 +104,8 @@ module _ (books : BooksAreOfOwnEntries) (accounts : AccountsAreOfOwnEntries) (ex
         ap (exposure_of scope) (sym charge_behind ∙ ap (λ (p : Party). own_entries p (account_entries events ++ account.Charge added ∷ [])) (sym same))
         ∙ (charges base events scope cdr cost legal unknown).exposure
 
-    over : over_limit config added (own_entries added.provider (account_entries events)) ≡ over_limit config added (account_entries events)
-    over =
+    over_of_own : over_limit config added (own_entries added.provider (account_entries events)) ≡ over_limit config added (account_entries events)
+    over_of_own =
         ap₂ (λ exposure pair.
         option_or (above (limit_of config added.provider added.currency) exposure false)
         (above_if_any (pair_limit_of config added.operator added.provider added.currency) pair))
@@ -147,7 +149,7 @@ module _ (books : BooksAreOfOwnEntries) (accounts : AccountsAreOfOwnEntries) (ex
     same_post None = same_credit
     same_post (Some cost) =
         rw (book.booked cdr.id, book.registered cdr (party_itself cdr.operator), book.cdrs_full config, full cdr.cdr_token.provider)
-        (same_over cost _ _ _ _ _ (booked_as cdr.operator cdr.id (book_entries events)) (λ unknown. over cdr cost unknown))
+        (same_over cost _ _ _ _ _ (booked_as cdr.operator cdr.id (book_entries events)) (λ unknown. over_of_own cdr cost unknown))
 
   -- ---- the other commands
 
@@ -177,10 +179,10 @@ module _ (books : BooksAreOfOwnEntries) (accounts : AccountsAreOfOwnEntries) (ex
   by_own (command.PutToken token) =
       ap (λ is_full. unless (room_at is_full ∷ []) (accepts answer.Stored (event.Token token))) (full token.provider)
   by_own (command.Authorize ask) =
-      ap₂ (λ valid is_full. authorized_by valid is_full (lacks_credit config ask (own_account ask.provider events)) (hold_for config ask (own_account ask.provider events)))
+      ap₂ (λ valid is_full. authorized_by valid is_full (over_credit config ask (own_account ask.provider events)) (hold_for config ask (own_account ask.provider events)))
       ((its ask.provider).valid ask.provider ask.uid ask.kind (party_itself ask.provider)) (full ask.provider)
-      ∙ ap₂ (λ lacks hold. authorized_by (validity ask.provider ask.uid ask.kind (account_entries events)) (is_account_full config ask.provider (account_entries events)) lacks hold)
-      (lacks ask) (holds ask)
+      ∙ ap₂ (λ over hold. authorized_by (validity ask.provider ask.uid ask.kind (account_entries events)) (is_account_full config ask.provider (account_entries events)) over hold)
+      (credit ask) (holds ask)
   by_own (command.Release release) =
       ap (release_of config (own_known (command.Release release) (known events)) release) ((its release.provider).released release (party_itself release.provider))
       ∙ releases release (released_hold (account_entries events) release)

@@ -17,10 +17,11 @@ use Rattle.plain_house.specs.declared.answer.Answer.TheVariants as answer
 use Rattle.plain_house.specs.declared.event.Event.{Event}
 use Rattle.plain_house.specs.declared.event.Event.TheVariants as event
 use Rattle.plain_house.specs.declared.event.Hold.{Hold}
+use Rattle.plain_house.specs.declared.over_limit.OverLimit.{OverLimit}
 use Rattle.plain_house.specs.Booked.{Booked, booked_as}
 use Rattle.plain_house.specs.Entries.{charge_of}
 use Rattle.plain_house.specs.Exposure.{released_hold}
-use Rattle.plain_house.specs.House.{cdr_posted, credit_taken, found_of, hold_for, lacks_credit, full_for, full_for_cdr, positions_in, post_of, release_of, stored_already, unless_covered, unless_current, unless_open, unless_settled, unless_valid, verdict}
+use Rattle.plain_house.specs.House.{cdr_posted, credit_taken, found_of, full_for, full_for_cdr, hold_for, over_credit, positions_in, post_of, release_of, stored_already, unless_covered, unless_current, unless_open, unless_settled, unless_valid, verdict}
 use Rattle.plain_house.specs.Known.{Known}
 use Rattle.plain_house.specs.Legal.{EventsAreOfConfigured, IsOfConfigured}
 use Rattle.plain_house.specs.Obligations.{obligations}
@@ -53,9 +54,9 @@ are_registered : (lacks : Bool) → unless_registered lacks ≡ None → lacks �
 are_registered true h = absurd (cc)
 are_registered false h = refl
 
-is_covered : (lacks : Bool) → unless_covered lacks ≡ None → lacks ≡ false
-is_covered true h = absurd (cc)
-is_covered false h = refl
+is_covered : (over : Option OverLimit) → unless_covered over ≡ None → over ≡ None
+is_covered None h = refl
+is_covered (Some over) h = absurd (cc)
 
 abbrev current_case : Bool → ℕ → Case
 current_case is_current current = if is_current then None else Some (Err (refusal.NotCurrent current))
@@ -104,7 +105,7 @@ module _ (config : Config) (known : Known) (Has : Event → Type 0) where
   Gives (command.PutTariff tariff) = are_versions_full config tariff.operator known.book ≡ false → Has (event.Tariff tariff)
   Gives (command.PutToken token) = IsNotFull config known token.provider → Has (event.Token token)
   Gives (command.Authorize ask) =
-      IsNotFull config known ask.provider → lacks_credit config ask known.account ≡ false → Has (event.Authorised (hold_for config ask known.account))
+      IsNotFull config known ask.provider → over_credit config ask known.account ≡ None → Has (event.Authorised (hold_for config ask known.account))
   Gives (command.Release release) = IsNotFull config known release.provider → Has (event.Released release)
   Gives (command.Post checked) = GivesPost checked.cdr checked.cost
   Gives (command.Close close) = close.period ≡ known.period → Has (event.Closed close.period)
@@ -168,9 +169,9 @@ module _ (config : Config) (known : Known) (Has : Event → Type 0) where
     event_has (command.Authorize ask) gives h =
         accepted
         (unless_valid (validity ask.provider ask.uid ask.kind known.account) ∷ full_for config known ask.provider
-        ∷ unless_covered (lacks_credit config ask known.account) ∷ []) (answer.Allowed (hold_for config ask known.account).reference)
+        ∷ unless_covered (over_credit config ask known.account) ∷ []) (answer.Allowed (hold_for config ask known.account).reference)
         (event.Authorised (hold_for config ask known.account)) h
-        (λ none. gives (has_room config known ask.provider none.1.0) (is_covered (lacks_credit config ask known.account) none.1.1.0))
+        (λ none. gives (has_room config known ask.provider none.1.0) (is_covered (over_credit config ask known.account) none.1.1.0))
     event_has (command.Release release) gives h = of_release release (released_hold known.account release) h gives
     event_has (command.Post checked) gives h = of_post checked.cdr checked.cost h gives
     event_has (command.Close close) gives h =

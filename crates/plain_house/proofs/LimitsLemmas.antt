@@ -1,5 +1,5 @@
 -- An admitted command keeps the limits.
-use Rattle.std.proofs.Common.{◌≡◌, ◌≤◌, ◌||◌, ◌&&◌, ℕ, pos, ◌+◌, List, [], ◌∷◌, ◌++◌, Bool, true, false, cond, refl, sym, ap, ◌∙◌, subst, arith, ltb, if◌then◌else◌, Option, Some, None}
+use Rattle.std.proofs.Common.{◌≡◌, ◌≤◌, ◌&&◌, ℕ, pos, ◌+◌, List, [], ◌∷◌, ◌++◌, Bool, true, false, cond, refl, sym, ap, ◌∙◌, subst, arith, ltb, if◌then◌else◌, Option, Some, None}
 use Rattle.std.specs.Option.{option_or}
 use Rattle.std.proofs.lemmas.List.{append-nil}
 use Rattle.std.proofs.lemmas.Bool.{ltb-false}
@@ -19,11 +19,13 @@ use Rattle.plain_house.specs.declared.event.Hold.{Hold}
 use Rattle.plain_house.specs.declared.entry.AccountEntry.{AccountEntry}
 use Rattle.plain_house.specs.declared.entry.AccountEntry.TheVariants as account
 use Rattle.plain_house.specs.declared.entry.Charge.{Charge}
+use Rattle.plain_house.specs.declared.over_limit.OverLimit.{OverLimit}
 use Rattle.plain_house.specs.Known.{Known}
 use Rattle.plain_house.specs.Entries.{account_entry, charge_of, credit_of}
 use Rattle.plain_house.specs.Exposure.{exposure_of, of_pair, of_provider}
-use Rattle.plain_house.specs.House.{hold_for, lacks_credit, passes, verdict}
+use Rattle.plain_house.specs.House.{hold_for, over_credit, verdict}
 use Rattle.plain_house.specs.LegalLists.{KeepsLimits}
+use Rattle.plain_house.specs.OverLimit.{over, over_if_any}
 use Rattle.plain_house.specs.Posting.{above, above_if_any, over_limit}
 use Rattle.plain_house.proofs.EventLemmas.{Gives, GivesPost, event_has}
 use Rattle.plain_house.proofs.ExposureLater.{exposure_later, weight, weight_charge, weight_hold}
@@ -39,23 +41,44 @@ keeps_weightless config entries x none pair_none keeps = record {
   pair = λ operator provider currency limit e. omega (arith, exposure_later (of_pair operator provider currency) entries x, pair_none operator provider currency, keeps.pair operator provider currency limit e);
 }
 
+-- ---- no exposure above its limit
+
+within : {X : Type 0} (limit exposure : ℕ) (found : X) → (if ltb limit exposure then Some found else None) ≡ None → exposure ≤ limit
+within {X} limit exposure found h = by (ltb limit exposure) refl h
+  where
+    by : (b : Bool) → ltb limit exposure ≡ b → (if b then Some found else None) ≡ None → exposure ≤ limit
+    by true e g = absurd (cc)
+    by false e g = ltb-false limit exposure e
+
+or_none : {X : Type 0} (a b : Option X) → option_or a b ≡ None → (a ≡ None) × (b ≡ None)
+or_none None b h = (refl, h)
+or_none (Some x) b h = absurd (cc)
+
+over-none : (limit exposure : ℕ) (pair : Bool) → over limit exposure pair ≡ None → exposure ≤ limit
+over-none limit exposure pair h =
+    let found : OverLimit = record { exposure = pos exposure; limit = pos limit; pair = pair } in
+    within limit exposure found h
+
+over_if_any-none : (limit : Option ℕ) (exposure most : ℕ) → over_if_any limit exposure ≡ None → limit ≡ Some most → exposure ≤ most
+over_if_any-none None exposure most h e = absurd (cc)
+over_if_any-none (Some limit) exposure most h e =
+    let same : limit ≡ most = cc (e) in subst (λ (n : ℕ). exposure ≤ n) same (over-none limit exposure true h)
+
+above-none : (limit exposure : ℕ) (pair : Bool) → above limit exposure pair ≡ None → exposure ≤ limit
+above-none limit exposure pair h = within limit exposure (refusal.OverLimit (pos exposure) (pos limit) pair) h
+
+above_if_any-none : (limit : Option ℕ) (exposure most : ℕ) → above_if_any limit exposure ≡ None → limit ≡ Some most → exposure ≤ most
+above_if_any-none None exposure most h e = absurd (cc)
+above_if_any-none (Some limit) exposure most h e =
+    let same : limit ≡ most = cc (e) in subst (λ (n : ℕ). exposure ≤ n) same (above-none limit exposure true h)
+
 -- ---- a hold that is covered
-
-neither : (a b : Bool) → (a || b) ≡ false → (a ≡ false) × (b ≡ false)
-neither false b h = (refl, h)
-neither true b h = absurd (cc)
-
-passes-false : (limit : Option ℕ) (amount most : ℕ) → passes limit amount ≡ false → limit ≡ Some most → amount ≤ most
-passes-false None amount most h e = absurd (cc)
-passes-false (Some limit) amount most h e =
-    let same : limit ≡ most = cc (e) in
-    subst (λ (n : ℕ). amount ≤ n) same (ltb-false limit amount h)
 
 at_most_picked : (b : Bool) (total amount limit : ℕ) → total ≤ limit → (b ≡ true → total + amount ≤ limit) → total + cond b amount 0 ≤ limit
 at_most_picked true total amount limit h k = k refl
 at_most_picked false total amount limit h k = omega (arith, h)
 
-module _ (config : Config) (ask : Authorize) (entries : List AccountEntry) (keeps : KeepsLimits config entries) (covered : lacks_credit config ask entries ≡ false) where
+module _ (config : Config) (ask : Authorize) (entries : List AccountEntry) (keeps : KeepsLimits config entries) (covered : over_credit config ask entries ≡ None) where
   abbrev hold : Hold
   hold = hold_for config ask entries
 
@@ -67,7 +90,7 @@ module _ (config : Config) (ask : Authorize) (entries : List AccountEntry) (keep
       at_most_picked test total hold.amount (limit_of config provider currency) (keeps.provider provider currency)
       (λ picked.
       let same = same_folded_account ask.provider provider ask.currency currency picked in
-      let fits : exposure_of (of_provider ask.provider ask.currency) entries + hold.amount ≤ limit_of config ask.provider ask.currency = ltb-false (limit_of config ask.provider ask.currency) (exposure_of (of_provider ask.provider ask.currency) entries + hold_of config ask.provider ask.currency) (neither _ _ covered).0 in
+      let fits : exposure_of (of_provider ask.provider ask.currency) entries + hold.amount ≤ limit_of config ask.provider ask.currency = over-none (limit_of config ask.provider ask.currency) (exposure_of (of_provider ask.provider ask.currency) entries + hold_of config ask.provider ask.currency) false (or_none _ _ covered).0 in
       omega (arith, fits, same_exposure entries ask.provider provider ask.currency currency same, same_limit config ask.provider provider ask.currency currency same)) in
       let weighs : weight (of_provider provider currency) (account.Hold hold) ≡ cond test hold.amount 0 = weight_hold (of_provider provider currency) hold in
       omega (arith, exposure_later (of_provider provider currency) entries (account.Hold hold), weighs, most)
@@ -84,7 +107,7 @@ module _ (config : Config) (ask : Authorize) (entries : List AccountEntry) (keep
       let their = same_folded_party ask.operator operator parts.0 in
       let same = same_folded_account ask.provider provider ask.currency currency parts.1 in
       let own = same_pair_limit config ask.operator operator ask.provider provider ask.currency currency their same in
-      let fits : exposure_of (of_pair ask.operator ask.provider ask.currency) entries + hold.amount ≤ limit = passes-false (pair_limit_of config ask.operator ask.provider ask.currency) (exposure_of (of_pair ask.operator ask.provider ask.currency) entries + hold_of config ask.provider ask.currency) limit (neither _ _ covered).1 (own ∙ e) in
+      let fits : exposure_of (of_pair ask.operator ask.provider ask.currency) entries + hold.amount ≤ limit = over_if_any-none (pair_limit_of config ask.operator ask.provider ask.currency) (exposure_of (of_pair ask.operator ask.provider ask.currency) entries + hold_of config ask.provider ask.currency) limit (or_none _ _ covered).1 (own ∙ e) in
       omega (arith, fits, same_pair_exposure entries ask.operator operator ask.provider provider ask.currency currency their same)) in
       let weighs : weight (of_pair operator provider currency) (account.Hold hold) ≡ cond test hold.amount 0 = weight_hold (of_pair operator provider currency) hold in
       omega (arith, exposure_later (of_pair operator provider currency) entries (account.Hold hold), weighs, most)
@@ -97,22 +120,6 @@ module _ (config : Config) (ask : Authorize) (entries : List AccountEntry) (keep
   keeps_hold = record { provider = hold_provider; pair = hold_pair }
 
 -- ---- a charge that is over no limit
-
-above-none : (limit exposure : ℕ) (pair : Bool) → above limit exposure pair ≡ None → exposure ≤ limit
-above-none limit exposure pair h = by (ltb limit exposure) refl h
-  where
-    by : (b : Bool) → ltb limit exposure ≡ b → (if b then Some (refusal.OverLimit (pos exposure) (pos limit) pair) else None) ≡ None → exposure ≤ limit
-    by true e g = absurd (cc)
-    by false e g = ltb-false limit exposure e
-
-above_if_any-none : (limit : Option ℕ) (exposure most : ℕ) → above_if_any limit exposure ≡ None → limit ≡ Some most → exposure ≤ most
-above_if_any-none None exposure most h e = absurd (cc)
-above_if_any-none (Some limit) exposure most h e =
-    let same : limit ≡ most = cc (e) in subst (λ (n : ℕ). exposure ≤ n) same (above-none limit exposure true h)
-
-or_none : (a b : Option Refusal) → option_or a b ≡ None → (a ≡ None) × (b ≡ None)
-or_none None b h = (refl, h)
-or_none (Some x) b h = absurd (cc)
 
 module _ (config : Config) (charge : Charge) (entries : List AccountEntry) (keeps : KeepsLimits config entries) (none : over_limit config charge entries ≡ None) where
   abbrev with : List AccountEntry

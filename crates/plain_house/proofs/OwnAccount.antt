@@ -1,5 +1,5 @@
 -- What the entries of a legal list say of a provider is what its own account says.
-use Rattle.std.proofs.Common.{◌≡◌, ℕ, ◌+◌, ◌==◌, List, [], ◌∷◌, ◌++◌, Bool, true, false, ◌||◌, cond, pos, refl, sym, ap, ap₂, ◌∙◌, None, option_map, filter, find, reverse, nat_le, nat_lt}
+use Rattle.std.proofs.Common.{◌≡◌, ℕ, ◌+◌, ◌==◌, List, [], ◌∷◌, ◌++◌, Bool, true, false, cond, pos, refl, sym, ap, ap₂, ◌∙◌, None, option_map, filter, find, reverse, nat_le}
 use Rattle.std.specs.Option.{option_or}
 use Rattle.std.proofs.lemmas.List.Elements.{filter-append, filter_agree}
 use Rattle.std.proofs.lemmas.Map.Views.{any-filter_same}
@@ -27,10 +27,11 @@ use Rattle.plain_house.specs.declared.scope.Scope.{Scope}
 use Rattle.plain_house.specs.Booked.{booked_as}
 use Rattle.plain_house.specs.Entries.{account_entries, book_entries, charge_of, period_of}
 use Rattle.plain_house.specs.Exposure.{ends_debt, ends_hold, exposure_of, of_pair, of_provider, open_holds, released_hold}
-use Rattle.plain_house.specs.House.{provider_as_configured, exposed, hold_for, is_hold_of, lacks_credit, passes, reference_text}
+use Rattle.plain_house.specs.House.{provider_as_configured, exposed, hold_for, is_hold_of, over_credit, reference_text}
 use Rattle.plain_house.specs.Legal.{IsLegal}
 use Rattle.plain_house.specs.LegalLists.{LegalCdrsAreCharged, LegalCreditsAreTakenBack}
 use Rattle.plain_house.specs.Own.{AccountsAreOfOwnEntries, IsOfOwnEntries, own_account}
+use Rattle.plain_house.specs.OverLimit.{over, over_if_any}
 use Rattle.plain_house.specs.Posting.{above, above_if_any, over_limit}
 use Rattle.plain_house.specs.Full.{is_account_full, is_entry_of, own_entries}
 use Rattle.plain_house.specs.Settlements.{is_settled, settled_debt, settles_same}
@@ -119,11 +120,11 @@ module _ (charged : LegalCdrsAreCharged) (taken : LegalCreditsAreTakenBack) (con
   its_exposure : (scope : Scope) → IsOfOwnEntries scope (account_entries events)
   its_exposure scope = exposure_of_own charged taken config events scope legal
 
-  lacks_of_own : (ask : Authorize) → lacks_credit config ask (own_entries ask.provider (account_entries events)) ≡ lacks_credit config ask (account_entries events)
-  lacks_of_own ask =
+  credit_of_own : (ask : Authorize) → over_credit config ask (own_entries ask.provider (account_entries events)) ≡ over_credit config ask (account_entries events)
+  credit_of_own ask =
       ap₂ (λ exposure pair.
-      nat_lt (limit_of config ask.provider ask.currency) (exposure + hold_of config ask.provider ask.currency)
-      || passes (pair_limit_of config ask.operator ask.provider ask.currency) (pair + hold_of config ask.provider ask.currency))
+      option_or (over (limit_of config ask.provider ask.currency) (exposure + hold_of config ask.provider ask.currency) false)
+      (over_if_any (pair_limit_of config ask.operator ask.provider ask.currency) (pair + hold_of config ask.provider ask.currency)))
       (its_exposure (of_provider ask.provider ask.currency)).exposure (its_exposure (of_pair ask.operator ask.provider ask.currency)).exposure
 
   exposed_of_own : (ask : ExposureOf) → exposed config ask (own_entries ask.provider (account_entries events)) ≡ exposed config ask (account_entries events)
@@ -166,7 +167,7 @@ accounts_of_own charged taken config events provider legal = record {
   full = λ party same.
       ap (is_account_full config party) (own_in_spelling events provider party same)
       ∙ ap (nat_le config.limits.entries) (count_kept (is_entry_of party) (is_entry_of party) (λ entry h. h) (account_entries events));
-  credit = λ ask same. ap (lacks_credit config ask) (own_in_spelling events provider ask.provider same) ∙ lacks_of_own charged taken config events legal ask;
+  credit = λ ask same. ap (over_credit config ask) (own_in_spelling events provider ask.provider same) ∙ credit_of_own charged taken config events legal ask;
   hold = λ ask same. ap (hold_for config ask) (own_in_spelling events provider ask.provider same) ∙ hold_of_own config ask (account_entries events);
   released = λ release same. ap (λ entries. released_hold entries release) (own_in_spelling events provider release.provider same) ∙ released_of_own release (account_entries events);
   settled = λ settlement same. ap (is_settled settlement) (own_in_spelling events provider settlement.provider same) ∙ settled_of_own settlement (account_entries events);

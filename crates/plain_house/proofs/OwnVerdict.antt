@@ -11,10 +11,11 @@ use Rattle.plain_house.specs.declared.answer.Answer.TheVariants as answer
 use Rattle.plain_house.specs.declared.event.Event.{Event}
 use Rattle.plain_house.specs.declared.event.Event.TheVariants as event
 use Rattle.plain_house.specs.declared.event.Hold.{Hold}
+use Rattle.plain_house.specs.declared.over_limit.OverLimit.{OverLimit}
 use Rattle.plain_house.specs.Booked.{Booked, booked_as}
 use Rattle.plain_house.specs.Entries.{account_entries, book_entries, period_of}
 use Rattle.plain_house.specs.Exposure.{released_hold}
-use Rattle.plain_house.specs.House.{allows, cdr_posted, credit_posted, credit_taken, found_of, hold_for, lacks_credit, post_of, release_of, stored_already, unless_covered, unless_open, unless_settled, unless_valid}
+use Rattle.plain_house.specs.House.{allows, cdr_posted, credit_posted, credit_taken, found_of, hold_for, over_credit, post_of, release_of, stored_already, unless_covered, unless_open, unless_settled, unless_valid}
 use Rattle.plain_house.specs.Known.{Known, known}
 use Rattle.plain_house.specs.Own.{AccountsAreOfOwnEntries, BooksAreOfOwnEntries, IsOfOwnAccount, IsOfOwnBook, VerdictsAreOfOwnEntries, own_account, own_book, own_known}
 use Rattle.plain_house.specs.Posting.{booked_already, credited_amount, unless_registered}
@@ -80,9 +81,9 @@ module _ (config : Config) (events : List Event) (cdr : Cdr) (books : IsOfOwnBoo
 -- ---- commands
 
 -- an authorisation by what the account says
-abbrev authorized_by : Config → ℕ → Option Bool → Bool → Bool → Hold → Verdict
-authorized_by config point valid is_full lacks hold =
-    unless (unless_valid valid ∷ room_at config point is_full ∷ unless_covered lacks ∷ []) (allows hold)
+abbrev authorized_by : Config → ℕ → Option Bool → Bool → Option OverLimit → Hold → Verdict
+authorized_by config point valid is_full over hold =
+    unless (unless_valid valid ∷ room_at config point is_full ∷ unless_covered over ∷ []) (allows hold)
 
 -- by the hold that a release ends
 same_release : (config : Config) (events : List Event) (release : Release) → IsOfOwnAccount config events release.provider → (hold : Option Hold)
@@ -112,9 +113,9 @@ verdicts_of_own books accounts config events (command.Authorize ask) legal =
     let own = accounts config events ask.provider legal in
     let itself = party_itself ask.provider in
     let by = authorized_by config (length events) in
-    ap₂ (λ valid is_full. by valid is_full (lacks_credit config ask (own_account ask.provider events)) (hold_for config ask (own_account ask.provider events)))
+    ap₂ (λ valid is_full. by valid is_full (over_credit config ask (own_account ask.provider events)) (hold_for config ask (own_account ask.provider events)))
     (own.valid ask.provider ask.uid ask.kind itself) (own.full ask.provider itself)
-    ∙ ap₂ (λ lacks hold. by (validity ask.provider ask.uid ask.kind (account_entries events)) (is_account_full config ask.provider (account_entries events)) lacks hold)
+    ∙ ap₂ (λ over hold. by (validity ask.provider ask.uid ask.kind (account_entries events)) (is_account_full config ask.provider (account_entries events)) over hold)
     (own.credit ask itself) (own.hold ask itself)
 verdicts_of_own books accounts config events (command.Release release) legal =
     let own = accounts config events release.provider legal in

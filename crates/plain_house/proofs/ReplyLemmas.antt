@@ -28,10 +28,11 @@ use Rattle.plain_house.specs.declared.entry.BookEntry.{BookEntry}
 use Rattle.plain_house.specs.declared.entry.Charge.{Charge}
 use Rattle.plain_house.specs.declared.event.Event.TheVariants as event
 use Rattle.plain_house.specs.declared.event.Hold.{Hold}
+use Rattle.plain_house.specs.declared.over_limit.OverLimit.{OverLimit}
 use Rattle.plain_house.specs.Booked.{Booked, booked_as, is_credited}
 use Rattle.plain_house.specs.Entries.{charge_of}
 use Rattle.plain_house.specs.Exposure.{debts_of, exposure_of, holds_of, of_pair, of_provider, released_hold}
-use Rattle.plain_house.specs.House.{allows, cdr_posted, credit_posted, credit_taken, found_of, hold_for, lacks_credit, full_for, full_for_cdr, positions_in, post_of, release_of, stored_already, unless_covered, unless_current, unless_open, unless_settled, unless_valid, verdict}
+use Rattle.plain_house.specs.House.{allows, cdr_posted, credit_posted, credit_taken, found_of, full_for, full_for_cdr, hold_for, over_credit, positions_in, post_of, release_of, stored_already, unless_covered, unless_current, unless_open, unless_settled, unless_valid, verdict}
 use Rattle.plain_house.specs.Known.{Known}
 use Rattle.plain_house.specs.Posting.{above, above_if_any, booked_already, credited_amount, is_in_window, meets_original, original_of, over_limit, taken_back, unless_registered}
 use Rattle.plain_house.specs.Replies.{is_refusal_no_memory}
@@ -48,7 +49,7 @@ pub record IsOfEach (config : Config) (known : Known) (Is : Verdict → Type 0) 
   pub refused : (why : Refusal) → is_refusal_no_memory why ≡ false → Is (replies (Err why))
   pub unchanged : Is (replies (Ok answer.Unchanged))
   pub blocked : Is (replies (Ok answer.Blocked))
-  pub no_credit : Is (replies (Ok answer.NoCredit))
+  pub no_credit : (over : OverLimit) → Is (replies (Ok (answer.NoCredit over)))
   pub repeated : (amount : ℤ) (period : ℕ) → Is (replies (Ok (answer.Repeated amount period)))
   pub tariff : (tariff : Tariff) → Is (accepts answer.Stored (event.Tariff tariff))
   pub token : (token : Token) → Is (accepts answer.Stored (event.Token token))
@@ -95,9 +96,9 @@ module _ (config : Config) (known : Known) (Is : Verdict → Type 0) (each : IsO
   valid_is (Some true) = tt
   valid_is (Some false) = each.blocked
 
-  covered_is : (lacks : Bool) → CaseIs (unless_covered lacks)
-  covered_is true = each.no_credit
-  covered_is false = tt
+  covered_is : (over : Option OverLimit) → CaseIs (unless_covered over)
+  covered_is None = tt
+  covered_is (Some over) = each.no_credit over
 
   settled_is : (settled : Bool) → CaseIs (unless_settled settled)
   settled_is true = each.refused refusal.AlreadySettled refl
@@ -212,9 +213,9 @@ module _ (config : Config) (known : Known) (Is : Verdict → Type 0) (each : IsO
       is_unless (full_for config known token.provider ∷ []) (accepts answer.Stored (event.Token token)) (full_is (room_for token.provider), tt) (each.token token)
   is_so (command.Authorize ask) =
       let valid = validity ask.provider ask.uid ask.kind known.account in
-      let lacks = lacks_credit config ask known.account in
-      is_unless (unless_valid valid ∷ full_for config known ask.provider ∷ unless_covered lacks ∷ []) (allows (hold_for config ask known.account))
-      (valid_is valid, (full_is (room_for ask.provider), (covered_is lacks, tt))) (each.allowed (hold_for config ask known.account))
+      let over = over_credit config ask known.account in
+      is_unless (unless_valid valid ∷ full_for config known ask.provider ∷ unless_covered over ∷ []) (allows (hold_for config ask known.account))
+      (valid_is valid, (full_is (room_for ask.provider), (covered_is over, tt))) (each.allowed (hold_for config ask known.account))
   is_so (command.Release release) = release_is release (released_hold known.account release)
   is_so (command.Post checked) = post_is checked.cdr checked.cost
   is_so (command.Close close) =

@@ -1,5 +1,6 @@
 -- The reply to a command by what is known, and the event that it adds.
-use Rattle.std.specs.Prelude.{ℕ, ℤ, ◌+◌, ◌==◌, pos, Bool, true, false, ◌||◌, List, [], ◌∷◌, ◌++◌, nat_lt, count_by, length, if◌then◌else◌, Option, Some, None, unwrap_or, option_map, codes, decimal, Result, Ok, Err}
+use Rattle.std.specs.Prelude.{ℕ, ℤ, ◌+◌, ◌==◌, pos, Bool, true, false, List, [], ◌∷◌, ◌++◌, nat_lt, count_by, length, if◌then◌else◌, Option, Some, None, unwrap_or, option_map, codes, decimal, Result, Ok, Err}
+use Rattle.std.specs.Option.{option_or}
 use Rattle.ocpi_types.specs.declared.cdr.Cdr.{Cdr}
 use Rattle.ocpi_types.specs.declared.config.Config.{Config}
 use Rattle.ocpi_types.specs.declared.party.Party.{Party}
@@ -28,6 +29,7 @@ use Rattle.plain_house.specs.declared.event.Event.{Event}
 use Rattle.plain_house.specs.declared.event.Event.TheVariants as event
 use Rattle.plain_house.specs.declared.answer.Answer.{Answer}
 use Rattle.plain_house.specs.declared.answer.Answer.TheVariants as answer
+use Rattle.plain_house.specs.declared.over_limit.OverLimit.{OverLimit}
 use Rattle.plain_house.specs.declared.entry.AccountEntry.{AccountEntry}
 use Rattle.plain_house.specs.declared.entry.AccountEntry.TheVariants as account
 use Rattle.plain_house.specs.declared.entry.BookEntry.{BookEntry}
@@ -36,6 +38,7 @@ use Rattle.plain_house.specs.Entries.{charge_of}
 use Rattle.plain_house.specs.Exposure.{of_provider, of_pair, released_hold, holds_of, debts_of, exposure_of}
 use Rattle.plain_house.specs.Known.{Known, known}
 use Rattle.plain_house.specs.Obligations.{obligations}
+use Rattle.plain_house.specs.OverLimit.{over, over_if_any}
 use Rattle.plain_house.specs.Posting.{booked_already, credited_amount, over_limit, unless_registered}
 use Rattle.plain_house.specs.Replies.{Reply, Follows, stamped, with_event}
 use Rattle.plain_house.specs.Full.{are_cdrs_full, are_periods_full, are_versions_full, is_account_full, is_order_full, first_full}
@@ -91,17 +94,12 @@ abbrev pub next_reference : Config → Party → List AccountEntry → List ℕ
 next_reference config provider entries =
     reference_text (provider_as_configured config provider) (count_by (is_hold_of provider) entries + 1)
 
-abbrev pub passes : Option ℕ → ℕ → Bool
-passes None amount = false
-passes (Some limit) amount = nat_lt limit amount
-
--- the hold of an authorisation would pass the provider's credit limit, or its limit with the operator
-abbrev pub lacks_credit : Config → Authorize → List AccountEntry → Bool
-lacks_credit config ask entries =
-    nat_lt (limit_of config ask.provider ask.currency)
-    (exposure_of (of_provider ask.provider ask.currency) entries + hold_of config ask.provider ask.currency)
-    || passes (pair_limit_of config ask.operator ask.provider ask.currency)
-    (exposure_of (of_pair ask.operator ask.provider ask.currency) entries + hold_of config ask.provider ask.currency)
+-- with the hold of an authorisation, the exposure would be above the provider's limit, or its limit with the operator
+abbrev pub over_credit : Config → Authorize → List AccountEntry → Option OverLimit
+over_credit config ask entries =
+    option_or
+    (over (limit_of config ask.provider ask.currency) (exposure_of (of_provider ask.provider ask.currency) entries + hold_of config ask.provider ask.currency) false)
+    (over_if_any (pair_limit_of config ask.operator ask.provider ask.currency) (exposure_of (of_pair ask.operator ask.provider ask.currency) entries + hold_of config ask.provider ask.currency))
 
 abbrev pub hold_for : Config → Authorize → List AccountEntry → Hold
 hold_for config ask entries = record {
@@ -118,9 +116,10 @@ unless_valid None = Some (Err refusal.UnknownToken)
 unless_valid (Some false) = Some (Ok answer.Blocked)
 unless_valid (Some true) = None
 
-abbrev pub unless_covered : Bool → Case
-unless_covered true = Some (Ok answer.NoCredit)
-unless_covered false = None
+-- by the limit that it would pass, if there is one
+abbrev pub unless_covered : Option OverLimit → Case
+unless_covered None = None
+unless_covered (Some over) = Some (Ok (answer.NoCredit over))
 
 abbrev pub allows : Hold → Verdict
 allows hold = accepts (answer.Allowed hold.reference) (event.Authorised hold)
@@ -129,7 +128,7 @@ abbrev pub authorized : Config → Known → Authorize → Verdict
 authorized config known ask =
     unless
     (unless_valid (validity ask.provider ask.uid ask.kind known.account) ∷ full_for config known ask.provider
-    ∷ unless_covered (lacks_credit config ask known.account) ∷ [])
+    ∷ unless_covered (over_credit config ask known.account) ∷ [])
     (allows (hold_for config ask known.account))
 
 -- ---- release

@@ -9,6 +9,7 @@ pub mod Legal
 pub mod LegalEntries
 pub mod LegalLists
 pub mod Obligations
+pub mod OverLimit
 pub mod Own
 pub mod Posting
 pub mod Replies

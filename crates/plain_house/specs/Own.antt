@@ -23,7 +23,7 @@ use Rattle.plain_house.specs.declared.entry.BookEntry.TheVariants as book
 use Rattle.plain_house.specs.Booked.{booked_as, is_credited}
 use Rattle.plain_house.specs.Entries.{account_entries, book_entries, charge_of, period_of}
 use Rattle.plain_house.specs.Exposure.{debts_of, exposure_of, holds_of, released_hold}
-use Rattle.plain_house.specs.House.{exposed, hold_for, lacks_credit, verdict}
+use Rattle.plain_house.specs.House.{exposed, hold_for, over_credit, verdict}
 use Rattle.plain_house.specs.Known.{Known, known}
 use Rattle.plain_house.specs.Legal.{IsLegal}
 use Rattle.plain_house.specs.Posting.{credited_amount, judged_cdr, judged_credit, over_limit}
@@ -72,7 +72,7 @@ own_account provider events = own_entries provider (account_entries events)
 pub record IsOfOwnAccount (config : Config) (events : List Event) (provider : Party) : Type 0 where
   pub valid : (party : Party) (uid : List ℕ) (kind : TokenKind) → same_party party provider ≡ true → validity party uid kind (own_account provider events) ≡ validity party uid kind (account_entries events)
   pub full : (party : Party) → same_party party provider ≡ true → is_account_full config party (own_account provider events) ≡ is_account_full config party (account_entries events)
-  pub credit : (ask : Authorize) → same_party ask.provider provider ≡ true → lacks_credit config ask (own_account provider events) ≡ lacks_credit config ask (account_entries events)
+  pub credit : (ask : Authorize) → same_party ask.provider provider ≡ true → over_credit config ask (own_account provider events) ≡ over_credit config ask (account_entries events)
   pub hold : (ask : Authorize) → same_party ask.provider provider ≡ true → hold_for config ask (own_account provider events) ≡ hold_for config ask (account_entries events)
   pub released : (release : Release) → same_party release.provider provider ≡ true → released_hold (own_account provider events) release ≡ released_hold (account_entries events) release
   pub settled : (settlement : Settlement) → same_party settlement.provider provider ≡ true → is_settled settlement (own_account provider events) ≡ is_settled settlement (account_entries events)

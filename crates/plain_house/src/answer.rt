@@ -1,3 +1,4 @@
+use crate::over_limit::OverLimit;
 use exact_money::Amount;
 use netting_positions::{NetPosition, StatementRow};
 use ocpi_json::ci_text::CiText;
@@ -19,8 +20,8 @@ pub enum Answer {
     },
     /// The token is not valid.
     Blocked,
-    /// The hold would pass a credit limit.
-    NoCredit,
+    /// With the hold, this exposure would be above its limit.
+    NoCredit(OverLimit),
     /// The hold of this amount is given back.
     Released {
         amount: Amount,
@@ -70,7 +71,7 @@ impl TryCopy for Answer {
                 reference: *reference,
             }),
             Answer::Blocked => Ok(Answer::Blocked),
-            Answer::NoCredit => Ok(Answer::NoCredit),
+            Answer::NoCredit(over) => Ok(Answer::NoCredit(*over)),
             Answer::Released { amount } => Ok(Answer::Released { amount: *amount }),
             Answer::Accepted { amount, period } => Ok(Answer::Accepted {
                 amount: *amount,

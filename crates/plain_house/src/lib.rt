@@ -9,6 +9,7 @@ mod entry_laws;
 mod event;
 mod hold_reference;
 mod laws;
+mod over_limit;
 mod posting;
 mod replies;
 mod reply_room;
@@ -51,6 +52,7 @@ pub use laws::{
     verdicts_are_told,
 };
 pub use obligations::{obligations_in, statement_rows};
+pub use over_limit::{OverLimit, over};
 pub use periods::{period_after, period_of, split_first_period};
 pub use posting::{above, reply_to_booked, taken_back};
 pub use replies::{adds_event, is_out_of_memory, out_of_memory, stamped};

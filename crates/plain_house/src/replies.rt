@@ -42,7 +42,7 @@ fn is_of_event(answer: &Answer) -> bool
         | Answer::Settled { .. } => true,
         Answer::Unchanged
         | Answer::Blocked
-        | Answer::NoCredit
+        | Answer::NoCredit(_)
         | Answer::Repeated { .. }
         | Answer::Exposure { .. }
         | Answer::Found { .. }

@@ -68,7 +68,7 @@ impl ReplyRoom {
                 reference: *reference,
             },
             Answer::Blocked => Answer::Blocked,
-            Answer::NoCredit => Answer::NoCredit,
+            Answer::NoCredit(over) => Answer::NoCredit(*over),
             Answer::Released { amount } => Answer::Released { amount: *amount },
             Answer::Accepted { amount, period } => Answer::Accepted {
                 amount: *amount,

@@ -96,8 +96,8 @@ impl Same for Answer {
         match (self, other) {
             (Answer::Stored, Answer::Stored)
             | (Answer::Unchanged, Answer::Unchanged)
-            | (Answer::Blocked, Answer::Blocked)
-            | (Answer::NoCredit, Answer::NoCredit) => true,
+            | (Answer::Blocked, Answer::Blocked) => true,
+            (Answer::NoCredit(ours), Answer::NoCredit(theirs)) => ours.is_same(theirs),
             (Answer::Allowed { reference: ours }, Answer::Allowed { reference: theirs }) => {
                 ours.is_same(theirs)
             }

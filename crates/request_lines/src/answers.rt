@@ -24,7 +24,7 @@ fn answer_name(answer: &Answer) -> &'static str
         Answer::Unchanged => "Unchanged",
         Answer::Allowed { .. } => "ALLOWED",
         Answer::Blocked => "BLOCKED",
-        Answer::NoCredit => "NO_CREDIT",
+        Answer::NoCredit(_) => "NO_CREDIT",
         Answer::Released { .. } => "Released",
         Answer::Accepted { .. } => "Accepted",
         Answer::Repeated { .. } => "Repeated",
@@ -90,7 +90,7 @@ fn put_answer_values(
     ensures { Adds result out.old out.new (answer_values config.now answer.now) }
 {
     match answer {
-        Answer::Stored | Answer::Unchanged | Answer::Blocked | Answer::NoCredit => Ok(()),
+        Answer::Stored | Answer::Unchanged | Answer::Blocked | Answer::NoCredit(_) => Ok(()),
         Answer::Allowed { reference } => {
             put_text(out, "authorization_reference", reference.as_str())
         }

@@ -1,7 +1,7 @@
 //! One line, from its bytes to its answer.
 
 ghost use Rattle.std.specs.Prelude.{◌≡◌, ◌⊎◌, IfOk, IfErr, OnOk, OnErr, Ok, Err, true, false};
-ghost use Rattle.cdr_checks.specs.Admission.{IsAdmitted};
+ghost use Rattle.cdr_checks.specs.Admission.{IsAdmitted, admission};
 ghost use Rattle.plain_house.specs.Replies.{is_no_memory, is_refusal_no_memory};
 ghost use Rattle.request_lines.specs.AnswerText.{answer_text};
 ghost use Rattle.request_lines.specs.Script.{command_in, reply_in, reply_to, answer_of, after, list_with};
@@ -9,10 +9,26 @@ ghost use Rattle.request_lines.specs.Script.{command_in, reply_in, reply_to, ans
 use super::answers::answer_line;
 use super::line_room::LineRoom;
 use super::requests::request_of;
-use cdr_checks::{Command, admit};
+use cdr_checks::{Command, Request, admit};
 use ocpi_types::{Config, Refusal};
 use plain_house::{Refused, Replied, Sequential, is_out_of_memory};
 use std::alloc::{AllocError, Global};
+
+/// Returns the command of a request that passes each test of its kind.
+///
+/// # Errors
+///
+/// The refusal of the first test that fails.
+#[tactic(auto, unfolding(cdr_checks::specs::Admission::admission))]
+pub fn admitted(config: &Config, request: Request) -> Result<Command, Refusal>
+    ensures admission { result ≡ admission config.now request }
+    ensures admitted { IfOk result (λ command. IsAdmitted config.now command) }
+{
+    match admit(config, request) {
+        Ok(command) => Ok(command),
+        Err(cause) => Err(cause.refusal()),
+    }
+}
 
 /// The command of a line, or why it is refused before a house is asked. The refusal is `NoMemory` where a growth was refused.
 #[tactic(auto, unfolding(crate::specs::Script::command_in))]
@@ -26,7 +42,7 @@ pub fn command_of(
     ensures admitted { IfOk result (λ command. IsAdmitted config.now command) }
     ensures refusal { IfErr result (λ refusal. is_refusal_no_memory refusal ≡ false → command_in config.now line.now ≡ Err refusal) }
 {
-    admit(config, request_of(alloc, room, line)?)
+    admitted(config, request_of(alloc, room, line)?)
 }
 
 /// Returns the reply of a house to a command, or to the refusal in its place.

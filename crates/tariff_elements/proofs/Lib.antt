@@ -1,3 +1,4 @@
 pub mod ClockLemmas
+pub mod FirstLemmas
 pub mod LocalLemmas
 pub mod RestrictionLemmas

@@ -1,13 +1,10 @@
--- Which component of a tariff is active (OCPI 2.2.1, TariffElement object), and which tariffs can be
--- judged.
-use Rattle.std.specs.Prelude.{Bool, true, false, not, ◌&&◌, ◌||◌, is_some, find, List, Option, option_and_then}
-use Rattle.std.specs.List.{list_any}
+-- Which component of a tariff is active (OCPI 2.2.1, TariffElement object).
+use Rattle.std.specs.Prelude.{Bool, true, ◌&&◌, is_some, find, List, Option, option_and_then}
 use Rattle.std.specs.Option.{option_map_or}
 use Rattle.ocpi_types.specs.Component.{same_component_kind}
 use Rattle.ocpi_types.specs.declared.component.ComponentKind.{ComponentKind}
 use Rattle.ocpi_types.specs.declared.component.PriceComponent.{PriceComponent}
 use Rattle.ocpi_types.specs.declared.element.Element.{Element}
-use Rattle.ocpi_types.specs.declared.restrictions.ElectricBounds.{ElectricBounds}
 use Rattle.ocpi_types.specs.declared.tariff.Tariff.{Tariff}
 use Rattle.tariff_elements.specs.LocalTime.{LocalMoment}
 use Rattle.tariff_elements.specs.Matching.{matches}
@@ -28,16 +25,3 @@ chosen elements kind m =
 -- its component of the kind
 abbrev pub active : Tariff → ComponentKind → LocalMoment → Option PriceComponent
 active tariff kind m = option_and_then (component_of kind) (chosen tariff.elements kind m)
-
--- a bound on current or power is given
-abbrev pub is_electric : ElectricBounds → Bool
-is_electric given = given.min_current || given.max_current || given.min_power || given.max_power
-
--- the element has a bound on current or power
-abbrev pub has_electric_bound : Element → Bool
-has_electric_bound element =
-    option_map_or (λ restrictions. is_electric restrictions.electric) element.restrictions false
-
--- no element has a bound on current or power
-abbrev pub supported : Tariff → Bool
-supported tariff = not (list_any has_electric_bound tariff.elements)

@@ -7,8 +7,11 @@ use Rattle.jiff_core.specs.Calendar.{weekday_number}
 use Rattle.ocpi_types.specs.DayOfWeek.{days_after_monday}
 use Rattle.ocpi_types.specs.declared.day_of_week.DayOfWeek.{DayOfWeek}
 use Rattle.ocpi_types.specs.declared.restrictions.Restrictions.{Restrictions}
+use Rattle.ocpi_types.specs.declared.tariff.Tariff.{Tariff}
+use Rattle.tariff_elements.specs.FirstOf.{IsFirstOf}
 use Rattle.tariff_elements.specs.LocalTime.{LocalMoment, day_length, moment_at}
 use Rattle.tariff_elements.specs.Matching.{matches}
+use Rattle.tariff_elements.specs.Support.{bound_of, unsupported}
 use Rattle.tariff_elements.specs.Window.{time_or_midnight, is_between_times}
 
 -- a window from the start to an end later in the day, or over midnight to an end that is earlier
@@ -76,3 +79,7 @@ abbrev pub WindowFromMidnight : Type 0
 WindowFromMidnight =
     (end : Option Time) (time : ℕ) → time < day_length → 0 < time_or_midnight end
     → IsTrue (is_between_times None end time) ↔ (time < time_or_midnight end)
+
+-- the element that is found is the first with a bound on current or power
+abbrev pub FindsTheFirstBound : Type 0
+FindsTheFirstBound = (tariff : Tariff) → IsFirstOf bound_of tariff.elements (unsupported tariff)

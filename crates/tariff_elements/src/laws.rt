@@ -1,4 +1,4 @@
-ghost use Rattle.tariff_elements.specs.Law.{MatchesInForce, MomentsShowTimesOfDay, WindowWithinDay, WindowOverMidnight, WindowOfWholeDay, WindowToMidnight, WindowFromMidnight};
+ghost use Rattle.tariff_elements.specs.Law.{MatchesInForce, MomentsShowTimesOfDay, WindowWithinDay, WindowOverMidnight, WindowOfWholeDay, WindowToMidnight, WindowFromMidnight, FindsTheFirstBound};
 
 /// A law: restrictions match at a time of day exactly where each of them is in force, and the clock of
 /// each moment shows a time of day.
@@ -14,4 +14,9 @@ pub fn windows_of_the_day()
     ensures whole_day { WindowOfWholeDay }
     ensures to_midnight { WindowToMidnight }
     ensures from_midnight { WindowFromMidnight }
+{}
+
+/// A law: the element that is found to be not supported is the first.
+pub fn finds_the_first_bound()
+    ensures { FindsTheFirstBound }
 {}

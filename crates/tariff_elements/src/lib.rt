@@ -18,4 +18,4 @@ pub use matching::matches;
 pub use moments::Moment;
 pub use ocpi_types::Zone;
 pub use placing::{moment, moment_without_clock};
-pub use support::supported;
+pub use support::unsupported;

@@ -10,7 +10,7 @@ use ocpi_types::Restrictions;
 
 /// Whether the restrictions hold at the moment (OCPI 2.2.1, TariffRestrictions object). Restrictions
 /// for a reservation never hold; bounds on current and power are not looked at, since a tariff with
-/// them is not [`supported`](crate::supported).
+/// them is [`unsupported`](crate::unsupported).
 pub fn matches(restrictions: &Restrictions, moment: &Moment) -> bool
     ensures { result ≡ matches restrictions.now moment.now }
 {

@@ -1,34 +1,48 @@
-ghost use Rattle.std.specs.Prelude.{◌≡◌};
-ghost use Rattle.std.specs.List.{list_any};
-ghost use Rattle.tariff_elements.specs.Active.{has_electric_bound, is_electric, supported};
+//! The restrictions that are not supported.
 
+ghost use Rattle.std.specs.Prelude.{◌≡◌};
+ghost use Rattle.tariff_elements.specs.Support.{bound_of, electric_bound, unsupported};
+
+use ocpi_json::name::Name;
 use ocpi_types::{ElectricBounds, Element, Tariff};
 
-fn is_electric(given: ElectricBounds) -> bool
-    ensures { result ≡ is_electric given }
+fn electric_bound(given: ElectricBounds) -> Option<Name>
+    ensures { result ≡ electric_bound given }
 {
-    given.min_current || given.max_current || given.min_power || given.max_power
-}
-
-fn has_electric_bound(element: &Element) -> bool
-    ensures { result ≡ has_electric_bound element.now }
-{
-    match &element.restrictions {
-        Some(restrictions) => is_electric(restrictions.electric),
-        None => false,
+    if given.min_current {
+        Some(Name::MinCurrent)
+    } else if given.max_current {
+        Some(Name::MaxCurrent)
+    } else if given.min_power {
+        Some(Name::MinPower)
+    } else if given.max_power {
+        Some(Name::MaxPower)
+    } else {
+        None
     }
 }
 
-fn any_has_electric_bound(elements: &[Element]) -> bool
-    ensures { result ≡ list_any has_electric_bound elements.now }
+fn bound_of(element: &Element) -> Option<Name>
+    ensures { result ≡ bound_of element.now }
 {
-    elements.iter().any(|element| has_electric_bound(element))
+    match &element.restrictions {
+        Some(restrictions) => electric_bound(restrictions.electric),
+        None => None,
+    }
 }
 
-/// Whether no element has a bound on current or power: what such a bound decides is not in the data
-/// of a session.
-pub fn supported(tariff: &Tariff) -> bool
-    ensures { result ≡ supported tariff.now }
+/// Returns the index of the first element that has a bound on current or power, and the name of the first that it has. What such a
+/// bound decides is not in the data of a session.
+pub fn unsupported(tariff: &Tariff) -> Option<(usize, Name)>
+    ensures { result ≡ unsupported tariff.now }
 {
-    !any_has_electric_bound(tariff.elements.as_slice())
+    let elements = tariff.elements.as_slice();
+    let mut index = 0;
+    for element in elements {
+        if let Some(bound) = bound_of(element) {
+            return Some((index, bound));
+        }
+        index += 1;
+    }
+    None
 }

@@ -148,7 +148,10 @@ impl Copying {
     fn reply_to(&mut self, alloc: Global, request: Request) -> Option<Result<Replied, Refused>> {
         match admit(&self.config, request) {
             Ok(command) => self.reply_of_both(alloc, command),
-            Err(refusal) => Some(Err(Refused { at: None, refusal })),
+            Err(cause) => Some(Err(Refused {
+                at: None,
+                refusal: cause.refusal(),
+            })),
         }
     }
 

@@ -1,13 +1,13 @@
 //! The explanation of each refusal.
 
-use crate::explain_lines::asked::{currencies, dates, parties, rights, tariffs, volumes};
+use crate::explain_lines::causes;
 use crate::explain_lines::happened::{
     bookings, credits, holds, limits, periods, stores, tokens, versions,
 };
 use crate::explain_lines::line::{failing, no_json};
 use crate::explain_lines::member_path::MemberPath;
-use crate::explain_lines::telling::{Cause, Told, Value};
-use cdr_checks::{Ask, Authorize, Release, Request, Settlement};
+use crate::explain_lines::telling::{Told, Value, Why};
+use cdr_checks::{Authorize, Command, Release, Request, Settlement, admit};
 use ocpi_json::ReadFault;
 use ocpi_json::fields::FieldFault;
 use ocpi_json::name::Name;
@@ -16,121 +16,124 @@ use plain_house::{Answer, Event, Refused, Replied};
 use request_lines::{LineRoom, read_request, request_of};
 use std::alloc::{AllocError, Global};
 
-fn cdr_of(ask: &Ask) -> Option<&Cdr> {
-    let Ask::Post(cdr) = ask else {
+fn cdr_of(command: &Command) -> Option<&Cdr> {
+    let Command::Post(checked) = command else {
         return None;
     };
-    Some(cdr)
+    Some(checked.cdr())
 }
 
-fn authorize_of(ask: &Ask) -> Option<&Authorize> {
-    let Ask::Authorize(asked) = ask else {
+fn authorize_of(command: &Command) -> Option<&Authorize> {
+    let Command::Authorize(asked) = command else {
         return None;
     };
     Some(asked)
 }
 
-fn release_of(ask: &Ask) -> Option<&Release> {
-    let Ask::Release(release) = ask else {
+fn release_of(command: &Command) -> Option<&Release> {
+    let Command::Release(release) = command else {
         return None;
     };
     Some(release)
 }
 
-fn settlement_of(ask: &Ask) -> Option<&Settlement> {
-    let Ask::Settle(settlement) = ask else {
+fn settlement_of(command: &Command) -> Option<&Settlement> {
+    let Command::Settle(settlement) = command else {
         return None;
     };
     Some(settlement)
 }
 
 // Explains which object is stored or booked with another content.
-fn conflict(events: &[Event], ask: &Ask) -> Option<Told> {
-    match ask {
-        Ask::PutTariff(tariff) => versions::conflict(events, MemberPath::at(Name::Tariff), tariff),
-        Ask::Post(cdr) => bookings::conflict(events, cdr),
-        Ask::PutToken(_)
-        | Ask::Authorize(_)
-        | Ask::Release(_)
-        | Ask::Close(_)
-        | Ask::Settle(_)
-        | Ask::Exposure(_)
-        | Ask::Find(_)
-        | Ask::Statement(_) => None,
+fn conflict(events: &[Event], command: &Command) -> Option<Told> {
+    match command {
+        Command::PutTariff(tariff) => {
+            versions::conflict(events, MemberPath::at(Name::Tariff), tariff)
+        }
+        Command::Post(checked) => bookings::conflict(events, checked.cdr()),
+        Command::PutToken(_)
+        | Command::Authorize(_)
+        | Command::Release(_)
+        | Command::Close(_)
+        | Command::Settle(_)
+        | Command::Exposure(_)
+        | Command::Find(_)
+        | Command::Statement(_) => None,
     }
 }
 
-// Returns the period that a request names.
-fn period_of(ask: &Ask) -> Option<u64> {
-    match ask {
-        Ask::Close(close) => Some(close.period),
-        Ask::Settle(settlement) => Some(settlement.period),
-        Ask::Statement(asked) => Some(asked.period),
-        Ask::PutTariff(_)
-        | Ask::PutToken(_)
-        | Ask::Authorize(_)
-        | Ask::Release(_)
-        | Ask::Post(_)
-        | Ask::Exposure(_)
-        | Ask::Find(_) => None,
+// Returns the period that a command names.
+fn period_of(command: &Command) -> Option<u64> {
+    match command {
+        Command::Close(close) => Some(close.period),
+        Command::Settle(settlement) => Some(settlement.period),
+        Command::Statement(asked) => Some(asked.period),
+        Command::PutTariff(_)
+        | Command::PutToken(_)
+        | Command::Authorize(_)
+        | Command::Release(_)
+        | Command::Post(_)
+        | Command::Exposure(_)
+        | Command::Find(_) => None,
     }
 }
 
-fn not_found(ask: &Ask) -> Option<Told> {
-    let Ask::Find(find) = ask else {
+fn not_found(command: &Command) -> Option<Told> {
+    let Command::Find(find) = command else {
         return None;
     };
     Some(bookings::not_booked(MemberPath::at(Name::Id), find.id))
 }
 
-// Explains why a request is refused after these events.
+// Explains why a house refuses a command after these events. What is refused before a house is asked is not explained here.
 fn of_refusal(
     config: &Config,
     events: &[Event],
-    request: &Request,
+    command: &Command,
     refusal: Refusal,
 ) -> Option<Told> {
-    let ask = &request.ask;
-    let cdr = cdr_of(ask);
+    let cdr = cdr_of(command);
     match refusal {
-        Refusal::Syntax | Refusal::Field { .. } | Refusal::NoMemory => None,
-        Refusal::UnknownParty => parties::told(config, ask),
-        Refusal::NotYours => rights::told(config, request),
-        Refusal::WrongCurrency => currencies::told(config, ask),
-        Refusal::BadDates => dates::told(cdr?),
-        Refusal::TariffNotGiven => tariffs::not_given(cdr?),
-        Refusal::UnsupportedRestriction => tariffs::not_supported(ask),
-        Refusal::Reservation => volumes::reserved(cdr?),
-        Refusal::EnergyMismatch => Some(volumes::energy(cdr?)),
-        Refusal::AmountTooLarge => Some(volumes::too_large()),
-        Refusal::CostMismatch { rated } => Some(volumes::mismatch(cdr?, rated)),
-        Refusal::Conflict => conflict(events, ask),
+        Refusal::Conflict => conflict(events, command),
         Refusal::TariffNotRegistered => versions::not_registered(events, cdr?),
-        Refusal::UnknownToken => tokens::unknown(events, authorize_of(ask)?),
-        Refusal::UnknownHold => holds::told(events, release_of(ask)?),
+        Refusal::UnknownToken => tokens::unknown(events, authorize_of(command)?),
+        Refusal::UnknownHold => holds::told(events, release_of(command)?),
         Refusal::UnknownOriginal => credits::without_original(cdr?),
         Refusal::CreditOfCredit => credits::of_credit(events, cdr?),
         Refusal::AlreadyCredited => credits::credited_already(events, cdr?),
         Refusal::CreditDiffers => credits::differs(config, events, cdr?),
-        Refusal::NotCurrent { current } => Some(periods::not_current(period_of(ask)?, current)),
-        Refusal::PeriodOpen => Some(periods::open(events, period_of(ask)?)),
-        Refusal::AlreadySettled => Some(periods::settled(events, settlement_of(ask)?)),
-        Refusal::UnknownCdr => not_found(ask),
-        Refusal::Full { what } => Some(stores::full(config, ask, what)),
+        Refusal::NotCurrent { current } => Some(periods::not_current(period_of(command)?, current)),
+        Refusal::PeriodOpen => Some(periods::open(events, period_of(command)?)),
+        Refusal::AlreadySettled => Some(periods::settled(events, settlement_of(command)?)),
+        Refusal::UnknownCdr => not_found(command),
+        Refusal::Full { what } => Some(stores::full(config, command, what)),
         Refusal::OverLimit {
             exposure,
             limit,
             pair,
         } => Some(limits::over_limit(exposure, limit, pair)),
         Refusal::TooLate { original, current } => Some(credits::too_late(original, current)),
+        Refusal::Syntax
+        | Refusal::Field { .. }
+        | Refusal::NoMemory
+        | Refusal::UnknownParty
+        | Refusal::NotYours
+        | Refusal::WrongCurrency
+        | Refusal::BadDates
+        | Refusal::TariffNotGiven
+        | Refusal::UnsupportedRestriction
+        | Refusal::Reservation
+        | Refusal::EnergyMismatch
+        | Refusal::AmountTooLarge
+        | Refusal::CostMismatch { .. } => None,
     }
 }
 
 // Explains the answers `BLOCKED` and `NO_CREDIT`.
-fn of_answer(config: &Config, ask: &Ask, answer: &Answer) -> Option<Told> {
+fn of_answer(command: &Command, answer: &Answer) -> Option<Told> {
     match answer {
-        Answer::Blocked => Some(tokens::blocked(authorize_of(ask)?)),
-        Answer::NoCredit => Some(limits::no_credit(config, authorize_of(ask)?)),
+        Answer::Blocked => Some(tokens::blocked(authorize_of(command)?)),
+        Answer::NoCredit(over) => Some(limits::no_credit(over)),
         Answer::Stored
         | Answer::Unchanged
         | Answer::Allowed { .. }
@@ -145,16 +148,17 @@ fn of_answer(config: &Config, ask: &Ask, answer: &Answer) -> Option<Told> {
     }
 }
 
-/// Explains a request that is refused by this reply, after these events.
+/// Explains a request that is refused by this reply, after these events: by its cause, where it is not admitted.
 pub fn of_reply(
     config: &Config,
     events: &[Event],
-    request: &Request,
+    request: Request,
     reply: &Result<Replied, Refused>,
 ) -> Option<Told> {
-    match reply {
-        Ok(replied) => of_answer(config, &request.ask, &replied.answer),
-        Err(refused) => of_refusal(config, events, request, refused.refusal),
+    match (admit(config, request), reply) {
+        (Err(cause), _) => Some(causes::told(&cause)),
+        (Ok(command), Ok(replied)) => of_answer(&command, &replied.answer),
+        (Ok(command), Err(refused)) => of_refusal(config, events, &command, refused.refusal),
     }
 }
 
@@ -183,10 +187,10 @@ pub fn of_line(
     reply: &Result<Replied, Refused>,
 ) -> Result<Told, AllocError> {
     let told = match request_of(alloc, room, line) {
-        Ok(request) => of_reply(config, events, &request, reply),
+        Ok(request) => of_reply(config, events, request, reply),
         Err(Refusal::NoMemory) => return Err(AllocError),
         Err(Refusal::Field { .. }) => of_member(alloc, room, line)?,
         Err(_) => return no_json::told(alloc, line),
     };
-    Ok(told.unwrap_or(Told::new(MemberPath::nowhere(), Cause::Untold, Value::Nothing)))
+    Ok(told.unwrap_or(Told::new(MemberPath::nowhere(), Why::Untold, Value::Nothing)))
 }

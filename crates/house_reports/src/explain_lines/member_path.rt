@@ -1,5 +1,6 @@
 //! A place in a line.
 
+use cdr_checks::Place;
 use ocpi_json::name::Name;
 use ocpi_json::{Around, MemberFault, Step};
 use std::fmt;
@@ -37,17 +38,26 @@ impl MemberPath {
         MemberPath::nowhere().then(name, None)
     }
 
-    /// Returns the path of the member at fault.
-    pub fn of_fault(fault: &MemberFault) -> MemberPath {
+    // Returns the path of the objects around a member.
+    fn around(around: Around) -> MemberPath {
         let path = MemberPath::nowhere();
-        let around = match fault.around {
+        match around {
             Around::Nothing => path,
             Around::One(a) => path.step(a),
             Around::Two(a, b) => path.step(a).step(b),
             Around::Three(a, b, c) => path.step(a).step(b).step(c),
             Around::Four(a, b, c, d) => path.step(a).step(b).step(c).step(d),
-        };
-        around.step(fault.member)
+        }
+    }
+
+    /// Returns the path of the member at fault.
+    pub fn of_fault(fault: &MemberFault) -> MemberPath {
+        MemberPath::around(fault.around).step(fault.member)
+    }
+
+    /// Returns the path of the member at that place.
+    pub fn of_place(place: &Place) -> MemberPath {
+        MemberPath::around(place.around).step(place.member)
     }
 
     /// Returns the path of the member of that name of the object at this path, or of that item of it.

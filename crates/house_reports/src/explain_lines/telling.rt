@@ -28,7 +28,7 @@ pub enum PeriodCause {
 
 /// Why a line is refused.
 #[derive(Clone, Copy)]
-pub enum Cause {
+pub enum Why {
     NoJson,
     NoUtf8,
     Missing,
@@ -55,7 +55,6 @@ pub enum Cause {
     TokenNotValid,
     AboveOwnLimit,
     AbovePairLimit,
-    HoldAboveALimit,
     NoHold(NoHold),
     IdOfNoCdr,
     IdOfCredit,
@@ -100,50 +99,49 @@ fn words_of_full(what: Store) -> &'static str {
     }
 }
 
-impl Cause {
+impl Why {
     /// Returns the cause in words.
     pub fn words(self) -> &'static str {
         match self {
-            Cause::NoJson => "no JSON",
-            Cause::NoUtf8 => "no UTF-8",
-            Cause::Missing => "missing",
-            Cause::Unfit => "of a wrong kind or out of bounds",
-            Cause::NoOperator => "configured as no operator",
-            Cause::NoProvider => "configured as no provider",
-            Cause::NotConfigured => "not configured",
-            Cause::NoHub => "no hub",
-            Cause::ActsNotForParty => "does not act for the party",
-            Cause::NotCurrencyOfCdr => "not the currency of the CDR",
-            Cause::BeforeItsFront => "before the moment in front of it",
-            Cause::IdOfNoTariff => "id of no tariff of the CDR",
-            Cause::NotSupported => "bounds on current and power are not supported",
-            Cause::Reserved => "time of reservation",
-            Cause::NotSumOfEnergy => "not the sum of ENERGY",
-            Cause::RatedTooHigh => "rated above the largest amount",
-            Cause::FarFromRated => "farther from the rated cost than the tolerance",
-            Cause::StoredOtherwise => "stored with another one",
-            Cause::BookedOtherwise => "booked with another one",
-            Cause::OfAnotherOperator => "of another operator",
-            Cause::NotStored => "version that is not stored",
-            Cause::TokenNotPut => "token that is not put",
-            Cause::OfAnotherType => "put as of another type",
-            Cause::TokenNotValid => "token that is not valid",
-            Cause::AboveOwnLimit => "above the provider's limit",
-            Cause::AbovePairLimit => "above the limit with the operator",
-            Cause::HoldAboveALimit => "hold above a limit",
-            Cause::NoHold(why) => words_of_hold(why),
-            Cause::IdOfNoCdr => "id of no CDR of the operator",
-            Cause::IdOfCredit => "id of a Credit CDR",
-            Cause::CreditedAlready => "credited already",
-            Cause::BeforeTheWindow => "of a period before the credit window",
-            Cause::NotProviderOfCdr => "not the provider of the CDR",
-            Cause::AboveZero => "above 0",
-            Cause::FarFromNegated => "farther from the negated amount than the tolerance",
-            Cause::Period(why) => words_of_period(why),
-            Cause::Full(what) => words_of_full(what),
-            Cause::ComesOutOtherwise => "an event would come out otherwise",
-            Cause::IdOfAnotherLine => "given to another line",
-            Cause::Untold => "",
+            Why::NoJson => "no JSON",
+            Why::NoUtf8 => "no UTF-8",
+            Why::Missing => "missing",
+            Why::Unfit => "of a wrong kind or out of bounds",
+            Why::NoOperator => "configured as no operator",
+            Why::NoProvider => "configured as no provider",
+            Why::NotConfigured => "not configured",
+            Why::NoHub => "no hub",
+            Why::ActsNotForParty => "does not act for the party",
+            Why::NotCurrencyOfCdr => "not the currency of the CDR",
+            Why::BeforeItsFront => "before the moment in front of it",
+            Why::IdOfNoTariff => "id of no tariff of the CDR",
+            Why::NotSupported => "bounds on current and power are not supported",
+            Why::Reserved => "time of reservation",
+            Why::NotSumOfEnergy => "not the sum of ENERGY",
+            Why::RatedTooHigh => "rated above the largest amount",
+            Why::FarFromRated => "farther from the rated cost than the tolerance",
+            Why::StoredOtherwise => "stored with another one",
+            Why::BookedOtherwise => "booked with another one",
+            Why::OfAnotherOperator => "of another operator",
+            Why::NotStored => "version that is not stored",
+            Why::TokenNotPut => "token that is not put",
+            Why::OfAnotherType => "put as of another type",
+            Why::TokenNotValid => "token that is not valid",
+            Why::AboveOwnLimit => "above the provider's limit",
+            Why::AbovePairLimit => "above the limit with the operator",
+            Why::NoHold(why) => words_of_hold(why),
+            Why::IdOfNoCdr => "id of no CDR of the operator",
+            Why::IdOfCredit => "id of a Credit CDR",
+            Why::CreditedAlready => "credited already",
+            Why::BeforeTheWindow => "of a period before the credit window",
+            Why::NotProviderOfCdr => "not the provider of the CDR",
+            Why::AboveZero => "above 0",
+            Why::FarFromNegated => "farther from the negated amount than the tolerance",
+            Why::Period(why) => words_of_period(why),
+            Why::Full(what) => words_of_full(what),
+            Why::ComesOutOtherwise => "an event would come out otherwise",
+            Why::IdOfAnotherLine => "given to another line",
+            Why::Untold => "",
         }
     }
 }
@@ -224,7 +222,7 @@ fn write_decimal<W: fmt::Write>(
 #[derive(Clone, Copy)]
 pub struct Told {
     pub path: MemberPath,
-    pub cause: Cause,
+    pub cause: Why,
     /// The value of the line.
     pub found: Value,
     /// The value that it is compared with.
@@ -235,7 +233,7 @@ pub struct Told {
 
 impl Told {
     /// Returns an explanation with this place, this cause and the value of the line there.
-    pub fn new(path: MemberPath, cause: Cause, found: Value) -> Told {
+    pub fn new(path: MemberPath, cause: Why, found: Value) -> Told {
         Told {
             path,
             cause,

@@ -10,7 +10,7 @@ fn turned_down_by(answer: &Answer) -> Option<&'static str>
 {
     match answer {
         Answer::Blocked => Some("BLOCKED"),
-        Answer::NoCredit => Some("NO_CREDIT"),
+        Answer::NoCredit(_) => Some("NO_CREDIT"),
         Answer::Stored
         | Answer::Unchanged
         | Answer::Allowed { .. }

@@ -8,7 +8,7 @@ use Rattle.plain_house.specs.declared.event.Event.{Event}
 use Rattle.plain_house.specs.declared.event.Event.TheVariants as event
 use Rattle.plain_house.specs.declared.event.Hold.{Hold}
 use Rattle.plain_house.specs.Entries.{charge_of}
-use Rattle.plain_house.specs.House.{hold_for, lacks_credit}
+use Rattle.plain_house.specs.House.{hold_for, over_credit}
 use Rattle.plain_house.specs.Posting.{over_limit}
 use Rattle.provider_account.specs.State.{PlainAccount}
 
@@ -28,7 +28,7 @@ abbrev pub AccountGives : Config → List AccountEntry → ℕ → Event → Typ
 AccountGives config entries period (event.Tariff tariff) = Unit {0}
 AccountGives config entries period (event.Token token) = Unit {0}
 AccountGives config entries period (event.Authorised hold) =
-    (lacks_credit config (ask_of hold) entries ≡ false) × (hold ≡ hold_for config (ask_of hold) entries)
+    (over_credit config (ask_of hold) entries ≡ None) × (hold ≡ hold_for config (ask_of hold) entries)
 AccountGives config entries period (event.Released release) = Unit {0}
 AccountGives config entries period (event.Cdr cdr cost) = over_limit config (charge_of cdr cost period) entries ≡ None
 AccountGives config entries period (event.Credit cdr amount) = Unit {0}

@@ -2,7 +2,7 @@
 
 ghost use Rattle.std.specs.Prelude.{◌≡◌, ℕ, true, false, [], ◌∷◌, Some, None};
 ghost use Rattle.cdr_checks.specs.declared.request.Command.TheVariants.{Authorize as AuthorizeCommand};
-ghost use Rattle.plain_house.specs.House.{allows, hold_for, lacks_credit, full_for, unless_covered};
+ghost use Rattle.plain_house.specs.House.{allows, full_for, hold_for, over_credit, unless_covered};
 ghost use Rattle.plain_house.specs.declared.event.Event.TheVariants as event;
 ghost use Rattle.plain_house.specs.Verdict.{unless};
 ghost use Rattle.period_order.specs.Decided.{AccountTakes, AccountTakesAny, Decides, event_of, order_with, replied_by, seen};
@@ -22,7 +22,7 @@ use provider_account::Account;
 /// The hold of an authorisation that passes no limit.
 #[tactic(auto, using(crate::proofs::TakesLemmas::hold_within))]
 pub fn hold_within(config: &Config, ask: &Authorize, account: &Account) -> Hold
-    requires { lacks_credit config.now ask.now account.now.entries ≡ false }
+    requires { over_credit config.now ask.now account.now.entries ≡ None }
     ensures value { result ≡ hold_for config.now ask.now account.now.entries }
     ensures takes { (period : ℕ) → AccountTakes account.now.entries period (event.Authorised result) }
 {
@@ -34,15 +34,15 @@ pub fn hold_within(config: &Config, ask: &Authorize, account: &Account) -> Hold
 fn grant(config: &Config, ask: &Authorize, account: &Account, order: &mut Order) -> Outcome
     requires { order.old.has_room ≡ true }
     ensures outcome { result ≡ replied_by (unless (full_for config.now (seen [] account.now.entries order.old) ask.now.provider
-        ∷ unless_covered (lacks_credit config.now ask.now account.now.entries) ∷ []) (allows (hold_for config.now ask.now account.now.entries))) }
+        ∷ unless_covered (over_credit config.now ask.now account.now.entries) ∷ []) (allows (hold_for config.now ask.now account.now.entries))) }
     ensures takes { AccountTakesAny (Some account.now) (current_of order.old) (event_of result) }
     ensures order { order.new ≡ order_with config.now None (Some account.now) order.old result }
 {
     if let Some(what) = full_for_provider(config, &ask.provider, account, order) {
         return refused(Refusal::Full { what });
     }
-    if account.lacks_credit(config, ask) {
-        return replied(Ok(Answer::NoCredit));
+    if let Some(over) = account.over_credit(config, ask) {
+        return replied(Ok(Answer::NoCredit(over)));
     }
     let hold = hold_within(config, ask, account);
     let reference = hold.reference;

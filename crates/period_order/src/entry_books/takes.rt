@@ -43,7 +43,7 @@ fn is_next_hold(config: &Config, account: &Account, hold: &Hold) -> bool
         kind: TokenKind::Other,
         currency: hold.currency,
     };
-    if account.lacks_credit(config, &ask) {
+    if account.over_credit(config, &ask).is_some() {
         return false;
     }
     hold_within(config, &ask, account).is_same(hold)

@@ -6,7 +6,8 @@ ghost use Rattle.cdr_checks.specs.declared.request.Command.TheVariants.{Authoriz
 ghost use Rattle.plain_house.specs.Entries.{account_entries};
 ghost use Rattle.plain_house.specs.Exposure.{exposure_of, of_pair};
 ghost use Rattle.plain_house.specs.Known.{known};
-ghost use Rattle.plain_house.specs.House.{Does, allows, hold_for, is_hold_of, lacks_credit, next_reference, full_for, passes, unless_covered};
+ghost use Rattle.plain_house.specs.House.{Does, allows, hold_for, is_hold_of, next_reference, full_for, over_credit, unless_covered};
+ghost use Rattle.plain_house.specs.OverLimit.{over_if_any};
 ghost use Rattle.plain_house.specs.Inner.Scanned.{event_is_hold_of};
 ghost use Rattle.plain_house.specs.LegalLists.{KeepsLimits};
 ghost use Rattle.plain_house.specs.Replies.{Follows};
@@ -18,6 +19,7 @@ use crate::answer::{Answer, Refused, Replied};
 use crate::debts::exposure_of;
 use crate::event::{Event, Hold};
 use crate::hold_reference::reference;
+use crate::over_limit::{OverLimit, over};
 use crate::scope::Scope;
 use crate::tokens::validity;
 use cdr_checks::Authorize;
@@ -59,22 +61,31 @@ fn next_reference(config: &Config, events: &[Event], provider: &Party) -> CiText
     }
 }
 
-// The hold would pass the provider's credit limit, or its limit with the operator.
-fn lacks_credit(config: &Config, events: &[Event], ask: &Authorize) -> bool
+// With the hold, the exposure would be above the provider's limit, or its limit with the operator.
+fn over_credit(config: &Config, events: &[Event], ask: &Authorize) -> Option<OverLimit>
     requires { KeepsLimits config.now (account_entries events.now) }
-    ensures { result ≡ lacks_credit config.now ask.now (account_entries events.now) }
+    ensures { result ≡ over_credit config.now ask.now (account_entries events.now) }
 {
     let hold = config.hold(&ask.provider, &ask.currency).get();
     let limit = config.limit(&ask.provider, &ask.currency).get();
     let scope = Scope::of_provider(ask.provider, ask.currency);
     let exposure = exposure_of(events, &scope, None);
-    limit < exposure + hold || lacks_pair_credit(config, events, ask, hold)
+    let found = over(limit, exposure + hold, false);
+    if found.is_some() {
+        return found;
+    }
+    over_pair_credit(config, events, ask, hold)
 }
 
-fn lacks_pair_credit(config: &Config, events: &[Event], ask: &Authorize, hold: u64) -> bool
+fn over_pair_credit(
+    config: &Config,
+    events: &[Event],
+    ask: &Authorize,
+    hold: u64,
+) -> Option<OverLimit>
     requires limits { KeepsLimits config.now (account_entries events.now) }
     requires hold { hold ≤ 10 ^ 12 }
-    ensures { result ≡ passes (pair_limit_of config.now ask.now.operator ask.now.provider ask.now.currency)
+    ensures { result ≡ over_if_any (pair_limit_of config.now ask.now.operator ask.now.provider ask.now.currency)
         (exposure_of (of_pair ask.now.operator ask.now.provider ask.now.currency) (account_entries events.now) + hold) }
 {
     match config.pair_limit(&ask.operator, &ask.provider, &ask.currency) {
@@ -82,9 +93,9 @@ fn lacks_pair_credit(config: &Config, events: &[Event], ask: &Authorize, hold: u
             let most = limit.get();
             let scope = Scope::of_pair(ask.operator, ask.provider, ask.currency);
             let exposure = exposure_of(events, &scope, None);
-            most < exposure + hold
+            over(most, exposure + hold, true)
         }
-        None => false,
+        None => None,
     }
 }
 
@@ -104,15 +115,15 @@ fn hold_for(config: &Config, events: &[Event], ask: &Authorize) -> Hold
 fn grant(config: &Config, events: &mut Vec<Event>, ask: &Authorize) -> Result<Replied, Refused>
     requires { KeepsLimits config.now (account_entries events.old.items) }
     ensures { Follows (unless (full_for config.now (known events.old.items) ask.now.provider
-        ∷ unless_covered (lacks_credit config.now ask.now (account_entries events.old.items)) ∷ [])
+        ∷ unless_covered (over_credit config.now ask.now (account_entries events.old.items)) ∷ [])
         (allows (hold_for config.now ask.now (account_entries events.old.items)))) events.old.items result events.new.items }
 {
     let at = events.len();
     if let Some(what) = full_for_provider(config, events.as_slice(), &ask.provider) {
         return Err(refused(at, Refusal::Full { what }));
     }
-    if lacks_credit(config, events.as_slice(), ask) {
-        return Ok(replied(at, Answer::NoCredit));
+    if let Some(over) = over_credit(config, events.as_slice(), ask) {
+        return Ok(replied(at, Answer::NoCredit(over)));
     }
     let hold = hold_for(config, events.as_slice(), ask);
     let reference = hold.reference;

@@ -4,7 +4,8 @@ ghost use Rattle.std.specs.Prelude.{◌≡◌, ◌+◌, ◌^◌, ◌≤◌, pos,
 ghost use Rattle.ocpi_types.specs.Config.{pair_limit_of};
 ghost use Rattle.plain_house.specs.Exposure.{exposure_of, of_pair};
 ghost use Rattle.plain_house.specs.Full.{is_account_full};
-ghost use Rattle.plain_house.specs.House.{exposed, lacks_credit, passes};
+ghost use Rattle.plain_house.specs.House.{exposed, over_credit};
+ghost use Rattle.plain_house.specs.OverLimit.{over_if_any};
 ghost use Rattle.plain_house.specs.Posting.{above, above_if_any, over_limit};
 ghost use Rattle.plain_house.specs.Settlements.{settled_debt};
 ghost use Rattle.plain_house.specs.declared.entry.AccountEntry.TheVariants as account;
@@ -13,7 +14,7 @@ use super::Account;
 use cdr_checks::{Authorize, ExposureOf, Settlement};
 use exact_money::Amount;
 use ocpi_types::{Config, Party, Refusal};
-use plain_house::{Answer, Charge, Scope, above, entries_add_at_most};
+use plain_house::{Answer, Charge, OverLimit, Scope, above, entries_add_at_most, over};
 
 impl Account {
     /// The provider has as many entries as the configuration allows.
@@ -31,28 +32,32 @@ impl Account {
         self.index.exposure(self.entries.as_slice(), scope)
     }
 
-    fn lacks_pair_credit(&self, config: &Config, ask: &Authorize, hold: u64) -> bool
+    fn over_pair_credit(&self, config: &Config, ask: &Authorize, hold: u64) -> Option<OverLimit>
         requires { hold ≤ 10 ^ 12 }
-        ensures { result ≡ passes (pair_limit_of config.now ask.now.operator ask.now.provider ask.now.currency)
+        ensures { result ≡ over_if_any (pair_limit_of config.now ask.now.operator ask.now.provider ask.now.currency)
             (exposure_of (of_pair ask.now.operator ask.now.provider ask.now.currency) self.now.entries + hold) }
     {
         match config.pair_limit(&ask.operator, &ask.provider, &ask.currency) {
             Some(limit) => {
                 let scope = Scope::of_pair(ask.operator, ask.provider, ask.currency);
-                limit.get() < self.exposure_within(&scope) + hold
+                over(limit.get(), self.exposure_within(&scope) + hold, true)
             }
-            None => false,
+            None => None,
         }
     }
 
-    /// The hold would pass the provider's credit limit, or its limit with the operator.
-    pub fn lacks_credit(&self, config: &Config, ask: &Authorize) -> bool
-        ensures { result ≡ lacks_credit config.now ask.now self.now.entries }
+    /// With the hold, the exposure would be above the provider's limit, or its limit with the operator.
+    pub fn over_credit(&self, config: &Config, ask: &Authorize) -> Option<OverLimit>
+        ensures { result ≡ over_credit config.now ask.now self.now.entries }
     {
         let hold = config.hold(&ask.provider, &ask.currency).get();
         let limit = config.limit(&ask.provider, &ask.currency).get();
         let scope = Scope::of_provider(ask.provider, ask.currency);
-        limit < self.exposure_within(&scope) + hold || self.lacks_pair_credit(config, ask, hold)
+        let found = over(limit, self.exposure_within(&scope) + hold, false);
+        if found.is_some() {
+            return found;
+        }
+        self.over_pair_credit(config, ask, hold)
     }
 
     // The refusal where an exposure with the charge added is above its limit. The charge may use up a hold and may have ended, which

@@ -5,7 +5,7 @@ ghost use Rattle.house_reports.specs.explain_lines.Bookings.{books, credits};
 
 use crate::explain_lines::happened::differences::differing_in_cdr;
 use crate::explain_lines::member_path::MemberPath;
-use crate::explain_lines::telling::{Cause, Told, Value};
+use crate::explain_lines::telling::{Told, Value, Why};
 use ocpi_json::ci_text::CiText;
 use ocpi_json::name::Name;
 use ocpi_types::{Cdr, Party};
@@ -74,7 +74,7 @@ pub fn conflict(events: &[Event], cdr: &Cdr) -> Option<Told> {
     };
     let told = Told::new(
         of_cdr.then(name, None),
-        Cause::BookedOtherwise,
+        Why::BookedOtherwise,
         Value::Nothing,
     );
     Some(
@@ -85,5 +85,5 @@ pub fn conflict(events: &[Event], cdr: &Cdr) -> Option<Told> {
 
 /// Explains that no CDR of the operator has the id at this path.
 pub fn not_booked(path: MemberPath, id: CiText<39>) -> Told {
-    Told::new(path, Cause::IdOfNoCdr, Value::Id(id))
+    Told::new(path, Why::IdOfNoCdr, Value::Id(id))
 }

@@ -4,11 +4,10 @@ ghost use Rattle.std.specs.Prelude.{◌≡◌, neg_ℤ};
 ghost use Rattle.cdr_checks.specs.CdrConditions.{is_within_tolerance};
 ghost use Rattle.house_reports.specs.explain_lines.Credits.{difference};
 
-use crate::explain_lines::asked::volumes::cost_path;
 use crate::explain_lines::happened::bookings::{booked_at, credited_at, not_booked};
 use crate::explain_lines::member_path::MemberPath;
-use crate::explain_lines::telling::{Cause, Told, Value};
-use cdr_checks::is_within_tolerance;
+use crate::explain_lines::telling::{Told, Value, Why};
+use cdr_checks::{Place, is_within_tolerance};
 use ocpi_json::ci_text::CiText;
 use ocpi_json::name::Name;
 use ocpi_types::{Cdr, Config};
@@ -66,7 +65,7 @@ pub fn without_original(credit: &Cdr) -> Option<Told> {
 /// Explains that the Credit CDR names a Credit CDR.
 pub fn of_credit(events: &[Event], credit: &Cdr) -> Option<Told> {
     let id = credit.credit?;
-    let told = Told::new(reference_path(), Cause::IdOfCredit, Value::Id(id));
+    let told = Told::new(reference_path(), Why::IdOfCredit, Value::Id(id));
     Some(told.by_event(booked_at(events, &credit.operator, &id)))
 }
 
@@ -88,7 +87,7 @@ fn credit_id(events: &[Event], at: usize) -> Option<CiText<39>> {
 pub fn credited_already(events: &[Event], credit: &Cdr) -> Option<Told> {
     let id = credit.credit?;
     let at = credited_at(events, &credit.operator, &id)?;
-    let told = Told::new(reference_path(), Cause::CreditedAlready, Value::Id(id));
+    let told = Told::new(reference_path(), Why::CreditedAlready, Value::Id(id));
     let earlier = Value::Id(credit_id(events, at)?);
     Some(told.against(earlier).by_event(Some(at)))
 }
@@ -97,10 +96,14 @@ pub fn credited_already(events: &[Event], credit: &Cdr) -> Option<Told> {
 pub fn too_late(original: u64, current: u64) -> Told {
     let told = Told::new(
         reference_path(),
-        Cause::BeforeTheWindow,
+        Why::BeforeTheWindow,
         Value::Number(original),
     );
     told.against(Value::Number(current))
+}
+
+fn cost_path() -> MemberPath {
+    MemberPath::of_place(&Place::declared_cost())
 }
 
 fn told_of(credit: &Cdr, original: &Cdr, amount: BookedAmount, difference: Difference) -> Told {
@@ -110,18 +113,18 @@ fn told_of(credit: &Cdr, original: &Cdr, amount: BookedAmount, difference: Diffe
         Difference::Provider => {
             let found = Value::Party(credit.cdr_token.provider);
             let path = of_cdr.then(Name::CdrToken, None);
-            let told = Told::new(path, Cause::NotProviderOfCdr, found);
+            let told = Told::new(path, Why::NotProviderOfCdr, found);
             told.against(Value::Party(original.cdr_token.provider))
         }
         Difference::Currency => {
             let found = Value::Currency(credit.currency);
             let path = of_cdr.then(Name::Currency, None);
-            let told = Told::new(path, Cause::NotCurrencyOfCdr, found);
+            let told = Told::new(path, Why::NotCurrencyOfCdr, found);
             told.against(Value::Currency(original.currency))
         }
-        Difference::AboveZero => Told::new(cost_path(), Cause::AboveZero, cost),
+        Difference::AboveZero => Told::new(cost_path(), Why::AboveZero, cost),
         Difference::Cost => {
-            let told = Told::new(cost_path(), Cause::FarFromNegated, cost);
+            let told = Told::new(cost_path(), Why::FarFromNegated, cost);
             told.against(Value::Amount(amount.negated().amount()))
         }
     }

@@ -7,7 +7,7 @@ ghost use Rattle.plain_house.specs.Exposure.{names};
 ghost use Rattle.house_reports.specs.explain_lines.Holds.{authorises, ends};
 
 use crate::explain_lines::member_path::MemberPath;
-use crate::explain_lines::telling::{Cause, NoHold, Told, Value};
+use crate::explain_lines::telling::{NoHold, Told, Value, Why};
 use cdr_checks::Release;
 use ocpi_json::name::Name;
 use ocpi_types::Cdr;
@@ -78,13 +78,13 @@ fn told_of_end(told: Told, event: &Event) -> Option<Told> {
     match event {
         Event::Cdr { cdr, .. } => {
             let told = Told {
-                cause: Cause::NoHold(NoHold::UsedUp),
+                cause: Why::NoHold(NoHold::UsedUp),
                 ..told
             };
             Some(told.against(Value::Id(cdr.id)))
         }
         Event::Released(_) => Some(Told {
-            cause: Cause::NoHold(NoHold::ReleasedAlready),
+            cause: Why::NoHold(NoHold::ReleasedAlready),
             ..told
         }),
         Event::Tariff(_)
@@ -103,7 +103,7 @@ fn told_of_hold(events: &[Event], at: usize, told: Told, release: &Release) -> O
     };
     if !hold.operator.is(&release.operator) {
         let told = Told {
-            cause: Cause::NoHold(NoHold::GivenToAnother),
+            cause: Why::NoHold(NoHold::GivenToAnother),
             ..told
         };
         return Some(told.against(Value::Party(hold.operator)).by_event(Some(at)));
@@ -115,7 +115,7 @@ fn told_of_hold(events: &[Event], at: usize, told: Told, release: &Release) -> O
 /// Explains why no open hold has this reference.
 pub fn told(events: &[Event], release: &Release) -> Option<Told> {
     let found = Value::Reference(release.reference);
-    let never = Cause::NoHold(NoHold::NeverGiven);
+    let never = Why::NoHold(NoHold::NeverGiven);
     let told = Told::new(MemberPath::at(Name::Reference), never, found);
     match authorised_at(events, release) {
         Some(at) => told_of_hold(events, at, told, release),

@@ -4,7 +4,7 @@ ghost use Rattle.std.specs.Prelude.{◌≡◌, position};
 ghost use Rattle.house_reports.specs.explain_lines.Settled.{settles};
 
 use crate::explain_lines::member_path::MemberPath;
-use crate::explain_lines::telling::{Cause, PeriodCause, Told, Value};
+use crate::explain_lines::telling::{PeriodCause, Told, Value, Why};
 use cdr_checks::Settlement;
 use ocpi_json::name::Name;
 use plain_house::Event;
@@ -36,7 +36,7 @@ pub fn settled_at(events: &[Event], settlement: &Settlement) -> Option<usize>
 }
 
 fn told(period: u64, why: PeriodCause) -> Told {
-    let cause = Cause::Period(why);
+    let cause = Why::Period(why);
     Told::new(MemberPath::at(Name::Period), cause, Value::Number(period))
 }
 

@@ -4,7 +4,7 @@ ghost use Rattle.std.specs.Prelude.{◌≡◌, position};
 ghost use Rattle.house_reports.specs.explain_lines.Tokens.{puts};
 
 use crate::explain_lines::member_path::MemberPath;
-use crate::explain_lines::telling::{Cause, Told, Value};
+use crate::explain_lines::telling::{Told, Value, Why};
 use cdr_checks::Authorize;
 use ocpi_json::name::Name;
 use ocpi_types::TokenKind;
@@ -51,7 +51,7 @@ pub fn unknown(events: &[Event], asked: &Authorize) -> Option<Told> {
     match put_at(events, asked) {
         Some(at) => {
             let found = Value::Kind(asked.kind);
-            let told = Told::new(MemberPath::at(Name::Type), Cause::OfAnotherType, found);
+            let told = Told::new(MemberPath::at(Name::Type), Why::OfAnotherType, found);
             Some(
                 told.against(Value::Kind(kind_at(events, at)?))
                     .by_event(Some(at)),
@@ -59,7 +59,7 @@ pub fn unknown(events: &[Event], asked: &Authorize) -> Option<Told> {
         }
         None => Some(Told::new(
             MemberPath::at(Name::Uid),
-            Cause::TokenNotPut,
+            Why::TokenNotPut,
             Value::Reference(asked.uid),
         )),
     }
@@ -69,7 +69,7 @@ pub fn unknown(events: &[Event], asked: &Authorize) -> Option<Told> {
 pub fn blocked(asked: &Authorize) -> Told {
     Told::new(
         MemberPath::at(Name::Uid),
-        Cause::TokenNotValid,
+        Why::TokenNotValid,
         Value::Reference(asked.uid),
     )
 }

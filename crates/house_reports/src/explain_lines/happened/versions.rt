@@ -6,7 +6,7 @@ ghost use Rattle.house_reports.specs.explain_lines.Versions.{registers, stores};
 
 use crate::explain_lines::happened::differences::differing_in_tariff;
 use crate::explain_lines::member_path::MemberPath;
-use crate::explain_lines::telling::{Cause, Told, Value};
+use crate::explain_lines::telling::{Told, Value, Why};
 use ocpi_json::name::Name;
 use ocpi_types::{Cdr, Party, Tariff, same_tariff};
 use plain_house::Event;
@@ -77,21 +77,21 @@ pub fn conflict(events: &[Event], path: MemberPath, tariff: &Tariff) -> Option<T
         return None;
     };
     let path = path.then(differing_in_tariff(tariff, stored), None);
-    let told = Told::new(path, Cause::StoredOtherwise, Value::Nothing);
+    let told = Told::new(path, Why::StoredOtherwise, Value::Nothing);
     Some(told.by_event(Some(at)))
 }
 
 fn why_unregistered(events: &[Event], path: MemberPath, operator: Party, tariff: &Tariff) -> Told {
     if !tariff.operator.is(&operator) {
         let found = Value::Party(tariff.operator);
-        let told = Told::new(path, Cause::OfAnotherOperator, found);
+        let told = Told::new(path, Why::OfAnotherOperator, found);
         return told.against(Value::Party(operator));
     }
     match conflict(events, path, tariff) {
         Some(told) => told,
         None => Told::new(
             path.then(Name::LastUpdated, None),
-            Cause::NotStored,
+            Why::NotStored,
             Value::Moment(tariff.last_updated),
         ),
     }

@@ -2,7 +2,7 @@
 
 use crate::explain_lines::line::found::found;
 use crate::explain_lines::member_path::MemberPath;
-use crate::explain_lines::telling::{Cause, Told, Value};
+use crate::explain_lines::telling::{Told, Value, Why};
 use ocpi_json::{Expected, MemberFault, Node, standing_at};
 use std::alloc::{AllocError, Global};
 
@@ -10,12 +10,12 @@ use std::alloc::{AllocError, Global};
 pub fn told(alloc: Global, line: Node, fault: &MemberFault) -> Result<Told, AllocError> {
     let path = MemberPath::of_fault(fault);
     if fault.expected == Expected::Hub {
-        return Ok(Told::new(path, Cause::NoHub, Value::Nothing));
+        return Ok(Told::new(path, Why::NoHub, Value::Nothing));
     }
     let value = standing_at(line, fault);
     let cause = match &value {
-        Some(_) => Cause::Unfit,
-        None => Cause::Missing,
+        Some(_) => Why::Unfit,
+        None => Why::Missing,
     };
     let found = found(alloc, value.as_ref())?;
     Ok(Told::new(path, cause, found).against(Value::Expected(fault.expected)))

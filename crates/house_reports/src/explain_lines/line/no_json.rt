@@ -1,7 +1,7 @@
 //! The column at which a line stops being JSON.
 
 use crate::explain_lines::member_path::MemberPath;
-use crate::explain_lines::telling::{Cause, Told, Value};
+use crate::explain_lines::telling::{Told, Value, Why};
 use json::{Reader, Scratch};
 use std::alloc::{AllocError, Global};
 use std::str;
@@ -24,8 +24,8 @@ fn read_bytes(alloc: Global, text: &str) -> Result<usize, AllocError> {
 /// Explains at which column, in characters, a line stops being JSON.
 pub fn told(alloc: Global, line: &[u8]) -> Result<Told, AllocError> {
     let (read, cause) = match str::from_utf8(line) {
-        Ok(text) => (read_bytes(alloc, text)?, Cause::NoJson),
-        Err(error) => (error.valid_up_to(), Cause::NoUtf8),
+        Ok(text) => (read_bytes(alloc, text)?, Why::NoJson),
+        Err(error) => (error.valid_up_to(), Why::NoUtf8),
     };
     let before = &line[..read.min(line.len())];
     let column = before.iter().filter(|byte| begins_character(byte)).count();

@@ -1,11 +1,12 @@
 //! The explanation of each refusal of a stream.
 
-use crate::explain_lines::asked::rights;
+use crate::explain_lines::causes;
 use crate::explain_lines::explaining::of_reply;
 use crate::explain_lines::line::found::found;
 use crate::explain_lines::line::{failing, no_json};
 use crate::explain_lines::member_path::MemberPath;
-use crate::explain_lines::telling::{Cause, Told, Value};
+use crate::explain_lines::telling::{Told, Value, Why};
+use cdr_checks::is_a_hub;
 use line_streams::{Asked, RequestId, StreamReply, asked_of, read_asked_line};
 use ocpi_json::ci_text::CiText;
 use ocpi_json::fields::FieldFault;
@@ -25,17 +26,20 @@ fn word(text: &str) -> Value {
 }
 
 // Explains why a request or a change is refused by this reply after these events.
-fn of_done(config: &Config, events: &[Event], asked: &Asked, reply: &StreamReply) -> Option<Told> {
+fn of_done(config: &Config, events: &[Event], asked: Asked, reply: &StreamReply) -> Option<Told> {
     match (asked, reply) {
         (Asked::Request(request), StreamReply::House(reply)) => {
             of_reply(config, events, request, reply)
         }
         (Asked::Change(change), StreamReply::House(_)) => {
-            rights::of_platform(config, &change.platform, None)
+            match is_a_hub(config, &change.platform) {
+                Err(cause) => Some(causes::told(&cause)),
+                Ok(()) => None,
+            }
         }
         (Asked::Change(_), StreamReply::Otherwise { event, kind, .. }) => {
             let path = MemberPath::at(Name::Configuration);
-            let told = Told::new(path, Cause::ComesOutOtherwise, word(kind));
+            let told = Told::new(path, Why::ComesOutOtherwise, word(kind));
             Some(told.by_event(Some(*event as usize)))
         }
         _ => None,
@@ -63,7 +67,7 @@ fn of_used_id(
         None => written_id(alloc, room, line)?,
     };
     let path = MemberPath::at(Name::RequestId);
-    Ok(Told::new(path, Cause::IdOfAnotherLine, found))
+    Ok(Told::new(path, Why::IdOfAnotherLine, found))
 }
 
 // The fault at a member of a line, in which the command may be one of a stream.
@@ -101,7 +105,7 @@ pub fn of_line(
 ) -> Result<Told, AllocError> {
     let told = match asked_of(alloc, room, line) {
         Ok(asks) => match (reply, &asks.id) {
-            (Some(reply), _) => of_done(config, events, &asks.asked, reply),
+            (Some(reply), _) => of_done(config, events, asks.asked, reply),
             (None, Some(id)) => Some(of_used_id(alloc, &mut room.room, line, id)?),
             (None, None) => None,
         },
@@ -109,5 +113,5 @@ pub fn of_line(
         Err(Refusal::Field { .. }) => of_member(alloc, room, line)?,
         Err(_) => return no_json::told(alloc, line),
     };
-    Ok(told.unwrap_or(Told::new(MemberPath::nowhere(), Cause::Untold, Value::Nothing)))
+    Ok(told.unwrap_or(Told::new(MemberPath::nowhere(), Why::Untold, Value::Nothing)))
 }
