@@ -11,11 +11,14 @@ use crate::fault::KeepFault;
 use crate::pending::push_whole_lines;
 use kept_lines::{Batch, Log};
 use request_lines::{
-    Answerer, Failed, MOST_LINE_BYTES, MOST_READ_BYTES, MOST_READ_CALLS, Sink, Source,
-    lines_join_to_bytes, read_buffer, read_into, split_line, write_all,
+    Answerer, Failed, MOST_LINE_BYTES, MOST_READ_CALLS, Sink, Source, lines_join_to_bytes,
+    read_buffer, read_into, split_line, write_all,
 };
 use sqlite_disk::Disk;
 use std::alloc::{AllocError, Global};
+
+/// How many bytes a read call of new lines asks for. Its whole lines are one batch.
+pub const BATCH_BYTES: usize = 1_048_576;
 
 /// Adds the answers to the whole lines of these bytes to a text.
 fn answer_lines<A: Answerer>(
@@ -133,7 +136,7 @@ pub fn answer_new_lines<D: Disk, R: Source, W: Sink, A: Answerer>(
         (λ _. AreAnswered A.rule answerer.old (D.Disk.may_leave log.new.disk) (IsTrue (D.Disk.is_clean log.new.disk)) (kept_in (D.Disk.seen log.old.disk)) whole sent) }
     ensures clean { D.Disk.is_clean log.new.disk ≡ D.Disk.is_clean log.old.disk }
 {
-    let mut buffer = read_buffer(alloc, MOST_READ_BYTES)?;
+    let mut buffer = read_buffer(alloc, BATCH_BYTES)?;
     let mut scratch = Scratch::new(alloc)?;
     let mut pending = Vec::new(alloc);
     for turn in 0..MOST_READ_CALLS {

@@ -5,9 +5,10 @@ ghost use Rattle.kept_lines.specs.Reading.{OnlyReads};
 ghost use Rattle.kept_lines.specs.Recovery.{disk_of, lines_left};
 ghost use Rattle.kept_answers.specs.Kept.{AreResent, Begins, HasResent, HasSent};
 
+use crate::answering::BATCH_BYTES;
 use crate::fault::KeepFault;
 use kept_lines::Recovery;
-use request_lines::{Answerer, MOST_READ_BYTES, Sink, write_all};
+use request_lines::{Answerer, Sink, write_all};
 use sqlite_disk::Disk;
 use std::alloc::Global;
 
@@ -45,12 +46,12 @@ fn send<W: Sink>(writer: &mut W, text: &mut Vec<u8>) -> Result<(), KeepFault>
     Ok(())
 }
 
-/// Sends a text and empties it, if it has as many bytes as a read call asks for.
+/// Sends a text and empties it, if it has as many bytes as a read call of new lines asks for.
 fn send_if_long<W: Sink>(writer: &mut W, text: &mut Vec<u8>) -> Result<(), KeepFault>
     ensures told { (sent : List ℕ) × W.writing.takes writer.old sent writer.new
         × MatchResult result (λ _. text.old.items ≡ sent ++ text.new.items) (λ _. Begins sent text.old.items) }
 {
-    if text.len() < MOST_READ_BYTES {
+    if text.len() < BATCH_BYTES {
         return Ok(());
     }
     send(writer, text)

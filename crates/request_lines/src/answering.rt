@@ -47,7 +47,7 @@ fn finish_line<W: Sink, A: Answerer>(
     progress: &mut Progress,
     line: &[u8],
 ) -> Result<(), ScriptFault>
-    requires few { progress.old.lines < 2 ^ 61 }
+    requires few { progress.old.lines < 2 ^ 63 }
     requires short { IsShort line.now }
     ensures ok { OnOk result (HasAnswered A.rule W.writing (line.now ∷ [])
         (state answerer.old writer.old progress.old) (state answerer.new writer.new progress.new)) }
@@ -79,7 +79,7 @@ pub(super) fn finish_last<W: Sink, A: Answerer>(
     progress: &mut Progress,
     part: &[u8],
 ) -> Result<(), ScriptFault>
-    requires few { progress.old.lines < 2 ^ 61 }
+    requires few { progress.old.lines < 2 ^ 63 }
     requires short { IsShort part.now }
     ensures ok { OnOk result (HasAnswered A.rule W.writing (last_line part.now)
         (state answerer.old writer.old progress.old) (state answerer.new writer.new progress.new)) }
@@ -94,7 +94,7 @@ pub(super) fn finish_last<W: Sink, A: Answerer>(
 
 /// Keeps more bytes of a line that has not ended.
 fn keep(progress: &Progress, part: &mut Vec<u8>, bytes: &[u8]) -> Result<(), ScriptFault>
-    requires few { progress.now.lines < 2 ^ 61 }
+    requires few { progress.now.lines < 2 ^ 63 }
     requires short { IsShort part.old.items }
     ensures part { OnOk result (part.new.items ≡ part.old.items ++ bytes.now) }
     ensures short { OnOk result (IsShort part.new.items) }
@@ -120,9 +120,8 @@ fn end_line<W: Sink, A: Answerer>(
     part: &mut Vec<u8>,
     end: &[u8],
 ) -> Result<(), ScriptFault>
-    requires few { progress.old.lines < 2 ^ 61 }
+    requires few { progress.old.lines < 2 ^ 63 }
     requires short { IsShort part.old.items }
-    requires end_short { IsShort end.now }
     requires end { HasNoNewline end.now }
     ensures ok { OnOk result (HasAnswered A.rule W.writing ((part.old.items ++ end.now) ∷ [])
         (state answerer.old writer.old progress.old) (state answerer.new writer.new progress.new)) }
@@ -132,7 +131,7 @@ fn end_line<W: Sink, A: Answerer>(
         HasStopped A.rule W.writing (read_from part.old.items (with_newline end.now ++ others))
         (state answerer.old writer.old progress.old) (state answerer.new writer.new progress.new) fault) }
 {
-    if part.is_empty() {
+    if part.is_empty() && end.len() <= MOST_LINE_BYTES {
         return finish_line(alloc, writer, answerer, progress, end);
     }
     keep(progress, part, end)?;
@@ -150,8 +149,8 @@ pub(super) fn feed<W: Sink, A: Answerer>(
     part: &mut Vec<u8>,
     bytes: &[u8],
 ) -> Result<(), ScriptFault>
-    requires few { progress.old.lines + length bytes.now < 2 ^ 61 }
-    requires block { length bytes.now ≤ 1048576 }
+    requires few { progress.old.lines + length bytes.now < 2 ^ 63 }
+    requires block { length bytes.now ≤ 4194304 }
     requires short { IsShort part.old.items }
     ensures ok { OnOk result (HasAnswered A.rule W.writing (whole_from part.old.items bytes.now)
         (state answerer.old writer.old progress.old) (state answerer.new writer.new progress.new)) }

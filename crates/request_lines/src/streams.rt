@@ -4,11 +4,11 @@ ghost use Rattle.request_lines.specs.Streams.{Reading, Writing};
 use super::faults::Failed;
 use std::alloc::{AllocError, Global};
 
-/// How many bytes a read call of a script asks for.
+/// How many bytes a read call asks for where one thread reads and answers.
 pub const READ_BYTES: usize = 65_536;
 
-/// How many bytes a read call may ask for.
-pub const MOST_READ_BYTES: usize = 1_048_576;
+/// How many bytes a read call may ask for at most.
+pub const MOST_READ_BYTES: usize = 4_194_304;
 
 /// A reader of bytes, one call at a time.
 pub trait Source {
@@ -18,7 +18,7 @@ pub trait Source {
     /// Reads some bytes to the front of the buffer, none only at the end.
     fn read(&mut self, buffer: &mut [u8]) -> Result<usize, Failed>
         requires some { 0 < length buffer.old }
-        requires few { length buffer.old ≤ 1048576 }
+        requires few { length buffer.old ≤ 4194304 }
         ensures bound { IfOk result (λ n. n ≤ length buffer.new) }
         ensures gives { IfOk result (λ n. reading.gives self.old 1 (take n buffer.new) self.new) }
         ensures end { IfOk result (λ n. n ≡ 0 → reading.at_end self.new) }
@@ -61,7 +61,7 @@ pub fn read_buffer(alloc: Global, len: usize) -> Result<Vec<u8>, AllocError>
 /// Reads to the front of a whole buffer.
 pub fn read_into<R: Source>(reader: &mut R, buffer: &mut Vec<u8>) -> Result<usize, Failed>
     requires some { 0 < length buffer.old.items }
-    requires few { length buffer.old.items ≤ 1048576 }
+    requires few { length buffer.old.items ≤ 4194304 }
     ensures same { length buffer.new.items ≡ length buffer.old.items }
     ensures bound { IfOk result (λ n. n ≤ length buffer.new.items) }
     ensures gives { IfOk result (λ n. R.reading.gives reader.old 1 (take n buffer.new.items) reader.new) }

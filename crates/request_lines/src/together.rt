@@ -61,7 +61,7 @@ fn finish_together<W: Sink, A: Answerer>(
     progress: &mut Progress,
     part: &[u8],
 ) -> Result<(), ScriptFault>
-    requires few { progress.old.lines < 2 ^ 61 }
+    requires few { progress.old.lines < 2 ^ 63 }
     requires short { IsShort part.now }
     requires waits { waiting gathering.old.text.now.items gathering.old.sent ≡ [] }
     ensures writer { gathering.new.writer.ghost_name ≡ gathering.old.writer.ghost_name }
@@ -90,8 +90,8 @@ fn feed_together<W: Sink, A: Answerer>(
     part: &mut Vec<u8>,
     bytes: &[u8],
 ) -> Result<(), ScriptFault>
-    requires few { progress.old.lines + length bytes.now < 2 ^ 61 }
-    requires block { length bytes.now ≤ 1048576 }
+    requires few { progress.old.lines + length bytes.now < 2 ^ 63 }
+    requires block { length bytes.now ≤ 4194304 }
     requires short { IsShort part.old.items }
     requires waits { waiting gathering.old.text.now.items gathering.old.sent ≡ [] }
     ensures writer { gathering.new.writer.ghost_name ≡ gathering.old.writer.ghost_name }
@@ -128,7 +128,7 @@ fn run_by_calls<R: Source, W: Sink, A: Answerer>(
 ) -> Result<Count, ScriptFault>
     requires ready { A.can_look_ahead }
     requires some { 0 < length buffer.old.items }
-    requires buffer { length buffer.old.items ≤ 1048576 }
+    requires buffer { length buffer.old.items ≤ 4194304 }
     requires part { part.old.items ≡ [] }
     requires waits { waiting gathering.old.text.now.items gathering.old.sent ≡ [] }
     ensures writer { gathering.new.writer.ghost_name ≡ gathering.old.writer.ghost_name }
@@ -178,7 +178,7 @@ pub fn run_lines_together<R: Source, W: Sink, A: Answerer>(
 ) -> Result<Count, ScriptFault>
     requires ready { A.can_look_ahead }
     requires some { 0 < read_bytes }
-    requires few { read_bytes ≤ 1048576 }
+    requires few { read_bytes ≤ 4194304 }
     // The writer took the answers to all lines that the reader returned, or to those before the error.
     ensures told { HasRunTogether A.rule R.reading W.writing answerer.old answerer.new reader.old reader.new writer.old writer.new result }
     ensures end { OnOk result (R.reading.at_end reader.new) }

@@ -3,8 +3,8 @@ use Rattle.std.proofs.lemmas.List.{append-nil}
 use Rattle.kept_answers.proofs.KeptLemmas.{ok_as}
 use Rattle.kept_answers.proofs.restart.send_if_long.Goals as goal
 
-pub returns-then-len-lt-MOST_READ_BYTES : goal.returns-then-len-lt-MOST_READ_BYTES
-returns-then-len-lt-MOST_READ_BYTES g c = record { told = ([], g.met.W.Sink.takes_none _, refl) }
+pub returns-then-len-lt-BATCH_BYTES : goal.returns-then-len-lt-BATCH_BYTES
+returns-then-len-lt-BATCH_BYTES g c = record { told = ([], g.met.W.Sink.takes_none _, refl) }
 
 pub returns : goal.returns
 returns g c =

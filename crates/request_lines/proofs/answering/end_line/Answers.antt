@@ -6,8 +6,8 @@ use Rattle.request_lines.specs.Inner.Progress.{lines_from}
 use Rattle.request_lines.proofs.RunLemmas.{stops_at_line, stops_at_keep, keeping_writes_none}
 use Rattle.request_lines.proofs.answering.end_line.Goals as goal
 
-pub returns-then-is_empty-clause-err : goal.returns-then-is_empty-clause-err
-returns-then-is_empty-clause-err g c =
+pub returns-then-end-le-MOST_LINE_BYTES-clause-err : goal.returns-then-end-le-MOST_LINE_BYTES-clause-err
+returns-then-end-le-MOST_LINE_BYTES-clause-err g c =
     let none : c.args.part.now.items ≡ [] = grind (arith, common_steps, nat_tests) in
     let same : c.args.end.now ≡ c.args.part.now.items ++ c.args.end.now = rw none refl in
     IfErr-weaker c.finish_line.result _ _ (λ fault h others. let stopped = h (lines_from [] others) in record {

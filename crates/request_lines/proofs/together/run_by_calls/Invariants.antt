@@ -15,7 +15,7 @@ invariant-loop-turn g l = record {
   answerer : l.chained.answerer.ghost_name ≡ l.initial.chained.answerer.ghost_name;
   buffer_is : length l.buffer.items ≡ length l.initial.buffer.items;
   bytes_are : l.bytes ≡ length read;
-  bound : l.bytes ≤ 1048576 * l.turn;
+  bound : l.bytes ≤ 4194304 * l.turn;
   few : l.progress.lines ≤ l.bytes;
   reader_unfailed : g.R.Source.reading.failed l.reader ≡ g.R.Source.reading.failed l.initial.reader;
   writer_unfailed : g.W.Sink.writing.failed l.gathering.writer.now ≡ g.W.Sink.writing.failed l.initial.gathering.writer.now;
