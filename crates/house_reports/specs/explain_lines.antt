@@ -1,12 +1,6 @@
 pub mod Added
-pub mod Bookings
-pub mod Credits
-pub mod Holds
 pub mod Inner
 pub mod Rows
-pub mod Settled
 pub mod StreamRows
 pub mod Table
-pub mod Tokens
 pub mod TurnedDown
-pub mod Versions

@@ -1,5 +1,5 @@
 -- What a command adds under a configuration, it adds under the loosest one beside it.
-use Rattle.std.proofs.Common.{◌≡◌, ◌≤◌, ◌<◌, ◌+◌, ℕ, ℤ, pos, neg_ℤ, List, [], ◌∷◌, ◌++◌, Bool, true, false, not, ◌&&◌, int_le, nat_le, nat_lt, count_by, arith, refl, ap, ap₂, ◌∙◌, Option, None, Some, Result, Ok, Err, if◌then◌else◌, max, ◌^◌}
+use Rattle.std.proofs.Common.{◌≡◌, ◌≤◌, ◌<◌, ◌+◌, ℕ, ℤ, pos, neg_ℤ, List, [], ◌∷◌, ◌++◌, Bool, true, false, not, int_le, nat_le, nat_lt, count_by, arith, refl, ap, ap₂, ◌∙◌, Option, None, Some, is_none, Result, Ok, Err, if◌then◌else◌, max, ◌^◌}
 use Rattle.std.specs.Option.{option_or}
 use Rattle.std.proofs.lemmas.Bool.{leb-false, lt-leb, ltb-false, ltb-true}
 use Rattle.std.proofs.Math.Nat.{le-max_left}
@@ -27,6 +27,7 @@ use Rattle.plain_house.specs.declared.event.Event.{Event}
 use Rattle.plain_house.specs.declared.event.Event.TheVariants as event
 use Rattle.plain_house.specs.declared.event.Hold.{Hold}
 use Rattle.plain_house.specs.declared.over_limit.OverLimit.{OverLimit}
+use Rattle.plain_house.specs.declared.posting.CreditDifference.TheVariants.{AboveZero, Cost, Currency, Provider}
 use Rattle.plain_house.specs.Booked.{Booked, booked_as, is_credited}
 use Rattle.plain_house.specs.Entries.{charge_of}
 use Rattle.plain_house.specs.Exposure.{exposure_of, of_pair, of_provider, released_hold}
@@ -34,7 +35,7 @@ use Rattle.plain_house.specs.Full.{are_cdrs_full, are_periods_full, are_versions
 use Rattle.plain_house.specs.House.{allows, credit_taken, full_for, full_for_cdr, hold_for, is_hold_of, over_credit, positions_in, post_of, reference_text, release_of, stored_already, unless_covered, unless_current, unless_open, unless_settled, unless_valid, verdict}
 use Rattle.plain_house.specs.Known.{Known}
 use Rattle.plain_house.specs.OverLimit.{over, over_if_any}
-use Rattle.plain_house.specs.Posting.{above, above_if_any, booked_already, credited_amount, is_in_window, meets_original, original_of, over_limit, taken_back, unless_registered}
+use Rattle.plain_house.specs.Posting.{above, above_if_any, booked_already, credit_difference, credited_amount, is_in_window, meets_original, original_of, over_limit, taken_back, unless_registered}
 use Rattle.plain_house.specs.Settlements.{is_settled}
 use Rattle.plain_house.specs.Tariffs.{lacks_registered, stored_version}
 use Rattle.plain_house.specs.Tokens.{validity}
@@ -187,28 +188,37 @@ module _ (config : Config) (now : Known) where
       ap (λ (o : Option Refusal). option_or o None)
       (still_none _ _ (limit_of config provider cdr.currency) (limit_of loose provider cdr.currency) exposure (higher_limit config provider cdr.currency) lower)
 
-  -- a tolerance is asked last
-  asked_last : (a b c : Bool) → (b ≡ true → c ≡ true) → (a && b) ≡ true → (a && c) ≡ true
-  asked_last true b c wider h = wider h
-  asked_last false b c wider h = absurd (cc)
+  -- what is asked before the tolerance is asked alike
+  asked_alike : {A : Type 0} (asked : Bool) (one other : Option A) (why : A) → (is_none one ≡ true → is_none other ≡ true)
+      → is_none (if asked then one else Some why) ≡ true → is_none (if asked then other else Some why) ≡ true
+  asked_alike true one other why wider h = wider h
+  asked_alike false one other why wider h = absurd (cc)
+
+  asked_last : {A : Type 0} (one other : Bool) (why : A) → (one ≡ true → other ≡ true)
+      → is_none (if one then None else Some why) ≡ true → is_none (if other then None else Some why) ≡ true
+  asked_last true other why wider h = ap (λ (b : Bool). is_none (if b then None else Some why)) (wider refl)
+  asked_last false other why wider h = absurd (cc)
+
+  meets : (credit : Cdr) (original : Booked) → meets_original config credit original ≡ true → meets_original loose credit original ≡ true
+  unfolding credit_difference
+  meets credit original =
+      asked_alike (same_party credit.cdr_token.provider original.cdr.cdr_token.provider) _ _ Provider
+      (asked_alike (same_currency credit.currency original.cdr.currency) _ _ Currency
+      (asked_alike (int_le credit.total_cost (pos 0)) _ _ AboveZero
+      (asked_last
+      (is_within_tolerance config.tolerance credit.total_cost (neg_ℤ original.amount)) (is_within_tolerance loose.tolerance credit.total_cost (neg_ℤ original.amount)) Cost
+      (higher_tolerance config.tolerance (10 ^ 12) credit.total_cost (neg_ℤ original.amount)))))
 
   credited_wider : (credit : Cdr) (amount : ℤ) → credited_amount config now.period credit now.book ≡ Ok amount → credited_amount loose now.period credit now.book ≡ Ok amount
   credited_wider credit amount h =
       goes_on (or_refusal refusal.UnknownOriginal (original_of credit now.book)) _ _ amount (λ original _. taken original (is_credited original.cdr.operator original.cdr.id now.book)) h
     where
-      meets : (original : Booked) → meets_original config credit original ≡ true → meets_original loose credit original ≡ true
-      meets original =
-          asked_last
-          (same_party credit.cdr_token.provider original.cdr.cdr_token.provider && same_currency credit.currency original.cdr.currency && int_le credit.total_cost (pos 0))
-          (is_within_tolerance config.tolerance credit.total_cost (neg_ℤ original.amount)) (is_within_tolerance loose.tolerance credit.total_cost (neg_ℤ original.amount))
-          (higher_tolerance config.tolerance (10 ^ 12) credit.total_cost (neg_ℤ original.amount))
-
       taken : (original : Booked) (credited : Bool) → taken_back config now.period credit credited original ≡ Ok amount → taken_back loose now.period credit credited original ≡ Ok amount
       taken original credited g =
           goes_on (ensure (not (is_credit original.cdr)) refusal.CreditOfCredit) _ _ amount (λ _ _.
           goes_on (ensure (not credited) refusal.AlreadyCredited) _ _ amount (λ _ _.
           allowed (is_in_window config.credit_window original.period now.period) true _ (refusal.TooLate original.period now.period) _ _ amount (λ _. refl) (λ _.
-          allowed (meets_original config credit original) (meets_original loose credit original) _ _ _ _ amount (meets original) (λ _ k. k)))) g
+          allowed (meets_original config credit original) (meets_original loose credit original) _ _ _ _ amount (meets credit original) (λ _ k. k)))) g
 
   credit_wider : (credit : Cdr) (e : Event) → (post_of config now credit None).event ≡ Some e → (post_of loose now credit None).event ≡ Some e
   credit_wider credit e h =

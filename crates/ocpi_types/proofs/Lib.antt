@@ -1,3 +1,4 @@
+pub mod ContentDifferences
 pub mod Doubled
 pub mod InParts
 pub mod Letters

@@ -6,6 +6,7 @@ pub mod Config
 pub mod ConfigFaults
 pub mod ConfigParts
 pub mod ConfigText
+pub mod ContentDifference
 pub mod Currency
 pub mod DayOfWeek
 pub mod Different

@@ -50,7 +50,7 @@ pub use optional_id::OptionalId;
 pub use party::Party;
 pub use refusal::{Refusal, Store};
 pub use restrictions::{ElectricBounds, Restrictions, Seconds};
-pub use same_content::{same_cdr, same_tariff};
+pub use same_content::{difference_of_cdrs, difference_of_tariffs, same_cdr, same_tariff};
 pub use shared::{Shared, Unseen};
 pub use tariff::Tariff;
 pub use tariffs::Tariffs;

@@ -16,8 +16,10 @@ use jiff::civil::{Date, Time};
 use ocpi_json::text::Text;
 
 mod cdrs;
+mod differences;
 
 pub use cdrs::same_cdr;
+pub use differences::{difference_of_cdrs, difference_of_tariffs};
 
 /// Parts of a tariff or of a CDR that may be the same.
 trait Part {

@@ -17,3 +17,4 @@ mod versions;
 
 pub use book::Book;
 pub use laws::{sums_are_no_larger, sums_owe_alike};
+pub use places::Places;

@@ -21,11 +21,15 @@ use Rattle.plain_house.specs.Settlements.{is_settled, settles_same}
 use Rattle.plain_house.specs.Full.{is_cdr_of, is_entry_of, is_version_of}
 use Rattle.plain_house.specs.Tariffs.{version_in, tariff_versions, is_registered}
 use Rattle.plain_house.specs.Tokens.{token_in, tokens}
-use Rattle.plain_house.specs.Inner.Scanned.{version_of_event, event_registers, event_is_version_of, event_is_cdr_of, event_credits, event_is_entry_of, event_is_hold_of, token_of_event, event_ends_hold, event_ends_debt, event_settles_same, event_open_holds}
+use Rattle.plain_house.specs.Happened.{ends, registers, settles, takes_back}
+use Rattle.plain_house.specs.Inner.Scanned.{version_of_event, event_is_version_of, event_is_cdr_of, event_is_entry_of, event_is_hold_of, token_of_event, event_ends_debt, event_open_holds}
 
-or-false : (b : Bool) → (b || false) ≡ b
+pub or-false : (b : Bool) → (b || false) ≡ b
 or-false true = refl
 or-false false = refl
+
+-- an event has one entry at most
+pub ruleset one_entry = or-false
 
 -- ---- in general
 
@@ -55,22 +59,22 @@ flat_dated f g same n (e ∷ es) = ap₂ (λ a b. a ++ b) (same e n) (flat_dated
 
 -- ---- books
 
-credits_one : (operator : Party) (id : List ℕ) (e : Event) (n : ℕ) → list_any (credits operator id) (flat_map booked_in (book_entry e n)) ≡ event_credits operator id e
+credits_one : (operator : Party) (id : List ℕ) (e : Event) (n : ℕ) → list_any (credits operator id) (flat_map booked_in (book_entry e n)) ≡ takes_back operator id e
 credits_one operator id (event.Tariff tariff) n = refl
 credits_one operator id (event.Token token) n = refl
 credits_one operator id (event.Authorised hold) n = refl
 credits_one operator id (event.Released release) n = refl
-credits_one operator id (event.Cdr cdr cost) n = or-false _
-credits_one operator id (event.Credit cdr amount) n = or-false _
+credits_one operator id (event.Cdr cdr cost) n = refl
+credits_one operator id (event.Credit cdr amount) n = refl
 credits_one operator id (event.Settled settlement) n = refl
 credits_one operator id (event.Closed period) n = refl
 
-pub credited_in_events : (operator : Party) (id : List ℕ) (es : List Event) → is_credited operator id (book_entries es) ≡ list_any (event_credits operator id) es
+pub credited_in_events : (operator : Party) (id : List ℕ) (es : List Event) → is_credited operator id (book_entries es) ≡ list_any (takes_back operator id) es
 credited_in_events operator id es =
     ap (list_any (credits operator id)) (flat_map-flat_map booked_in (λ (d : Dated). book_entry d.event d.period) (dated_from 0 es))
-    ∙ any_dated (λ e n. flat_map booked_in (book_entry e n)) (credits operator id) (event_credits operator id) (credits_one operator id) 0 es
+    ∙ any_dated (λ e n. flat_map booked_in (book_entry e n)) (credits operator id) (takes_back operator id) (credits_one operator id) 0 es
 
-version_one : (e : Event) (n : ℕ) → flat_map version_in (book_entry e n) ≡ version_of_event e
+pub version_one : (e : Event) (n : ℕ) → flat_map version_in (book_entry e n) ≡ version_of_event e
 version_one (event.Tariff tariff) n = refl
 version_one (event.Token token) n = refl
 version_one (event.Authorised hold) n = refl
@@ -86,8 +90,8 @@ versions_in_events es =
     ∙ flat_dated (λ e n. flat_map version_in (book_entry e n)) version_of_event version_one 0 es
 
 registers_one : (operator : Party) (tariff : Tariff) (e : Event) (n : ℕ)
-    → list_any (λ version. same_party version.operator operator && same_tariff version tariff) (flat_map version_in (book_entry e n)) ≡ event_registers operator tariff e
-registers_one operator tariff (event.Tariff version) n = or-false _
+    → list_any (λ version. same_party version.operator operator && same_tariff version tariff) (flat_map version_in (book_entry e n)) ≡ registers operator tariff e
+registers_one operator tariff (event.Tariff version) n = refl
 registers_one operator tariff (event.Token token) n = refl
 registers_one operator tariff (event.Authorised hold) n = refl
 registers_one operator tariff (event.Released release) n = refl
@@ -96,11 +100,11 @@ registers_one operator tariff (event.Credit cdr amount) n = refl
 registers_one operator tariff (event.Settled settlement) n = refl
 registers_one operator tariff (event.Closed period) n = refl
 
-pub registered_in_events : (operator : Party) (es : List Event) (tariff : Tariff) → is_registered operator (book_entries es) tariff ≡ list_any (event_registers operator tariff) es
+pub registered_in_events : (operator : Party) (es : List Event) (tariff : Tariff) → is_registered operator (book_entries es) tariff ≡ list_any (registers operator tariff) es
 registered_in_events operator es tariff =
     let p : Tariff → Bool = λ version. same_party version.operator operator && same_tariff version tariff in
     ap (list_any p) (flat_map-flat_map version_in (λ (d : Dated). book_entry d.event d.period) (dated_from 0 es))
-    ∙ any_dated (λ e n. flat_map version_in (book_entry e n)) p (event_registers operator tariff) (registers_one operator tariff) 0 es
+    ∙ any_dated (λ e n. flat_map version_in (book_entry e n)) p (registers operator tariff) (registers_one operator tariff) 0 es
 
 cdr_one : (operator : Party) (e : Event) (n : ℕ) → count_by (is_cdr_of operator) (book_entry e n) ≡ count_by (event_is_cdr_of operator) (e ∷ [])
 cdr_one operator (event.Tariff tariff) n = refl
@@ -174,18 +178,18 @@ tokens_in_events es =
     flat_map-flat_map token_in (λ (d : Dated). account_entry d.event d.period) (dated_from 0 es)
     ∙ flat_dated (λ e n. flat_map token_in (account_entry e n)) token_of_event token_one 0 es
 
-ends_hold_one : (hold : Hold) (e : Event) (n : ℕ) → list_any (ends_hold hold) (account_entry e n) ≡ event_ends_hold hold e
+ends_hold_one : (hold : Hold) (e : Event) (n : ℕ) → list_any (ends_hold hold) (account_entry e n) ≡ ends hold e
 ends_hold_one hold (event.Tariff tariff) n = refl
 ends_hold_one hold (event.Token token) n = refl
 ends_hold_one hold (event.Authorised another) n = refl
-ends_hold_one hold (event.Released release) n = or-false _
-ends_hold_one hold (event.Cdr cdr cost) n = or-false _
+ends_hold_one hold (event.Released release) n = refl
+ends_hold_one hold (event.Cdr cdr cost) n = refl
 ends_hold_one hold (event.Credit cdr amount) n = refl
 ends_hold_one hold (event.Settled settlement) n = refl
 ends_hold_one hold (event.Closed period) n = refl
 
-pub ended_in_events : (hold : Hold) (n : ℕ) (es : List Event) → list_any (ends_hold hold) (account_entries_from n es) ≡ list_any (event_ends_hold hold) es
-ended_in_events hold n es = any_dated account_entry (ends_hold hold) (event_ends_hold hold) (ends_hold_one hold) n es
+pub ended_in_events : (hold : Hold) (n : ℕ) (es : List Event) → list_any (ends_hold hold) (account_entries_from n es) ≡ list_any (ends hold) es
+ended_in_events hold n es = any_dated account_entry (ends_hold hold) (ends hold) (ends_hold_one hold) n es
 
 ends_debt_one : (charge : Charge) (e : Event) (n : ℕ) → list_any (ends_debt charge) (account_entry e n) ≡ event_ends_debt charge e
 ends_debt_one charge (event.Tariff tariff) n = refl
@@ -200,18 +204,18 @@ ends_debt_one charge (event.Closed period) n = refl
 pub paid_in_events : (charge : Charge) (es : List Event) → list_any (ends_debt charge) (account_entries es) ≡ list_any (event_ends_debt charge) es
 paid_in_events charge es = any_dated account_entry (ends_debt charge) (event_ends_debt charge) (ends_debt_one charge) 0 es
 
-settles_one : (settlement : Settlement) (e : Event) (n : ℕ) → list_any (settles_same settlement) (account_entry e n) ≡ event_settles_same settlement e
+settles_one : (settlement : Settlement) (e : Event) (n : ℕ) → list_any (settles_same settlement) (account_entry e n) ≡ settles settlement e
 settles_one settlement (event.Tariff tariff) n = refl
 settles_one settlement (event.Token token) n = refl
 settles_one settlement (event.Authorised hold) n = refl
 settles_one settlement (event.Released release) n = refl
 settles_one settlement (event.Cdr cdr cost) n = refl
 settles_one settlement (event.Credit cdr amount) n = refl
-settles_one settlement (event.Settled other) n = or-false _
+settles_one settlement (event.Settled other) n = refl
 settles_one settlement (event.Closed period) n = refl
 
-pub settled_in_events : (settlement : Settlement) (es : List Event) → is_settled settlement (account_entries es) ≡ list_any (event_settles_same settlement) es
-settled_in_events settlement es = any_dated account_entry (settles_same settlement) (event_settles_same settlement) (settles_one settlement) 0 es
+pub settled_in_events : (settlement : Settlement) (es : List Event) → is_settled settlement (account_entries es) ≡ list_any (settles settlement) es
+settled_in_events settlement es = any_dated account_entry (settles_same settlement) (settles settlement) (settles_one settlement) 0 es
 
 pub open_in_events : (n : ℕ) (es : List Event) → open_holds (account_entries_from n es) ≡ event_open_holds es
 open_in_events n [] = refl

@@ -1,24 +1,23 @@
 -- On a legal list the exposure is that of the entries of the provider's own account.
-use Rattle.std.proofs.Common.{◌≡◌, ◌⊎◌, inl, inr, ◌+◌, pos, neg_ℤ, int_le, List, [], ◌∷◌, ◌++◌, Bool, true, ◌&&◌, ap₂, sym, subst}
+use Rattle.std.proofs.Common.{◌≡◌, ◌⊎◌, inl, inr, ◌+◌, List, [], ◌∷◌, ◌++◌, Bool, true, false, if◌then◌else◌, Option, Some, is_none, ap₂, refl, sym, subst}
 use Rattle.ocpi_types.specs.declared.cdr.Cdr.{Cdr}
 use Rattle.ocpi_types.specs.declared.config.Config.{Config}
-use Rattle.ocpi_types.specs.Currency.{same_currency}
 use Rattle.ocpi_types.specs.Party.{same_party}
-use Rattle.cdr_checks.specs.CdrConditions.{is_within_tolerance}
 use Rattle.plain_house.specs.declared.event.Event.{Event}
 use Rattle.plain_house.specs.declared.event.Event.TheVariants as event
+use Rattle.plain_house.specs.declared.posting.CreditDifference.{CreditDifference}
+use Rattle.plain_house.specs.declared.posting.CreditDifference.TheVariants.{Provider}
 use Rattle.plain_house.specs.declared.scope.Scope.{Scope}
 use Rattle.plain_house.specs.Booked.{Booked}
 use Rattle.plain_house.specs.Entries.{account_entries}
 use Rattle.plain_house.specs.Own.{ExposureIsOfOwnEntries, ExposureWithChargeIsOfOwnEntries, IsOfOwnEntries}
 use Rattle.plain_house.specs.Legal.{IsLegal}
 use Rattle.plain_house.specs.LegalLists.{LegalCdrsAreCharged, LegalCreditsAreTakenBack}
-use Rattle.plain_house.specs.Posting.{meets_original}
+use Rattle.plain_house.specs.Posting.{credit_difference, meets_original}
 use Rattle.plain_house.proofs.BookedOnce.{AreBookable, IsBookable, are_ended_by_own}
 use Rattle.plain_house.proofs.ExposureLater.{entries_push}
 use Rattle.plain_house.proofs.GrownLemmas.{last_or_before}
 use Rattle.plain_house.proofs.OwnEntries.{debts_of_own, holds_of_own}
-use Rattle.plain_house.proofs.SameScope.{both_are}
 
 pub bookable_own : (scope : Scope) (events : List Event) → AreBookable events → IsOfOwnEntries scope (account_entries events)
 bookable_own scope events bookable =
@@ -28,12 +27,13 @@ bookable_own scope events bookable =
 
 same_provider : (config : Config) (credit : Cdr) (original : Booked) → meets_original config credit original ≡ true
     → same_party credit.cdr_token.provider original.cdr.cdr_token.provider ≡ true
+unfolding credit_difference
 same_provider config credit original meets =
-    let provider : Bool = same_party credit.cdr_token.provider original.cdr.cdr_token.provider in
-    let currency : Bool = same_currency credit.currency original.cdr.currency in
-    let below : Bool = int_le credit.total_cost (pos 0) in
-    let within : Bool = is_within_tolerance config.tolerance credit.total_cost (neg_ℤ original.amount) in
-    (both_are provider currency (both_are (provider && currency) below (both_are (provider && currency && below) within meets).0).0).0
+    by (same_party credit.cdr_token.provider original.cdr.cdr_token.provider) _ meets
+  where
+    by : (same : Bool) (others : Option CreditDifference) → is_none (if same then others else Some Provider) ≡ true → same ≡ true
+    by true others none = refl
+    by false others none = absurd (cc)
 
 pub legal_bookable : LegalCdrsAreCharged → LegalCreditsAreTakenBack → (config : Config) (events : List Event) → IsLegal config events → AreBookable events
 legal_bookable charged taken config events legal before e later same = by e (subst (IsLegal config) same legal)

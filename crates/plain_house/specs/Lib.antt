@@ -1,6 +1,7 @@
 pub mod Booked
 pub mod Entries
 pub mod Exposure
+pub mod Happened
 pub mod House
 pub mod Inner
 pub mod Known

@@ -1,6 +1,6 @@
 -- What is replied to a CDR or a Credit CDR that an operator posts (OCPI 2.2.1, CDR object: a CDR is never edited, a Credit
 -- CDR takes one back).
-use Rattle.std.specs.Prelude.{ℕ, ◌+◌, ℤ, pos, neg_ℤ, int_le, nat_le, nat_lt, Bool, true, false, not, ◌&&◌, List, [], ◌∷◌, ◌++◌, Option, Some, None, option_and_then, Result, Ok, Err, if◌then◌else◌}
+use Rattle.std.specs.Prelude.{ℕ, ◌+◌, ℤ, pos, neg_ℤ, int_le, nat_le, nat_lt, Bool, true, false, not, List, [], ◌∷◌, ◌++◌, Option, Some, None, is_none, option_and_then, Result, Ok, Err, if◌then◌else◌}
 use Rattle.std.specs.Option.{option_or}
 use Rattle.ocpi_types.specs.declared.cdr.Cdr.{Cdr}
 use Rattle.ocpi_types.specs.declared.config.Config.{Config}
@@ -19,6 +19,8 @@ use Rattle.plain_house.specs.declared.entry.AccountEntry.{AccountEntry}
 use Rattle.plain_house.specs.declared.entry.AccountEntry.TheVariants as account
 use Rattle.plain_house.specs.declared.entry.BookEntry.{BookEntry}
 use Rattle.plain_house.specs.declared.entry.Charge.{Charge}
+use Rattle.plain_house.specs.declared.posting.CreditDifference.{CreditDifference}
+use Rattle.plain_house.specs.declared.posting.CreditDifference.TheVariants.{Provider, Currency, AboveZero, Cost}
 use Rattle.plain_house.specs.Booked.{Booked, booked_as, is_credited}
 use Rattle.plain_house.specs.Exposure.{of_provider, of_pair, exposure_of}
 use Rattle.plain_house.specs.Tariffs.{lacks_registered}
@@ -52,12 +54,21 @@ abbrev pub is_in_window : Option ℕ → ℕ → ℕ → Bool
 is_in_window None original current = true
 is_in_window (Some window) original current = nat_le current (original + window)
 
--- same provider and currency, and a total cost of at most 0 that is within the tolerance of the negated amount
+-- the first of these for a Credit CDR and its original: another provider, another currency, a total cost above 0, a total cost
+-- farther than the tolerance from the negated amount
+unfoldable pub credit_difference : Config → Cdr → Booked → Option CreditDifference
+credit_difference config credit original =
+    if same_party credit.cdr_token.provider original.cdr.cdr_token.provider
+    then (if same_currency credit.currency original.cdr.currency
+    then (if int_le credit.total_cost (pos 0)
+    then (if is_within_tolerance config.tolerance credit.total_cost (neg_ℤ original.amount) then None else Some Cost)
+    else Some AboveZero)
+    else Some Currency)
+    else Some Provider
+
+-- none of these
 abbrev pub meets_original : Config → Cdr → Booked → Bool
-meets_original config credit original =
-    same_party credit.cdr_token.provider original.cdr.cdr_token.provider
-    && same_currency credit.currency original.cdr.currency && int_le credit.total_cost (pos 0)
-    && is_within_tolerance config.tolerance credit.total_cost (neg_ℤ original.amount)
+meets_original config credit original = is_none (credit_difference config credit original)
 
 -- the negated amount of an original, or why it cannot be credited; with whether it is credited already
 abbrev pub taken_back : Config → ℕ → Cdr → Bool → Booked → Result ℤ Refusal

@@ -20,10 +20,13 @@ token_in (account.Settlement settlement) = []
 abbrev pub tokens : List AccountEntry → List Token
 tokens entries = flat_map token_in entries
 
+-- a token of this provider and uid, of whatever type
+abbrev pub has_uid : Party → List ℕ → Token → Bool
+has_uid provider uid token = same_party token.provider provider && same_folded token.uid uid
+
 -- the token of this provider, uid and type
 abbrev pub is_token : Party → List ℕ → TokenKind → Token → Bool
-is_token provider uid kind token =
-    same_party token.provider provider && same_folded token.uid uid && same_token_kind token.kind kind
+is_token provider uid kind token = has_uid provider uid token && same_token_kind token.kind kind
 
 -- whether the token is valid, as it was put last
 abbrev pub validity : Party → List ℕ → TokenKind → List AccountEntry → Option Bool

@@ -6,7 +6,8 @@ ghost use Rattle.ocpi_json.specs.Folded.{same_folded};
 ghost use Rattle.ocpi_types.specs.Party.{same_party};
 ghost use Rattle.plain_house.specs.Booked.{booked, booked_as, has_id, is_credited, shown_booked};
 ghost use Rattle.plain_house.specs.Entries.{book_entries, book_entry};
-ghost use Rattle.plain_house.specs.Inner.Scanned.{booked_of_event, event_credits};
+ghost use Rattle.plain_house.specs.Happened.{takes_back};
+ghost use Rattle.plain_house.specs.Inner.Scanned.{booked_of_event};
 
 use super::booked_amount::BookedAmount;
 use super::event::Event;
@@ -63,7 +64,7 @@ fn booked_as_in<'a>(
     }
 }
 
-/// The CDR or Credit CDR of that operator and id.
+/// Returns the CDR or Credit CDR of that operator and id, with its amount and period.
 #[tactic(auto, using(crate::proofs::BookedLemmas::first_booked))]
 pub fn booked_as<'a>(
     events: &'a [Event],
@@ -85,8 +86,10 @@ pub fn booked_as<'a>(
     None
 }
 
+// Whether the event books a CDR or Credit CDR that credits the CDR of that operator and id.
+#[tactic(auto, using(crate::proofs::EntriesLemmas::one_entry))]
 fn credits(event: &Event, operator: &Party, id: &CiText<39>) -> bool
-    ensures { result ≡ event_credits operator.now id.now event.now }
+    ensures { result ≡ takes_back operator.now id.now event.now }
 {
     match event {
         Event::Cdr { cdr, .. } => cdr.operator.is(operator) && names(id, &cdr.credit),
@@ -96,7 +99,7 @@ fn credits(event: &Event, operator: &Party, id: &CiText<39>) -> bool
 }
 
 fn is_credited_by_any(events: &[Event], operator: &Party, id: &CiText<39>) -> bool
-    ensures { result ≡ list_any (event_credits operator.now id.now) events.now }
+    ensures { result ≡ list_any (takes_back operator.now id.now) events.now }
 {
     events.iter().any(|event| credits(event, operator, id))
 }

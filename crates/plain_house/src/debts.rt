@@ -5,7 +5,8 @@ ghost use Rattle.std.specs.List.{list_any};
 ghost use Rattle.plain_house.specs.Entries.{account_entries, account_entry};
 ghost use Rattle.plain_house.specs.Exposure.{debts_of, ends_debt, exposure_of, total_charged};
 ghost use Rattle.plain_house.specs.declared.entry.AccountEntry.TheVariants as account;
-ghost use Rattle.plain_house.specs.Inner.Scanned.{event_ends_debt, event_settles_same, is_owed_in, is_sought, owed_charges, with_charge};
+ghost use Rattle.plain_house.specs.Happened.{settles};
+ghost use Rattle.plain_house.specs.Inner.Scanned.{event_ends_debt, is_owed_in, is_sought, owed_charges, with_charge};
 ghost use Rattle.plain_house.specs.Settlements.{is_settled, settled_debt};
 
 use super::entry::{Charge, charge_of};
@@ -127,8 +128,10 @@ pub fn settled_debt(events: &[Event], settlement: &Settlement) -> u64
     owed_by_all(events, &Sought::EndedBy(*settlement))
 }
 
+// Whether the event settles that period of the provider in the currency.
+#[tactic(auto, using(crate::proofs::EntriesLemmas::one_entry))]
 fn settles_same(event: &Event, settlement: &Settlement) -> bool
-    ensures { result ≡ event_settles_same settlement.now event.now }
+    ensures { result ≡ settles settlement.now event.now }
 {
     match event {
         Event::Settled(other) => {
@@ -141,7 +144,7 @@ fn settles_same(event: &Event, settlement: &Settlement) -> bool
 }
 
 fn is_settled_by_any(events: &[Event], settlement: &Settlement) -> bool
-    ensures { result ≡ list_any (event_settles_same settlement.now) events.now }
+    ensures { result ≡ list_any (settles settlement.now) events.now }
 {
     events.iter().any(|event| settles_same(event, settlement))
 }

@@ -7,7 +7,8 @@ ghost use Rattle.std.specs.List.{list_any};
 ghost use Rattle.plain_house.specs.Entries.{account_entries};
 ghost use Rattle.plain_house.specs.Exposure.{ends_hold, holds_of, names, released_hold, total_held};
 ghost use Rattle.plain_house.specs.declared.entry.AccountEntry.TheVariants as account;
-ghost use Rattle.plain_house.specs.Inner.Scanned.{event_ends_hold, event_open_hold, event_open_holds, still_holds, uses, with_charge};
+ghost use Rattle.plain_house.specs.Happened.{ends};
+ghost use Rattle.plain_house.specs.Inner.Scanned.{event_open_hold, event_open_holds, still_holds, uses, with_charge};
 
 use super::entry::Charge;
 use super::event::{Event, Hold};
@@ -53,8 +54,10 @@ fn is_used_by(hold: &Hold, cdr: &Cdr) -> bool
         && names(&hold.reference, &cdr.authorization_reference)
 }
 
+// Whether the event ends the hold.
+#[tactic(auto, using(crate::proofs::EntriesLemmas::one_entry))]
 fn ends(event: &Event, hold: &Hold) -> bool
-    ensures { result ≡ event_ends_hold hold.now event.now }
+    ensures { result ≡ ends hold.now event.now }
 {
     match event {
         Event::Released(release) => is_released_by(hold, release),
@@ -64,7 +67,7 @@ fn ends(event: &Event, hold: &Hold) -> bool
 }
 
 fn is_ended(hold: &Hold, later: &[Event]) -> bool
-    ensures { result ≡ list_any (event_ends_hold hold.now) later.now }
+    ensures { result ≡ list_any (ends hold.now) later.now }
 {
     later.iter().any(|event| ends(event, hold))
 }

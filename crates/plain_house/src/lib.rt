@@ -54,8 +54,9 @@ pub use laws::{
 pub use obligations::{obligations_in, statement_rows};
 pub use over_limit::{OverLimit, over};
 pub use periods::{period_after, period_of, split_first_period};
-pub use posting::{above, reply_to_booked, taken_back};
+pub use posting::{CreditDifference, above, credit_difference, reply_to_booked, taken_back};
 pub use replies::{adds_event, is_out_of_memory, out_of_memory, stamped};
 pub use reply_room::ReplyRoom;
 pub use scope::Scope;
 pub use sequential::Sequential;
+pub use tariffs::is_registered_by_any;

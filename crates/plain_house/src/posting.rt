@@ -1,8 +1,9 @@
 //! What is said of a CDR or a Credit CDR by what is booked and owed.
 
-ghost use Rattle.std.specs.Prelude.{◌≡◌, ◌<◌, ◌^◌, false, IfErr, Some};
+ghost use Rattle.std.specs.Prelude.{◌≡◌, ◌<◌, ◌^◌, false, neg_ℤ, IfErr, Some};
+ghost use Rattle.cdr_checks.specs.CdrConditions.{is_within_tolerance};
 ghost use Rattle.plain_house.specs.Booked.{shown_booked};
-ghost use Rattle.plain_house.specs.Posting.{above, booked_already, is_in_window, meets_original, taken_back};
+ghost use Rattle.plain_house.specs.Posting.{above, booked_already, credit_difference, is_in_window, taken_back};
 ghost use Rattle.plain_house.specs.Replies.{IsTold, is_refusal_no_memory};
 
 use super::answer::Answer;
@@ -11,6 +12,17 @@ use super::booked_amount::BookedAmount;
 use cdr_checks::is_within_tolerance;
 use exact_money::Amount;
 use ocpi_types::{AtMost, Cdr, Config, Refusal, same_cdr};
+
+/// In what a Credit CDR differs from what its original asks for.
+#[derive(Clone, Copy)]
+pub enum CreditDifference {
+    Provider,
+    Currency,
+    /// Its cost is above 0.
+    AboveZero,
+    /// Its cost is farther than the tolerance from the negated amount of its original.
+    Cost,
+}
 
 /// The reply to a CDR whose id is booked already.
 pub fn reply_to_booked(found: &BookedCdr<'_>, cdr: &Cdr) -> Result<Answer, Refusal>
@@ -36,20 +48,35 @@ fn is_in_window(window: Option<AtMost<10_000>>, original: u64, current: u64) -> 
     }
 }
 
-fn meets_original(config: &Config, credit: &Cdr, original: &BookedCdr<'_>) -> bool
-    ensures { result ≡ meets_original config.now credit.now (shown_booked original.now) }
+fn has_negated_cost(config: &Config, credit: &Cdr, amount: BookedAmount) -> bool
+    ensures { result ≡ is_within_tolerance config.now.tolerance credit.now.total_cost (neg_ℤ amount) }
 {
-    credit
-        .cdr_token
-        .provider
-        .is(&original.cdr.cdr_token.provider)
-        && credit.currency.is(&original.cdr.currency)
-        && credit.total_cost.get() <= 0
-        && is_within_tolerance(
-            config.tolerance,
-            credit.total_cost,
-            original.amount.negated().amount(),
-        )
+    let taken_back = amount.negated().amount();
+    is_within_tolerance(config.tolerance, credit.total_cost, taken_back)
+}
+
+/// Returns the first way in which a Credit CDR differs from what its original asks for: the original's provider and currency,
+/// a cost of at most 0, and a cost within the tolerance of the original's negated amount.
+#[tactic(auto, unfolding(crate::specs::Posting::credit_difference))]
+pub fn credit_difference(
+    config: &Config,
+    credit: &Cdr,
+    original: &BookedCdr<'_>,
+) -> Option<CreditDifference>
+    ensures { result ≡ credit_difference config.now credit.now (shown_booked original.now) }
+{
+    let (ours, theirs) = (&credit.cdr_token, &original.cdr.cdr_token);
+    if !ours.provider.is(&theirs.provider) {
+        Some(CreditDifference::Provider)
+    } else if !credit.currency.is(&original.cdr.currency) {
+        Some(CreditDifference::Currency)
+    } else if 0 < credit.total_cost.get() {
+        Some(CreditDifference::AboveZero)
+    } else if !has_negated_cost(config, credit, original.amount) {
+        Some(CreditDifference::Cost)
+    } else {
+        None
+    }
 }
 
 /// The negated amount of an original, or why a Credit CDR of the period cannot take it back.
@@ -79,7 +106,7 @@ pub fn taken_back(
             current: period,
         });
     }
-    if !meets_original(config, credit, original) {
+    if credit_difference(config, credit, original).is_some() {
         return Err(Refusal::CreditDiffers);
     }
     Ok(original.amount.negated())

@@ -4,8 +4,9 @@ ghost use Rattle.std.specs.Prelude.{◌≡◌, find, flat_map};
 ghost use Rattle.std.specs.List.{list_any};
 ghost use Rattle.std.specs.Option.{option_copied};
 ghost use Rattle.plain_house.specs.Entries.{book_entries};
+ghost use Rattle.plain_house.specs.Happened.{registers};
 ghost use Rattle.plain_house.specs.Tariffs.{is_registered, lacks_registered, same_version, stored_version};
-ghost use Rattle.plain_house.specs.Inner.Scanned.{event_registers, version_of_event};
+ghost use Rattle.plain_house.specs.Inner.Scanned.{version_of_event};
 
 use super::event::Event;
 use ocpi_types::{Cdr, Party, Tariff, same_tariff};
@@ -52,8 +53,9 @@ pub fn stored_version<'a>(events: &'a [Event], version: &Tariff) -> Option<&'a T
     first_stored(events, version)
 }
 
+#[tactic(auto, using(crate::proofs::EntriesLemmas::one_entry))]
 fn registers(event: &Event, operator: &Party, tariff: &Tariff) -> bool
-    ensures { result ≡ event_registers operator.now tariff.now event.now }
+    ensures { result ≡ registers operator.now tariff.now event.now }
 {
     match event {
         Event::Tariff(version) => version.operator.is(operator) && same_tariff(version, tariff),
@@ -61,8 +63,9 @@ fn registers(event: &Event, operator: &Party, tariff: &Tariff) -> bool
     }
 }
 
-fn is_registered_by_any(events: &[Event], operator: &Party, tariff: &Tariff) -> bool
-    ensures { result ≡ list_any (event_registers operator.now tariff.now) events.now }
+/// Whether one of the events stores a version of the operator with the content of the tariff.
+pub fn is_registered_by_any(events: &[Event], operator: &Party, tariff: &Tariff) -> bool
+    ensures { result ≡ list_any (registers operator.now tariff.now) events.now }
 {
     events
         .iter()

@@ -3,17 +3,23 @@
 ghost use Rattle.std.specs.Prelude.{◌≡◌, find, flat_map, option_map, reverse};
 ghost use Rattle.std.specs.Option.{option_or};
 ghost use Rattle.plain_house.specs.Entries.{account_entries};
-ghost use Rattle.plain_house.specs.Tokens.{is_token, validity};
+ghost use Rattle.plain_house.specs.Tokens.{has_uid, is_token, validity};
 ghost use Rattle.plain_house.specs.Inner.Scanned.{token_of_event};
 
 use super::event::Event;
 use ocpi_json::ci_text::CiText;
 use ocpi_types::{Party, Token, TokenKind};
 
+fn has_uid(token: &Token, provider: &Party, uid: &CiText<36>) -> bool
+    ensures { result ≡ has_uid provider.now uid.now token.now }
+{
+    token.provider.is(provider) && token.uid == *uid
+}
+
 fn is_token(token: &Token, provider: &Party, uid: &CiText<36>, kind: TokenKind) -> bool
     ensures { result ≡ is_token provider.now uid.now kind token.now }
 {
-    token.provider.is(provider) && token.uid == *uid && token.kind.is(kind)
+    has_uid(token, provider, uid) && token.kind.is(kind)
 }
 
 // The validity of the token that the event puts, where it is that token; otherwise as it was.

@@ -6,9 +6,10 @@ use crate::explain_lines::added::keep_added;
 use crate::explain_lines::explaining::of_line;
 use crate::explain_lines::row::row;
 use crate::explain_lines::turned_down::turned_down;
+use known_events::KnownEvents;
 use ocpi_types::{Config, TryCopy};
 use period_order::BookHouse;
-use plain_house::{Event, Refused, Replied, is_out_of_memory, out_of_memory, replies_tell_events};
+use plain_house::{Refused, Replied, is_out_of_memory, out_of_memory, replies_tell_events};
 use request_lines::{Answerer, LineRoom, reply_to};
 use std::alloc::{AllocError, Global};
 
@@ -18,7 +19,7 @@ pub(crate) struct Explainer<'c> {
     config: &'c Config,
     house: BookHouse,
     /// The events of the house.
-    events: Vec<Event>,
+    events: KnownEvents,
     /// The memory in which a line is read.
     room: LineRoom,
     /// The number of answered lines.
@@ -37,14 +38,14 @@ impl<'c> Explainer<'c> {
     /// Returns a new house of this configuration.
     pub(crate) fn new(alloc: Global, config: &'c Config) -> Result<Explainer<'c>, AllocError>
         ensures config { IfOk result (λ explainer. explainer.config.now ≡ config.now) }
-        ensures empty { IfOk result (λ explainer. (explainer.house.events ≡ []) × (explainer.events.items ≡ [])) }
+        ensures empty { IfOk result (λ explainer. (explainer.house.events ≡ []) × (explainer.events ≡ [])) }
         ensures none { IfOk result (λ explainer. (explainer.lines ≡ 0) × (explainer.is_any_turned_down ≡ false)) }
     {
         let house = BookHouse::new(alloc, config.copy(alloc)?)?;
         Ok(Explainer {
             config,
             house,
-            events: Vec::new(alloc),
+            events: KnownEvents::new(alloc),
             room: LineRoom::new(alloc),
             lines: 0,
             is_any_turned_down: false,
@@ -57,7 +58,7 @@ impl<'c> Explainer<'c> {
             × (self.new.is_any_turned_down ≡ self.old.is_any_turned_down) }
         ensures reply { is_no_memory result ≡ false → result ≡ reply_in self.old.config.now self.old.house.events line.now }
         ensures house { is_no_memory result ≡ false → self.new.house.events ≡ after self.old.config.now self.old.house.events line.now }
-        ensures events { is_no_memory result ≡ false → self.old.events.items ≡ self.old.house.events → self.new.events.items ≡ self.new.house.events }
+        ensures events { is_no_memory result ≡ false → self.old.events ≡ self.old.house.events → self.new.events ≡ self.new.house.events }
     {
         replies_tell_events();
         let reply = reply_to(alloc, &mut self.room, self.config, &mut self.house, line);
@@ -76,7 +77,7 @@ impl<'c> Explainer<'c> {
         refusal: &'static str,
     ) -> Result<Vec<u8>, AllocError>
         ensures rest { (self.new.config.now ≡ self.old.config.now) × (self.new.house ≡ self.old.house)
-            × (self.new.events.items ≡ self.old.events.items) × (self.new.lines ≡ self.old.lines) }
+            × (self.new.events ≡ self.old.events) × (self.new.lines ≡ self.old.lines) }
         ensures any { self.new.is_any_turned_down ≡ true }
         ensures row { IfOk result (λ text. IsRow self.old.lines refusal.now text.items) }
     {
@@ -85,7 +86,7 @@ impl<'c> Explainer<'c> {
             alloc,
             &mut self.room,
             self.config,
-            self.events.as_slice(),
+            &self.events,
             line,
             reply,
         )?;

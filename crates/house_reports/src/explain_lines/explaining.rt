@@ -8,11 +8,12 @@ use crate::explain_lines::line::{failing, no_json};
 use crate::explain_lines::member_path::MemberPath;
 use crate::explain_lines::telling::{Told, Value, Why};
 use cdr_checks::{Authorize, Command, Release, Request, Settlement, admit};
+use known_events::KnownEvents;
 use ocpi_json::ReadFault;
 use ocpi_json::fields::FieldFault;
 use ocpi_json::name::Name;
 use ocpi_types::{Cdr, Config, Refusal};
-use plain_house::{Answer, Event, Refused, Replied};
+use plain_house::{Answer, Refused, Replied};
 use request_lines::{LineRoom, read_request, request_of};
 use std::alloc::{AllocError, Global};
 
@@ -45,7 +46,7 @@ fn settlement_of(command: &Command) -> Option<&Settlement> {
 }
 
 // Explains which object is stored or booked with another content.
-fn conflict(events: &[Event], command: &Command) -> Option<Told> {
+fn conflict(events: &KnownEvents, command: &Command) -> Option<Told> {
     match command {
         Command::PutTariff(tariff) => {
             versions::conflict(events, MemberPath::at(Name::Tariff), tariff)
@@ -88,7 +89,7 @@ fn not_found(command: &Command) -> Option<Told> {
 // Explains why a house refuses a command after these events. What is refused before a house is asked is not explained here.
 fn of_refusal(
     config: &Config,
-    events: &[Event],
+    events: &KnownEvents,
     command: &Command,
     refusal: Refusal,
 ) -> Option<Told> {
@@ -151,7 +152,7 @@ fn of_answer(command: &Command, answer: &Answer) -> Option<Told> {
 /// Explains a request that is refused by this reply, after these events: by its cause, where it is not admitted.
 pub fn of_reply(
     config: &Config,
-    events: &[Event],
+    events: &KnownEvents,
     request: Request,
     reply: &Result<Replied, Refused>,
 ) -> Option<Told> {
@@ -182,7 +183,7 @@ pub fn of_line(
     alloc: Global,
     room: &mut LineRoom,
     config: &Config,
-    events: &[Event],
+    events: &KnownEvents,
     line: &[u8],
     reply: &Result<Replied, Refused>,
 ) -> Result<Told, AllocError> {

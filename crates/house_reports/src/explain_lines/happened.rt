@@ -2,7 +2,6 @@
 
 pub mod bookings;
 pub mod credits;
-pub mod differences;
 pub mod holds;
 pub mod limits;
 pub mod periods;

@@ -1,14 +1,11 @@
 -- What is sought in entries, said of the events themselves: a scan of events finds the same.
 use Rattle.std.specs.Prelude.{ℕ, pos, List, [], ◌∷◌, ◌++◌, Bool, false, not, ◌&&◌, ◌==◌, if◌then◌else◌, Option, Some, None, filter}
 use Rattle.std.specs.List.{list_any}
-use Rattle.ocpi_json.specs.Folded.{same_folded}
 use Rattle.ocpi_types.specs.declared.party.Party.{Party}
 use Rattle.ocpi_types.specs.declared.tariff.Tariff.{Tariff}
 use Rattle.ocpi_types.specs.declared.token.Token.{Token}
 use Rattle.ocpi_types.specs.Party.{same_party}
 use Rattle.ocpi_types.specs.Currency.{same_currency}
-use Rattle.ocpi_types.specs.SameTariff.{same_tariff}
-use Rattle.cdr_checks.specs.declared.request.Settlement.{Settlement}
 use Rattle.plain_house.specs.declared.scope.Scope.{Scope}
 use Rattle.plain_house.specs.declared.event.Hold.{Hold}
 use Rattle.plain_house.specs.declared.event.Event.{Event}
@@ -20,6 +17,7 @@ use Rattle.plain_house.specs.declared.debts.Sought.{Sought}
 use Rattle.plain_house.specs.declared.debts.Sought.TheVariants as sought
 use Rattle.plain_house.specs.Exposure.{names, charges, charges_within, ends_debt, ends_hold, holds_within}
 use Rattle.plain_house.specs.Booked.{Booked}
+use Rattle.plain_house.specs.Happened.{ends}
 
 -- ---- books
 
@@ -32,17 +30,6 @@ version_of_event (event.Cdr cdr cost) = []
 version_of_event (event.Credit cdr amount) = []
 version_of_event (event.Settled settlement) = []
 version_of_event (event.Closed period) = []
-
--- the event stores a version of the operator with the content of the tariff
-abbrev pub event_registers : Party → Tariff → Event → Bool
-event_registers operator tariff (event.Tariff version) = same_party version.operator operator && same_tariff version tariff
-event_registers operator tariff (event.Token token) = false
-event_registers operator tariff (event.Authorised hold) = false
-event_registers operator tariff (event.Released release) = false
-event_registers operator tariff (event.Cdr cdr cost) = false
-event_registers operator tariff (event.Credit cdr amount) = false
-event_registers operator tariff (event.Settled settlement) = false
-event_registers operator tariff (event.Closed period) = false
 
 abbrev pub event_is_version_of : Party → Event → Bool
 event_is_version_of operator (event.Tariff tariff) = same_party tariff.operator operator
@@ -63,16 +50,6 @@ event_is_cdr_of operator (event.Cdr cdr cost) = same_party cdr.operator operator
 event_is_cdr_of operator (event.Credit cdr amount) = same_party cdr.operator operator
 event_is_cdr_of operator (event.Settled settlement) = false
 event_is_cdr_of operator (event.Closed period) = false
-
-abbrev pub event_credits : Party → List ℕ → Event → Bool
-event_credits operator id (event.Tariff tariff) = false
-event_credits operator id (event.Token token) = false
-event_credits operator id (event.Authorised hold) = false
-event_credits operator id (event.Released release) = false
-event_credits operator id (event.Cdr cdr cost) = same_party cdr.operator operator && names id cdr.credit
-event_credits operator id (event.Credit cdr amount) = same_party cdr.operator operator && names id cdr.credit
-event_credits operator id (event.Settled settlement) = false
-event_credits operator id (event.Closed period) = false
 
 -- ---- accounts
 
@@ -106,20 +83,6 @@ token_of_event (event.Credit cdr amount) = []
 token_of_event (event.Settled settlement) = []
 token_of_event (event.Closed period) = []
 
-abbrev pub event_ends_hold : Hold → Event → Bool
-event_ends_hold hold (event.Tariff tariff) = false
-event_ends_hold hold (event.Token token) = false
-event_ends_hold hold (event.Authorised another) = false
-event_ends_hold hold (event.Released release) =
-    same_party release.operator hold.operator && same_party release.provider hold.provider
-    && same_folded release.reference hold.reference
-event_ends_hold hold (event.Cdr cdr cost) =
-    same_party cdr.operator hold.operator && same_party cdr.cdr_token.provider hold.provider
-    && same_currency cdr.currency hold.currency && names hold.reference cdr.authorization_reference
-event_ends_hold hold (event.Credit cdr amount) = false
-event_ends_hold hold (event.Settled settlement) = false
-event_ends_hold hold (event.Closed period) = false
-
 abbrev pub event_ends_debt : Charge → Event → Bool
 event_ends_debt charge (event.Tariff tariff) = false
 event_ends_debt charge (event.Token token) = false
@@ -132,24 +95,12 @@ event_ends_debt charge (event.Settled settlement) =
     && (settlement.period == charge.period)
 event_ends_debt charge (event.Closed period) = false
 
-abbrev pub event_settles_same : Settlement → Event → Bool
-event_settles_same settlement (event.Tariff tariff) = false
-event_settles_same settlement (event.Token token) = false
-event_settles_same settlement (event.Authorised hold) = false
-event_settles_same settlement (event.Released release) = false
-event_settles_same settlement (event.Cdr cdr cost) = false
-event_settles_same settlement (event.Credit cdr amount) = false
-event_settles_same settlement (event.Settled other) =
-    same_party other.provider settlement.provider && same_currency other.currency settlement.currency
-    && (other.period == settlement.period)
-event_settles_same settlement (event.Closed period) = false
-
 -- ---- open holds
 
 abbrev pub event_open_hold : Event → List Event → List Hold
 event_open_hold (event.Tariff tariff) later = []
 event_open_hold (event.Token token) later = []
-event_open_hold (event.Authorised hold) later = if list_any (event_ends_hold hold) later then [] else hold ∷ []
+event_open_hold (event.Authorised hold) later = if list_any (ends hold) later then [] else hold ∷ []
 event_open_hold (event.Released release) later = []
 event_open_hold (event.Cdr cdr cost) later = []
 event_open_hold (event.Credit cdr amount) later = []

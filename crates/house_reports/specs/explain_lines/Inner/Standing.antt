@@ -6,7 +6,7 @@ abbrev pub standing : Explainer → Standing
 standing explainer = record {
   config = explainer.config.now;
   events = explainer.house.events;
-  kept = explainer.events.items;
+  kept = explainer.events;
   lines = explainer.lines;
   any = explainer.is_any_turned_down;
 }

@@ -6,7 +6,7 @@ use Rattle.house_reports.specs.explain_lines.Inner.StreamTelling.{StreamStanding
 abbrev pub stream_standing : StreamExplainer → StreamStanding
 stream_standing explainer = record {
   state = state_of explainer.stream;
-  kept = explainer.events.items;
+  kept = explainer.events;
   lines = explainer.lines;
   any = explainer.is_any_refused;
 }

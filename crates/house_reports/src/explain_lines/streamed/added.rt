@@ -6,8 +6,9 @@ ghost use Rattle.line_streams.specs.State.{state_of};
 ghost use Rattle.house_reports.specs.explain_lines.Inner.StreamKept.{adds_in, kept_after};
 
 use crate::explain_lines::added::keep;
+use known_events::KnownEvents;
 use line_streams::{LineReply, Stream, StreamReply};
-use plain_house::{Event, adds_event};
+use plain_house::adds_event;
 use std::alloc::{AllocError, Global};
 
 // Whether a reply reports an event that was added.
@@ -27,9 +28,9 @@ pub fn keep_done(
     alloc: Global,
     stream: &Stream,
     reply: &LineReply,
-    events: &mut Vec<Event>,
+    events: &mut KnownEvents,
 ) -> Result<(), AllocError>
-    ensures { OnOk result (events.new.items ≡ kept_after (done_by stream.now reply.now) (state_of stream.now).house.events events.old.items) }
+    ensures { OnOk result (events.new ≡ kept_after (done_by stream.now reply.now) (state_of stream.now).house.events events.old) }
 {
     match stream.done(reply) {
         Some(done) if adds(done) => keep(stream.last_event(alloc)?, events),

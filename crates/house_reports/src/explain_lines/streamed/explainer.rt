@@ -6,9 +6,10 @@ use crate::explain_lines::row::row;
 use crate::explain_lines::streamed::added::keep_done;
 use crate::explain_lines::streamed::explaining::of_line;
 use crate::explain_lines::streamed::refused::refused;
+use known_events::KnownEvents;
 use line_streams::{LineReply, Stream};
 use ocpi_types::Config;
-use plain_house::{Event, replies_tell_events};
+use plain_house::replies_tell_events;
 use request_lines::{Answerer, LineRoom};
 use std::alloc::{AllocError, Global};
 
@@ -17,7 +18,7 @@ use std::alloc::{AllocError, Global};
 pub(crate) struct StreamExplainer {
     stream: Stream,
     /// The events of the stream.
-    events: Vec<Event>,
+    events: KnownEvents,
     /// The memory in which a line is read.
     room: LineRoom,
     /// The number of answered lines.
@@ -37,11 +38,11 @@ impl StreamExplainer {
     pub(crate) fn new(alloc: Global, config: Config) -> Result<StreamExplainer, AllocError>
         ensures state { IfOk result (λ explainer. state_of explainer.stream ≡ empty_under config) }
         ensures none { IfOk result (λ explainer. (explainer.lines ≡ 0) × (explainer.is_any_refused ≡ false)) }
-        ensures events { IfOk result (λ explainer. explainer.events.items ≡ []) }
+        ensures events { IfOk result (λ explainer. explainer.events ≡ []) }
     {
         Ok(StreamExplainer {
             stream: Stream::new(alloc, config)?,
-            events: Vec::new(alloc),
+            events: KnownEvents::new(alloc),
             room: LineRoom::new(alloc),
             lines: 0,
             is_any_refused: false,
@@ -53,7 +54,7 @@ impl StreamExplainer {
         ensures rest { (self.new.lines ≡ self.old.lines) × (self.new.is_any_refused ≡ self.old.is_any_refused) }
         ensures answered { IfOk result (λ reply. (answer : List ℕ) × IsAnswered (state_of self.old.stream) line.now answer (state_of self.new.stream)) }
         ensures given { IfOk result (λ reply. IsGiven (state_of self.old.stream) line.now (done_by self.new.stream reply) reply) }
-        ensures events { IfOk result (λ reply. self.old.events.items ≡ (state_of self.old.stream).house.events → self.new.events.items ≡ (state_of self.new.stream).house.events) }
+        ensures events { IfOk result (λ reply. self.old.events ≡ (state_of self.old.stream).house.events → self.new.events ≡ (state_of self.new.stream).house.events) }
     {
         replies_tell_events();
         let reply = self.stream.reply_to(alloc, line)?;
@@ -69,7 +70,7 @@ impl StreamExplainer {
         reply: &LineReply,
         refusal: &'static str,
     ) -> Result<Vec<u8>, AllocError>
-        ensures rest { (state_of self.new.stream ≡ state_of self.old.stream) × (self.new.events.items ≡ self.old.events.items)
+        ensures rest { (state_of self.new.stream ≡ state_of self.old.stream) × (self.new.events ≡ self.old.events)
             × (self.new.lines ≡ self.old.lines) }
         ensures any { self.new.is_any_refused ≡ true }
         ensures row { IfOk result (λ text. IsRow self.old.lines refusal.now text.items) }
@@ -79,7 +80,7 @@ impl StreamExplainer {
             alloc,
             &mut self.room,
             self.stream.config(),
-            self.events.as_slice(),
+            &self.events,
             line,
             self.stream.done(reply),
         )?;

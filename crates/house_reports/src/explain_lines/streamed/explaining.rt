@@ -7,13 +7,13 @@ use crate::explain_lines::line::{failing, no_json};
 use crate::explain_lines::member_path::MemberPath;
 use crate::explain_lines::telling::{Told, Value, Why};
 use cdr_checks::is_a_hub;
+use known_events::KnownEvents;
 use line_streams::{Asked, RequestId, StreamReply, asked_of, read_asked_line};
 use ocpi_json::ci_text::CiText;
 use ocpi_json::fields::FieldFault;
 use ocpi_json::name::Name;
 use ocpi_json::{Expected, MemberFault, Node, ReadFault, Room};
 use ocpi_types::{Config, Refusal};
-use plain_house::Event;
 use request_lines::LineRoom;
 use std::alloc::{AllocError, Global};
 
@@ -26,7 +26,12 @@ fn word(text: &str) -> Value {
 }
 
 // Explains why a request or a change is refused by this reply after these events.
-fn of_done(config: &Config, events: &[Event], asked: Asked, reply: &StreamReply) -> Option<Told> {
+fn of_done(
+    config: &Config,
+    events: &KnownEvents,
+    asked: Asked,
+    reply: &StreamReply,
+) -> Option<Told> {
     match (asked, reply) {
         (Asked::Request(request), StreamReply::House(reply)) => {
             of_reply(config, events, request, reply)
@@ -99,7 +104,7 @@ pub fn of_line(
     alloc: Global,
     room: &mut LineRoom,
     config: &Config,
-    events: &[Event],
+    events: &KnownEvents,
     line: &[u8],
     reply: Option<&StreamReply>,
 ) -> Result<Told, AllocError> {

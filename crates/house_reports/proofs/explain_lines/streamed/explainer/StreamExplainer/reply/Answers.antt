@@ -8,5 +8,5 @@ returns-clause-events c = λ all.
     let before = c.args.self.now in
     let stream = c.reply_to.new.self in
     c.in_ok-keep_done.ensures
-    ∙ kept_all c.replies_tell_events.ensures (state_of before.stream) (state_of stream) before.events.items c.args.line.now _ stream c.in_ok-reply.reply
+    ∙ kept_all c.replies_tell_events.ensures (state_of before.stream) (state_of stream) before.events c.args.line.now _ stream c.in_ok-reply.reply
     c.in_ok-reply.ensures.ok c.in_ok-reply.ensures.given all
