@@ -1,4 +1,3 @@
-use crate::booked::booked_in;
 use crate::keys::{CreditedKey, OwnKey, UseKey, credited_key, own_key, use_key};
 use crate::places::{lesser, put};
 use cdr_checks::{Authorize, Release, Settlement};
@@ -6,7 +5,7 @@ use ocpi_json::ci_text::CiText;
 use ocpi_types::laws::same_tariffs_are_equal_folded;
 use ocpi_types::{Cdr, Party, Tariff};
 use operator_book::Places;
-use plain_house::{BookedCdr, Event, Hold, is_registered_by_any, period_after};
+use plain_house::{BookedCdr, Event, Hold, booked_in, is_registered_by_any, period_after};
 use std::alloc::{AllocError, Global};
 use std::marker::Model;
 

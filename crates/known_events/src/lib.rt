@@ -1,7 +1,6 @@
 //! A list of events whose first event of each key is found without scanning the list.
 #![tactic(auto)]
 
-mod booked;
 mod keys;
 mod known_events;
 mod places;

@@ -28,7 +28,7 @@ mod tariffs;
 mod tokens;
 
 pub use answer::{Answer, Refused, Replied};
-pub use booked::BookedCdr;
+pub use booked::{BookedCdr, booked_in};
 pub use booked_amount::BookedAmount;
 pub use entry::{AccountEntry, BookEntry, Charge, Credit, charge_of, credit_of};
 pub use entry_laws::{
