@@ -1,8 +1,10 @@
+pub mod ExpectedText
 pub mod Faults
 pub mod Fields
 pub mod Folded
 pub mod Inner
 pub mod MemberFaults
+pub mod MemberPath
 pub mod Members
 pub mod MomentText
 pub mod Name

@@ -1,5 +1,9 @@
 //! What a member has to be.
 
+ghost use Rattle.std.specs.Prelude.{◌≡◌};
+ghost use Rattle.std.specs.Fmt.{WritesOnOk};
+ghost use Rattle.ocpi_json.specs.ExpectedText.{bounds_text, kind_words};
+
 use std::fmt;
 
 /// What a member has to be, with its bounds.
@@ -57,56 +61,68 @@ pub enum Expected {
     Hub,
 }
 
-const ZONE: &str =
-    "a string with an offset as +01:00 or a POSIX time zone rule as CET-1CEST,M3.5.0,M10.5.0/3 for Europe/Amsterdam";
+// What it is without its bounds, with an example if the form is not plain.
+#[tactic(auto, unfolding(crate::specs::ExpectedText::kind_words))]
+fn kind_words(expected: Expected) -> &'static str
+    ensures { result.now ≡ kind_words expected }
+{
+    match expected {
+        Expected::Ascii { .. } | Expected::Text => "a string",
+        Expected::Whole { .. } => "a whole number",
+        Expected::List { .. } => "a list",
+        Expected::Flag => "true or false",
+        Expected::Number => "a decimal without exponent of 1 to 9 digits and up to 30 decimals",
+        Expected::NotBelow0 =>
+            "a decimal without exponent of 1 to 9 digits and up to 30 decimals and at least 0",
+        Expected::Moment => "a string with a moment in UTC as 2024-07-01T10:00:00Z",
+        Expected::Date => "a string with a date as 2024-07-01",
+        Expected::Clock => "a string with a time from 00:00 to 23:59",
+        Expected::Object => "an object",
+        Expected::Party => "a string of two letters and / and three letters or digits as NL/CPA",
+        Expected::Currency => "a string of three letters A to Z as EUR",
+        Expected::Zone =>
+            "a string with an offset as +01:00 or a POSIX time zone rule as CET-1CEST,M3.5.0,M10.5.0/3 for Europe/Amsterdam",
+        Expected::TokenKind => "one of AD_HOC_USER APP_USER OTHER RFID",
+        Expected::AuthMethod => "one of AUTH_REQUEST COMMAND WHITELIST",
+        Expected::ComponentKind => "one of ENERGY FLAT PARKING_TIME TIME",
+        Expected::Day => "one of MONDAY TUESDAY WEDNESDAY THURSDAY FRIDAY SATURDAY SUNDAY",
+        Expected::CdrId => "at most 36 characters without credit true",
+        Expected::CdrNumber => "at least 0 without credit true",
+        Expected::Command =>
+            "one of put_tariff put_token authorize release post close settle exposure find statement",
+        Expected::Change => "configure",
+        Expected::RequestId => "a string of 1 to 64 bytes",
+        Expected::ListedCurrency => "one of the configured currencies as EUR",
+        Expected::ListedOperator => "the party of a configured operator as NL/CPA",
+        Expected::ListedProvider => "the party of a configured provider as NL/MSA",
+        Expected::ListedParty => "the party of a configured operator or provider as NL/CPA",
+        Expected::Different => "no two alike",
+        Expected::Hub => "platforms of which one is a hub",
+    }
+}
 
-const COMMANDS: &str =
-    "one of put_tariff put_token authorize release post close settle exposure find statement";
+// Writes the bounds of what has some.
+#[tactic(auto, unfolding(crate::specs::ExpectedText::bounds_text))]
+fn write_bounds<W: fmt::Write>(f: &mut fmt::Formatter<W>, expected: Expected) -> fmt::Result
+    ensures { WritesOnOk W.write_str_gives f.old result (bounds_text expected) f.new }
+{
+    match expected {
+        Expected::Ascii { most } => write!(f, " of 1 to {most} printable ASCII characters"),
+        Expected::Whole { least, most } => write!(f, " from {least} to {most} in digits alone"),
+        Expected::List { least, most } => write!(f, " of {least} to {most} items"),
+        _ => Ok(()),
+    }
+}
 
-const NOT_BELOW_0: &str =
-    "a decimal without exponent of 1 to 9 digits and up to 30 decimals and at least 0";
-
-/// Writes what it is in words, with an example where the form is not plain.
+/// Writes what it is in words, with an example where the form is not plain: `a list of 1 to 64 items`.
 impl fmt::Display for Expected {
+    ghost use Rattle.std.specs.Prelude.{Some};
+    ghost use Rattle.ocpi_json.specs.ExpectedText.{expected_text};
+
+    ghost output = { λ expected. Some (expected_text expected) };
+
     fn fmt<W: fmt::Write>(&self, f: &mut fmt::Formatter<W>) -> fmt::Result {
-        let words = match self {
-            Expected::Ascii { most } => return write!(
-                f,
-                "a string of 1 to {most} printable ASCII characters"
-            ),
-            Expected::Whole { least, most } => return write!(
-                f,
-                "a whole number from {least} to {most} in digits alone"
-            ),
-            Expected::List { least, most } => return write!(f, "a list of {least} to {most} items"),
-            Expected::Text => "a string",
-            Expected::Flag => "true or false",
-            Expected::Number => "a decimal without exponent of 1 to 9 digits and up to 30 decimals",
-            Expected::NotBelow0 => NOT_BELOW_0,
-            Expected::Moment => "a string with a moment in UTC as 2024-07-01T10:00:00Z",
-            Expected::Date => "a string with a date as 2024-07-01",
-            Expected::Clock => "a string with a time from 00:00 to 23:59",
-            Expected::Object => "an object",
-            Expected::Party =>
-                "a string of two letters and / and three letters or digits as NL/CPA",
-            Expected::Currency => "a string of three letters A to Z as EUR",
-            Expected::Zone => ZONE,
-            Expected::TokenKind => "one of AD_HOC_USER APP_USER OTHER RFID",
-            Expected::AuthMethod => "one of AUTH_REQUEST COMMAND WHITELIST",
-            Expected::ComponentKind => "one of ENERGY FLAT PARKING_TIME TIME",
-            Expected::Day => "one of MONDAY TUESDAY WEDNESDAY THURSDAY FRIDAY SATURDAY SUNDAY",
-            Expected::CdrId => "at most 36 characters without credit true",
-            Expected::CdrNumber => "at least 0 without credit true",
-            Expected::Command => COMMANDS,
-            Expected::Change => "configure",
-            Expected::RequestId => "a string of 1 to 64 bytes",
-            Expected::ListedCurrency => "one of the configured currencies as EUR",
-            Expected::ListedOperator => "the party of a configured operator as NL/CPA",
-            Expected::ListedProvider => "the party of a configured provider as NL/MSA",
-            Expected::ListedParty => "the party of a configured operator or provider as NL/CPA",
-            Expected::Different => "no two alike",
-            Expected::Hub => "platforms of which one is a hub",
-        };
-        f.write_str(words)
+        f.write_str(kind_words(*self))?;
+        write_bounds(f, *self)
     }
 }

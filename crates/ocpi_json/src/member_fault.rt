@@ -1,7 +1,9 @@
 //! Where a member stands that was not read, and what it has to be.
 
-ghost use Rattle.std.specs.Prelude.{◌≡◌};
+ghost use Rattle.std.specs.Prelude.{◌≡◌, ◌++◌};
+ghost use Rattle.std.specs.Fmt.{WritesOnOk};
 ghost use Rattle.ocpi_json.specs.MemberFaults.{deeper, fault_at, item_of, name_of, seen_from, step_of};
+ghost use Rattle.ocpi_json.specs.MemberPath.{object_text};
 
 use crate::expected::Expected;
 use crate::name::Name;
@@ -104,6 +106,12 @@ impl MemberFault {
 
 /// Writes the name, and the item: `tariffs[0]`.
 impl fmt::Display for Step {
+    ghost use Rattle.std.specs.Prelude.{Some};
+    ghost use Rattle.ocpi_json.specs.MemberPath.{step_text};
+
+    ghost output = { λ step. Some (step_text step) };
+
+    #[tactic(auto, unfolding(crate::specs::MemberPath::step_text))]
     fn fmt<W: fmt::Write>(&self, f: &mut fmt::Formatter<W>) -> fmt::Result {
         match self {
             Step::Member(name) => write!(f, "{name}"),
@@ -112,16 +120,40 @@ impl fmt::Display for Step {
     }
 }
 
+// Writes an object around a member, and a point after it.
+fn write_object<W: fmt::Write>(f: &mut fmt::Formatter<W>, object: Step) -> fmt::Result
+    ensures { WritesOnOk W.write_str_gives f.old result (object_text object) f.new }
+{
+    write!(f, "{object}.")
+}
+
+fn write_two<W: fmt::Write>(f: &mut fmt::Formatter<W>, first: Step, second: Step) -> fmt::Result
+    ensures { WritesOnOk W.write_str_gives f.old result (object_text first ++ object_text second) f.new }
+{
+    write_object(f, first)?;
+    write_object(f, second)
+}
+
 /// Writes the path of the innermost object, and a point behind it: `cdr.tariffs[0].elements[2].`.
 impl fmt::Display for Around {
+    ghost use Rattle.std.specs.Prelude.{Some};
+    ghost use Rattle.ocpi_json.specs.MemberPath.{around_text};
+
+    ghost output = { λ around. Some (around_text around) };
+
+    #[tactic(auto, unfolding(crate::specs::MemberPath::around_text))]
     fn fmt<W: fmt::Write>(&self, f: &mut fmt::Formatter<W>) -> fmt::Result {
         match self {
             Around::Nothing => Ok(()),
-            Around::One(first) => write!(f, "{first}."),
-            Around::Two(first, second) => write!(f, "{first}.{second}."),
-            Around::Three(first, second, third) => write!(f, "{first}.{second}.{third}."),
+            Around::One(first) => write_object(f, *first),
+            Around::Two(first, second) => write_two(f, *first, *second),
+            Around::Three(first, second, third) => {
+                write_two(f, *first, *second)?;
+                write_object(f, *third)
+            }
             Around::Four(first, second, third, fourth) => {
-                write!(f, "{first}.{second}.{third}.{fourth}.")
+                write_two(f, *first, *second)?;
+                write_two(f, *third, *fourth)
             }
         }
     }
