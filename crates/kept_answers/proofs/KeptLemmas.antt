@@ -1,8 +1,8 @@
 -- New lines that are kept and answered.
-use Rattle.std.proofs.Common.{◌≡◌, ◌≢◌, ◌⊎◌, inl, inr, ⊎_elim, ℕ, ◌+◌, ◌-◌, ◌≤◌, List, [], ◌∷◌, ◌++◌, length, take, drop, Option, Result, Ok, Err, refl, sym, ◌∙◌, ap, subst, arith, append_assoc, length-append}
+use Rattle.std.proofs.Common.{◌≡◌, ◌≢◌, ◌⊎◌, inl, inr, ⊎_elim, ℕ, ◌+◌, ◌-◌, ◌<◌, ◌≤◌, List, [], ◌∷◌, ◌++◌, length, map, take, drop, Option, Result, Ok, Err, refl, sym, ◌∙◌, ap, subst, arith, append_assoc, length-append}
 use Rattle.std.specs.List.{All, flat_map}
 use Rattle.std.specs.Prelude.{IsErr, IsTrue, MatchResult, OnOk}
-use Rattle.std.proofs.lemmas.List.{append-nil, drop_all, drop_at, flat_map_more, take_all, take_at}
+use Rattle.std.proofs.lemmas.List.{append-nil, drop_all, drop_at, flat_map_more, map-append, take_all, take_at}
 use Rattle.std.proofs.lemmas.Grind.{flat_map-append}
 use Rattle.std.proofs.lemmas.List.Elements.{All-append, All-cons, All-head, All-nil, All-tail}
 use Rattle.std.proofs.lemmas.Bool.{cases_eq}
@@ -24,6 +24,57 @@ one_more_line text rest line others whole is split =
     is ∙ ap (λ (l : List ℕ). flat_map with_newline whole ++ l) split
     ∙ sym (append_assoc (flat_map with_newline whole) (with_newline line) others)
     ∙ ap (λ (l : List ℕ). l ++ others) (flat_map_more with_newline [] whole line)
+
+-- one more size of a line
+pub one_more_size : (start sizes more : List ℕ) (size : ℕ) (whole : List (List ℕ)) (line : List ℕ) → sizes ≡ start ++ map length whole → more ≡ sizes ++ size ∷ [] → size ≡ length line
+    → more ≡ start ++ map length (whole ++ line ∷ [])
+one_more_size start sizes more size whole line is added size_is =
+    added ∙ ap (λ (l : List ℕ). l ++ size ∷ []) is ∙ append_assoc start (map length whole) (size ∷ [])
+    ∙ ap (λ (n : ℕ). start ++ (map length whole ++ n ∷ [])) size_is
+    ∙ ap (λ (l : List ℕ). start ++ l) (sym (map-append length whole (line ∷ [])))
+
+-- the next line, by its size
+pub record Next (lines : List (List ℕ)) (size : ℕ) (later : List ℕ) : Type 0 where
+  pub line : List ℕ
+  pub others : List (List ℕ)
+  pub is : lines ≡ line ∷ others
+  pub size_is : length line ≡ size
+  pub later_is : later ≡ map length others
+
+pub next_of : (lines : List (List ℕ)) (size : ℕ) (later : List ℕ) → size ∷ later ≡ map length lines → Next lines size later
+next_of [] size later e = absurd (cc)
+next_of (line ∷ others) size later e = record { line = line; others = others; is = refl; size_is = (cc); later_is = (cc) }
+
+pub none_left : (lines : List (List ℕ)) (sizes : List ℕ) → sizes ≡ map length lines → length sizes ≡ 0 → lines ≡ []
+none_left [] sizes are none = refl
+none_left (line ∷ others) sizes are none = absurd (omega (arith, ap length are, none))
+
+-- the bytes that begin with it
+begins_with : (rest part line : List ℕ) (lines others : List (List ℕ)) → rest ≡ flat_map with_newline lines ++ part → lines ≡ line ∷ others
+    → rest ≡ with_newline line ++ (flat_map with_newline others ++ part)
+begins_with rest part line lines others is split =
+    is ∙ ap (λ (l : List (List ℕ)). flat_map with_newline l ++ part) split ∙ append_assoc (with_newline line) (flat_map with_newline others) part
+
+size_with_newline : (line : List ℕ) (size : ℕ) → length line ≡ size → length (with_newline line) ≡ size + 1
+size_with_newline line size is = omega (arith, is, length-append line (10 ∷ []))
+
+pub next_fits : (rest part : List ℕ) (lines : List (List ℕ)) (size : ℕ) (later : List ℕ) → rest ≡ flat_map with_newline lines ++ part → Next lines size later → size < length rest
+next_fits rest part lines size later is next =
+    let whole = begins_with rest part next.line lines next.others is next.is in
+    let after : List ℕ = flat_map with_newline next.others ++ part in
+    omega (arith, ap length whole, size_with_newline next.line size next.size_is, length-append (with_newline next.line) after)
+
+pub next_line_is : (rest part : List ℕ) (lines : List (List ℕ)) (size : ℕ) (later : List ℕ) → rest ≡ flat_map with_newline lines ++ part → (next : Next lines size later) → take size rest ≡ next.line
+next_line_is rest part lines size later is next =
+    let after : List ℕ = flat_map with_newline next.others ++ part in
+    ap (λ (l : List ℕ). take size l) (begins_with rest part next.line lines next.others is next.is ∙ append_assoc next.line (10 ∷ []) after)
+    ∙ take_at next.line ((10 ∷ []) ++ after) size next.size_is
+
+pub rest_after : (rest part : List ℕ) (lines : List (List ℕ)) (size : ℕ) (later : List ℕ) → rest ≡ flat_map with_newline lines ++ part → (next : Next lines size later)
+    → drop (size + 1) rest ≡ flat_map with_newline next.others ++ part
+rest_after rest part lines size later is next =
+    ap (λ (l : List ℕ). drop (size + 1) l) (begins_with rest part next.line lines next.others is next.is)
+    ∙ drop_at (with_newline next.line) (flat_map with_newline next.others ++ part) (size + 1) (size_with_newline next.line size next.size_is)
 
 -- what is behind the whole lines
 pub rest_is : (text rest : List ℕ) (whole : List (List ℕ)) → text ≡ flat_map with_newline whole ++ rest → drop (length text - length rest) text ≡ rest

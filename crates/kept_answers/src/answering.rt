@@ -1,6 +1,6 @@
 //! New lines, each kept before it is answered.
 
-ghost use Rattle.std.specs.Prelude.{◌≡◌, ◌≤◌, ◌^◌, ℕ, List, [], ◌++◌, length, take, drop, IsTrue, IfErr, IfOk, OnOk, MatchResult};
+ghost use Rattle.std.specs.Prelude.{◌≡◌, ◌+◌, ◌<◌, ◌≤◌, ◌^◌, ℕ, List, [], ◌++◌, length, map, take, drop, IsTrue, IfErr, OnOk, MatchResult};
 ghost use Rattle.kept_lines.specs.Batch.{lines_of};
 ghost use Rattle.kept_lines.specs.File.{kept_in};
 ghost use Rattle.kept_lines.specs.Log.{IsSettled};
@@ -8,53 +8,54 @@ ghost use Rattle.request_lines.specs.Lines.{AreLines, whole_lines};
 ghost use Rattle.kept_answers.specs.Kept.{AreAnswered};
 
 use crate::fault::KeepFault;
-use crate::pending::push_whole_lines;
+use crate::pending::{Pending, push_whole_lines};
 use kept_lines::{Batch, Log};
 use request_lines::{
-    Answerer, Failed, MOST_LINE_BYTES, MOST_READ_CALLS, Sink, Source, lines_join_to_bytes,
-    read_buffer, read_into, split_line, write_all,
+    Answerer, MOST_LINE_BYTES, MOST_READ_CALLS, Sink, Source, lines_join_to_bytes, write_all,
 };
 use sqlite_disk::Disk;
 use std::alloc::{AllocError, Global};
 
-/// How many bytes a read call of new lines asks for. Its whole lines are one batch.
-pub const BATCH_BYTES: usize = 1_048_576;
+/// Returns a line of this size, and the bytes after its newline.
+fn line_of_size(bytes: &[u8], size: usize) -> (&[u8], &[u8])
+    requires { size < length bytes.now }
+    ensures line { result.0.now ≡ take size bytes.now }
+    ensures others { result.1.now ≡ drop (size + 1) bytes.now }
+{
+    (&bytes[..size], &bytes[size + 1..])
+}
 
-/// Adds the answers to the whole lines of these bytes to a text.
+/// Adds the answers to the whole lines of these bytes, which have these sizes, to a text.
 fn answer_lines<A: Answerer>(
     alloc: Global,
     answerer: &mut A,
     bytes: &[u8],
+    sizes: &[usize],
     text: &mut Vec<u8>,
 ) -> Result<(), KeepFault>
-    requires { text.old.items ≡ [] }
+    requires sizes { sizes.now ≡ map length (whole_lines bytes.now) }
+    requires text { text.old.items ≡ [] }
     ensures answers { OnOk result (A.rule.answers answerer.old (whole_lines bytes.now) text.new.items answerer.new) }
     ensures fault { IfErr result (λ fault. fault ≡ KeepFault.NoMemory) }
 {
     lines_join_to_bytes(bytes);
     let mut rest = bytes;
-    while let Some((line, others)) = split_line(rest) {
+    let mut left = sizes;
+    while let Some((size, later)) = left.split_first() {
+        let (line, others) = line_of_size(rest, *size);
         let answer = answerer.answer(alloc, line)?;
         text.extend_from_slice(answer.as_slice())?;
         rest = others;
+        left = later;
     }
     Ok(())
 }
 
-/// Moves what comes after the first bytes to the front.
-fn drop_front(bytes: &mut Vec<u8>, count: usize)
-    requires { count ≤ length bytes.old.items }
-    ensures { bytes.new.items ≡ drop count bytes.old.items }
-{
-    let len = bytes.len();
-    bytes.copy_within(count..len, 0);
-    bytes.truncate(len - count);
-}
-
-/// The batch and the text of a read call. The next call uses their memory again.
+/// The batch of a read call, the sizes of its lines, and the text of their answers. The next call uses their memory again.
 #[derive(Drop)]
 struct Scratch {
     batch: Batch,
+    sizes: Vec<usize>,
     text: Vec<u8>,
 }
 
@@ -62,6 +63,7 @@ impl Scratch {
     fn new(alloc: Global) -> Result<Scratch, AllocError> {
         Ok(Scratch {
             batch: Batch::new(alloc)?,
+            sizes: Vec::new(alloc),
             text: Vec::new(alloc),
         })
     }
@@ -73,36 +75,29 @@ fn answer_pending<D: Disk, W: Sink, A: Answerer>(
     log: &mut Log<D>,
     writer: &mut W,
     answerer: &mut A,
-    pending: &mut Vec<u8>,
+    pending: &mut Pending,
     scratch: &mut Scratch,
 ) -> Result<(), KeepFault>
     requires settled { IsSettled D.Disk log.old }
     ensures settled { OnOk result (IsSettled D.Disk log.new) }
-    ensures told { (whole : List (List ℕ)) × (part : List ℕ) × (sent : List ℕ) × AreLines pending.old.items whole part × W.writing.takes writer.old sent writer.new
+    ensures told { (whole : List (List ℕ)) × (part : List ℕ) × (sent : List ℕ) × AreLines pending.old whole part × W.writing.takes writer.old sent writer.new
         × MatchResult result
-        (λ _. (pending.new.items ≡ part) × A.rule.answers answerer.old whole sent answerer.new
+        (λ _. (pending.new ≡ part) × A.rule.answers answerer.old whole sent answerer.new
         × (IsTrue (D.Disk.is_clean log.new.disk) → kept_in (D.Disk.seen log.new.disk) ≡ kept_in (D.Disk.seen log.old.disk) ++ whole))
         (λ _. AreAnswered A.rule answerer.old (D.Disk.may_leave log.new.disk) (IsTrue (D.Disk.is_clean log.new.disk)) (kept_in (D.Disk.seen log.old.disk)) whole sent) }
     ensures clean { D.Disk.is_clean log.new.disk ≡ D.Disk.is_clean log.old.disk }
 {
     scratch.batch.clear();
-    let count = push_whole_lines(&mut scratch.batch, pending.as_slice())?;
+    scratch.sizes.clear();
+    let count = push_whole_lines(&mut scratch.batch, &mut scratch.sizes, pending.bytes())?;
     log.append(&scratch.batch)?;
     scratch.text.clear();
-    answer_lines(alloc, answerer, pending.as_slice(), &mut scratch.text)?;
+    let sizes = scratch.sizes.as_slice();
+    answer_lines(alloc, answerer, pending.bytes(), sizes, &mut scratch.text)?;
     if let Err(_sent) = write_all(writer, scratch.text.as_slice()) {
         return Err(KeepFault::Write);
     }
-    drop_front(pending, count);
-    Ok(())
-}
-
-/// Adds the first bytes of a buffer to the pending bytes.
-fn add_pending(pending: &mut Vec<u8>, buffer: &Vec<u8>, count: usize) -> Result<(), KeepFault>
-    requires { count ≤ length buffer.now.items }
-    ensures { OnOk result (pending.new.items ≡ pending.old.items ++ take count buffer.now.items) }
-{
-    pending.extend_from_slice(&buffer.as_slice()[..count])?;
+    pending.drop_front(count);
     Ok(())
 }
 
@@ -136,18 +131,13 @@ pub fn answer_new_lines<D: Disk, R: Source, W: Sink, A: Answerer>(
         (λ _. AreAnswered A.rule answerer.old (D.Disk.may_leave log.new.disk) (IsTrue (D.Disk.is_clean log.new.disk)) (kept_in (D.Disk.seen log.old.disk)) whole sent) }
     ensures clean { D.Disk.is_clean log.new.disk ≡ D.Disk.is_clean log.old.disk }
 {
-    let mut buffer = read_buffer(alloc, BATCH_BYTES)?;
+    let mut pending = Pending::new(alloc);
     let mut scratch = Scratch::new(alloc)?;
-    let mut pending = Vec::new(alloc);
     for turn in 0..MOST_READ_CALLS {
-        let count = match read_into(reader, &mut buffer) {
-            Ok(count) => count,
-            Err(Failed) => return Err(KeepFault::Read),
-        };
+        let count = pending.read(reader)?;
         if count == 0 {
-            return whole_input(pending.as_slice());
+            return whole_input(pending.bytes());
         }
-        add_pending(&mut pending, &buffer, count)?;
         answer_pending(alloc, log, writer, answerer, &mut pending, &mut scratch)?;
         if pending.len() > MOST_LINE_BYTES {
             return Err(KeepFault::LineTooLong);

@@ -5,8 +5,8 @@ ghost use Rattle.kept_lines.specs.Reading.{OnlyReads};
 ghost use Rattle.kept_lines.specs.Recovery.{disk_of, lines_left};
 ghost use Rattle.kept_answers.specs.Kept.{AreResent, Begins, HasResent, HasSent};
 
-use crate::answering::BATCH_BYTES;
 use crate::fault::KeepFault;
+use crate::pending::BATCH_BYTES;
 use kept_lines::Recovery;
 use request_lines::{Answerer, Sink, write_all};
 use sqlite_disk::Disk;

@@ -1,12 +1,19 @@
-use Rattle.std.proofs.Common.{◌≡◌, ◌++◌, List, ℕ, length}
-use Rattle.std.specs.List.{All, flat_map}
-use Rattle.request_lines.specs.Lines.{HasNoNewline, with_newline}
+use Rattle.std.proofs.Common.{◌≡◌, ◌++◌, List, ℕ, length, map}
+use Rattle.std.specs.List.{flat_map}
+use Rattle.request_lines.specs.Lines.{whole_lines, with_newline}
 use Rattle.kept_answers.proofs.answering.answer_lines.Given as goal
 
--- some lines are answered, and the rest follows them
-abbrev pub invariant-loop-line : goal.invariant-loop-line
-invariant-loop-line g l =
-    (whole : List (List ℕ)) × All HasNoNewline whole × (l.bytes ≡ flat_map with_newline whole ++ l.rest) × g.A.Answerer.rule.answers l.initial.answerer whole l.text.items l.answerer
+-- some lines are answered, and the rest has the others, of which these are the sizes
+abbrev pub invariant-loop-size : goal.invariant-loop-size
+invariant-loop-size g l = record {
+  done : List (List ℕ);
+  others : List (List ℕ);
+  part : List ℕ;
+  all : whole_lines l.bytes ≡ done ++ others;
+  sizes : l.left ≡ map length others;
+  rest : l.rest ≡ flat_map with_newline others ++ part;
+  answers : g.A.Answerer.rule.answers l.initial.answerer done l.text.items l.answerer;
+}
 
-abbrev pub decreases-loop-line : goal.decreases-loop-line
-decreases-loop-line g l = length l.rest
+abbrev pub decreases-loop-size : goal.decreases-loop-size
+decreases-loop-size g l = length l.left

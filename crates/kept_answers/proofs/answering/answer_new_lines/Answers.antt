@@ -1,27 +1,14 @@
-use Rattle.std.proofs.Common.{◌≡◌, ℕ, ◌+◌, ◌^◌, List, [], ◌++◌, take, refl, sym, ap, ◌∙◌, subst, arith}
+use Rattle.std.proofs.Common.{◌≡◌, ℕ, ◌+◌, ◌^◌, List, [], ◌∷◌, ◌++◌, length, refl, sym, ap, ◌∙◌, subst, arith}
 use Rattle.std.specs.Prelude.{IsTrue}
 use Rattle.std.proofs.lemmas.List.{append-nil}
 use Rattle.request_lines.specs.Lines.{AreLines}
 use Rattle.kept_answers.proofs.KeptLemmas.{all_kept, answers_sent, at_err, at_rest, at_stop, either, gone_on, next_part, no_lines, none_lost, nothing_sent, split}
 use Rattle.kept_answers.proofs.answering.answer_new_lines.Goals as goal
 
-none_taken : (xs ys : List ℕ) (n : ℕ) → n ≡ 0 → xs ++ take n ys ≡ xs
-none_taken xs ys n e = ap (λ m. xs ++ take m ys) e ∙ append-nil xs
-
-pub returns-in_err-buffer-clause-told : goal.returns-in_err-buffer-clause-told
-returns-in_err-buffer-clause-told g c =
-    let found = split [] in (
-      0,
-      [],
-      found.whole,
-      found.part,
-      [],
-      omega arith,
-      g.met.R.Source.gives_none _,
-      found.are,
-      g.met.W.Sink.takes_none _,
-      at_err _ c.from_residual.result c.from_residual.ensures.0 (nothing_sent _ _ _ _ _ _ (g.met.A.Answerer.answers_none _) (λ clean. none_lost _ _ _ c.requires.durable)),
-    )
+-- no more bytes came
+none_more : (xs more : List ℕ) (n : ℕ) → length more ≡ n → n ≡ 0 → xs ++ more ≡ xs
+none_more xs [] n size none = append-nil xs
+none_more xs (byte ∷ more) n size none = absurd (omega (arith, size, none))
 
 pub returns-in_err-scratch-clause-told : goal.returns-in_err-scratch-clause-told
 returns-in_err-scratch-clause-told g c =
@@ -35,7 +22,7 @@ returns-in_err-scratch-clause-told g c =
       g.met.R.Source.gives_none _,
       found.are,
       g.met.W.Sink.takes_none _,
-      at_err _ c.from_residual-in_err-scratch.result c.from_residual-in_err-scratch.ensures.0 (nothing_sent _ _ _ _ _ _ (g.met.A.Answerer.answers_none _) (λ clean. none_lost _ _ _ c.requires.durable)),
+      at_err _ c.from_residual.result c.from_residual.ensures.0 (nothing_sent _ _ _ _ _ _ (g.met.A.Answerer.answers_none _) (λ clean. none_lost _ _ _ c.requires.durable)),
     )
 
 pub loop-turn-init : goal.loop-turn-init
@@ -47,78 +34,64 @@ loop-turn-init g c =
       taken = g.met.W.Sink.takes_none _;
       under_way = record {
         whole = [];
-        lines = subst (λ (l : List ℕ). AreLines [] [] l) (sym c.new-pending.ensures.items) no_lines;
+        lines = subst (λ (l : List ℕ). AreLines [] [] l) (sym c.new-pending.ensures) no_lines;
         answers = g.met.A.Answerer.answers_none _;
         kept = λ clean. sym (append-nil _);
       };
       settled = c.requires;
       clean = refl;
-      buffer_is = c.in_ok-buffer.ensures;
+      short = omega (arith, ap length c.new-pending.ensures);
     }
 
-pub returns-in-Err-clause-told : goal.returns-in-Err-clause-told
-returns-in-Err-clause-told g c =
-    let v = c.loop-turn.invariant in (
-      c.loop-turn.turn + 1,
+pub returns-in_err-count-clause-told : goal.returns-in_err-count-clause-told
+returns-in_err-count-clause-told g c =
+    let v = c.loop-turn.invariant in
+    let failed = c.in_err-count.ensures.err in (
+      c.loop-turn.turn + failed.0,
       v.read,
       v.under_way.whole,
-      c.loop-turn.pending.items,
+      c.loop-turn.pending,
       v.written,
-      omega (arith, c.loop-turn-test.true),
-      subst (λ (xs : List ℕ). g.R.Source.reading.gives c.args.reader.now (c.loop-turn.turn + 1) xs c.read_into.new.reader) (append-nil v.read) (g.met.R.Source.gives_more _ _ _ _ _ _ _ v.given c.in-Err.ensures.err_gives),
+      omega (arith, c.loop-turn-test.true, failed.1),
+      subst (λ (xs : List ℕ). g.R.Source.reading.gives c.args.reader.now (c.loop-turn.turn + failed.0) xs c.read.new.reader) (append-nil v.read) (g.met.R.Source.gives_more _ _ _ _ _ _ _ v.given failed.2),
       v.under_way.lines,
       v.taken,
-      at_rest _ g.met.A.Answerer.answers_more g.met.A.Answerer.answers_none _ _ _ _ _ _ _ _ _ v.under_way v.settled.durable,
+      at_err _ c.from_residual-in_err-count.result c.from_residual-in_err-count.ensures.0 (at_rest _ g.met.A.Answerer.answers_more g.met.A.Answerer.answers_none _ _ _ _ _ _ _ _ _ v.under_way v.settled.durable),
     )
 
 pub returns-then-count-eq0-clause-told : goal.returns-then-count-eq0-clause-told
 returns-then-count-eq0-clause-told g c =
-    let v = c.loop-turn.invariant in (
+    let v = c.loop-turn.invariant in
+    let some = c.in_ok-count.ensures.some in
+    let same : c.read.new.self ≡ c.loop-turn.pending = some.2 ∙ none_more c.loop-turn.pending some.0 _ some.3 c.if-count-eq0.true in (
       c.loop-turn.turn + 1,
       v.read,
       v.under_way.whole,
-      c.loop-turn.pending.items,
+      c.loop-turn.pending,
       v.written,
       omega (arith, c.loop-turn-test.true),
-      subst (λ (xs : List ℕ). g.R.Source.reading.gives c.args.reader.now (c.loop-turn.turn + 1) xs c.read_into.new.reader) (none_taken v.read c.read_into.new.buffer.items _ c.if-count-eq0.true) (g.met.R.Source.gives_more _ _ _ _ _ _ _ v.given c.in-Ok.ensures.gives),
+      subst (λ (xs : List ℕ). g.R.Source.reading.gives c.args.reader.now (c.loop-turn.turn + 1) xs c.read.new.reader) (none_more v.read some.0 _ some.3 c.if-count-eq0.true) (g.met.R.Source.gives_more _ _ _ _ _ _ _ v.given some.1),
       v.under_way.lines,
       v.taken,
       either c.whole_input.result c.whole_input.ensures
-          (λ none. (sym c.as_slice.ensures.value ∙ none, c.in-Ok.ensures.end c.if-count-eq0.true, v.under_way.answers, v.under_way.kept))
+          (λ none. (sym same ∙ sym c.bytes.ensures ∙ none, c.in_ok-count.ensures.end c.if-count-eq0.true, v.under_way.answers, v.under_way.kept))
           (at_rest _ g.met.A.Answerer.answers_more g.met.A.Answerer.answers_none _ _ _ _ _ _ _ _ _ v.under_way v.settled.durable),
-    )
-
-pub returns-in_err-add_pending-clause-told : goal.returns-in_err-add_pending-clause-told
-returns-in_err-add_pending-clause-told g c =
-    let v = c.loop-turn.invariant in
-    let chunk = take c.in-Ok.count c.read_into.new.buffer.items in
-    let found = split (c.loop-turn.pending.items ++ chunk) in (
-      c.loop-turn.turn + 1,
-      v.read ++ chunk,
-      v.under_way.whole ++ found.whole,
-      found.part,
-      v.written ++ [],
-      omega (arith, c.loop-turn-test.true),
-      g.met.R.Source.gives_more _ _ _ _ _ _ _ v.given c.in-Ok.ensures.gives,
-      next_part _ _ _ _ _ _ v.under_way.lines found.are,
-      g.met.W.Sink.takes_more _ _ _ _ _ v.taken (g.met.W.Sink.takes_none _),
-      at_err _ c.from_residual-in_err-add_pending.result c.from_residual-in_err-add_pending.ensures.0
-          (at_stop _ g.met.A.Answerer.answers_more _ _ _ _ _ _ _ _ _ _ _ _ v.under_way (λ clean. clean) (nothing_sent _ _ _ _ _ _ (g.met.A.Answerer.answers_none _) (λ clean. none_lost _ _ _ v.settled.durable))),
     )
 
 pub returns-in_err-answer_pending-clause-told : goal.returns-in_err-answer_pending-clause-told
 returns-in_err-answer_pending-clause-told g c =
     let v = c.loop-turn.invariant in
-    let chunk = take c.in-Ok.count c.read_into.new.buffer.items in
+    let some = c.in_ok-count.ensures.some in
+    let chunk = some.0 in
     let told = c.in_err-answer_pending.ensures.told in
-    let lines = subst (λ (l : List ℕ). AreLines l told.0 told.1) c.in_ok-add_pending.ensures told.3 in (
+    let lines = subst (λ (l : List ℕ). AreLines l told.0 told.1) some.2 told.3 in (
       c.loop-turn.turn + 1,
       v.read ++ chunk,
       v.under_way.whole ++ told.0,
       told.1,
       v.written ++ told.2,
       omega (arith, c.loop-turn-test.true),
-      g.met.R.Source.gives_more _ _ _ _ _ _ _ v.given c.in-Ok.ensures.gives,
+      g.met.R.Source.gives_more _ _ _ _ _ _ _ v.given some.1,
       next_part _ _ _ _ _ _ v.under_way.lines lines,
       g.met.W.Sink.takes_more _ _ _ _ _ v.taken told.4,
       at_err _ c.from_residual-in_err-answer_pending.result c.from_residual-in_err-answer_pending.ensures.0
@@ -128,16 +101,17 @@ returns-in_err-answer_pending-clause-told g c =
 pub returns-then-len-gt-MOST_LINE_BYTES-clause-told : goal.returns-then-len-gt-MOST_LINE_BYTES-clause-told
 returns-then-len-gt-MOST_LINE_BYTES-clause-told g c =
     let v = c.loop-turn.invariant in
-    let chunk = take c.in-Ok.count c.read_into.new.buffer.items in
+    let some = c.in_ok-count.ensures.some in
+    let chunk = some.0 in
     let told = c.in_ok-answer_pending.ensures.told in
-    let lines = subst (λ (l : List ℕ). AreLines l told.0 told.1) c.in_ok-add_pending.ensures told.3 in (
+    let lines = subst (λ (l : List ℕ). AreLines l told.0 told.1) some.2 told.3 in (
       c.loop-turn.turn + 1,
       v.read ++ chunk,
       v.under_way.whole ++ told.0,
       told.1,
       v.written ++ told.2,
       omega (arith, c.loop-turn-test.true),
-      g.met.R.Source.gives_more _ _ _ _ _ _ _ v.given c.in-Ok.ensures.gives,
+      g.met.R.Source.gives_more _ _ _ _ _ _ _ v.given some.1,
       next_part _ _ _ _ _ _ v.under_way.lines lines,
       g.met.W.Sink.takes_more _ _ _ _ _ v.taken told.4,
       at_stop _ g.met.A.Answerer.answers_more _ _ _ _ _ _ _ _ _ _ _ _ v.under_way (λ clean. subst IsTrue c.in_ok-answer_pending.ensures.clean clean)
@@ -147,18 +121,19 @@ returns-then-len-gt-MOST_LINE_BYTES-clause-told g c =
 pub loop-turn-preserved : goal.loop-turn-preserved
 loop-turn-preserved g c =
     let v = c.loop-turn.invariant in
-    let chunk = take c.in-Ok.count c.read_into.new.buffer.items in
+    let some = c.in_ok-count.ensures.some in
+    let chunk = some.0 in
     let told = c.in_ok-answer_pending.ensures.told in
-    let lines = subst (λ (l : List ℕ). AreLines l told.0 told.1) c.in_ok-add_pending.ensures told.3 in
-    let ended = subst (λ (l : List ℕ). AreLines (c.loop-turn.pending.items ++ chunk) told.0 l) (sym told.5.0) lines in record {
+    let lines = subst (λ (l : List ℕ). AreLines l told.0 told.1) some.2 told.3 in
+    let ended = subst (λ (l : List ℕ). AreLines (c.loop-turn.pending ++ chunk) told.0 l) (sym told.5.0) lines in record {
       read = v.read ++ chunk;
       written = v.written ++ told.2;
-      given = g.met.R.Source.gives_more _ _ _ _ _ _ _ v.given c.in-Ok.ensures.gives;
+      given = g.met.R.Source.gives_more _ _ _ _ _ _ _ v.given some.1;
       taken = g.met.W.Sink.takes_more _ _ _ _ _ v.taken told.4;
       under_way = gone_on _ g.met.A.Answerer.answers_more _ _ _ _ _ _ _ _ _ _ _ _ _ _ _ v.under_way (λ clean. subst IsTrue c.in_ok-answer_pending.ensures.clean clean) ended told.5.1 told.5.2;
       settled = c.in_ok-answer_pending.ensures.settled;
       clean = c.in_ok-answer_pending.ensures.clean ∙ v.clean;
-      buffer_is = c.read_into.ensures.same ∙ v.buffer_is;
+      short = omega (arith, c.len.ensures, c.if-len-gt-MOST_LINE_BYTES.false);
     }
 
 pub returns-clause-told : goal.returns-clause-told
@@ -168,7 +143,7 @@ returns-clause-told g c =
       c.loop-turn.turn,
       v.read,
       v.under_way.whole,
-      c.loop-turn.pending.items,
+      c.loop-turn.pending,
       v.written,
       omega (arith, all),
       v.given,

@@ -1,4 +1,4 @@
-use Rattle.std.proofs.Common.{◌≡◌, ℕ, List, length}
+use Rattle.std.proofs.Common.{◌≡◌, ◌≤◌, ℕ, List, length}
 use Rattle.std.specs.Prelude.{IsTrue}
 use Rattle.kept_lines.specs.File.{kept_in}
 use Rattle.kept_lines.specs.Log.{IsSettled}
@@ -11,8 +11,8 @@ invariant-loop-turn g l = record {
   written : List ℕ;
   given : g.R.Source.reading.gives l.initial.reader l.turn read l.reader;
   taken : g.W.Sink.writing.takes l.initial.writer written l.writer;
-  under_way : IsUnderWay g.A.Answerer.rule l.initial.answerer l.answerer (g.D.Disk.seen l.log.disk) (IsTrue (g.D.Disk.is_clean l.log.disk)) (kept_in (g.D.Disk.seen l.initial.log.disk)) read written l.pending.items;
+  under_way : IsUnderWay g.A.Answerer.rule l.initial.answerer l.answerer (g.D.Disk.seen l.log.disk) (IsTrue (g.D.Disk.is_clean l.log.disk)) (kept_in (g.D.Disk.seen l.initial.log.disk)) read written l.pending;
   settled : IsSettled g.D.Disk l.log;
   clean : g.D.Disk.is_clean l.log.disk ≡ g.D.Disk.is_clean l.initial.log.disk;
-  buffer_is : length l.buffer.items ≡ 1048576;
+  short : length l.pending ≤ 1048576;
 }

@@ -8,7 +8,7 @@ use Rattle.kept_answers.proofs.answering.answer_pending.Goals as goal
 
 pub returns-in_err-count-clause-told : goal.returns-in_err-count-clause-told
 returns-in_err-count-clause-told g c =
-    let found = split c.args.pending.now.items in (
+    let found = split c.args.pending.now in (
       found.whole,
       found.part,
       [],
@@ -20,10 +20,10 @@ returns-in_err-count-clause-told g c =
 pub returns-in_err-append-clause-told : goal.returns-in_err-append-clause-told
 returns-in_err-append-clause-told g c =
     let before = kept_in (g.D.Disk.seen c.args.log.now.disk) in
-    let whole = whole_lines c.as_slice.result.now in
+    let whole = whole_lines c.bytes.result.now in
     let are : lines_of c.push_whole_lines.new.batch ≡ whole = c.in_ok-count.ensures.lines ∙ ap (λ (l : List (List ℕ)). l ++ whole) c.clear.ensures in
-    let part = drop c.in_ok-count.count c.as_slice.result.now in
-    let lines : AreLines c.args.pending.now.items whole part = subst (λ (l : List ℕ). AreLines l whole part) c.as_slice.ensures.value c.in_ok-count.ensures.part in (
+    let part = drop c.in_ok-count.count c.bytes.result.now in
+    let lines : AreLines c.args.pending.now whole part = subst (λ (l : List ℕ). AreLines l whole part) c.bytes.ensures c.in_ok-count.ensures.part in (
       whole,
       part,
       [],
@@ -36,10 +36,10 @@ returns-in_err-append-clause-told g c =
 pub returns-in_err-answer_lines-clause-told : goal.returns-in_err-answer_lines-clause-told
 returns-in_err-answer_lines-clause-told g c =
     let before = kept_in (g.D.Disk.seen c.args.log.now.disk) in
-    let whole = whole_lines c.as_slice.result.now in
+    let whole = whole_lines c.bytes.result.now in
     let are : lines_of c.push_whole_lines.new.batch ≡ whole = c.in_ok-count.ensures.lines ∙ ap (λ (l : List (List ℕ)). l ++ whole) c.clear.ensures in
-    let part = drop c.in_ok-count.count c.as_slice.result.now in
-    let lines : AreLines c.args.pending.now.items whole part = subst (λ (l : List ℕ). AreLines l whole part) c.as_slice.ensures.value c.in_ok-count.ensures.part in (
+    let part = drop c.in_ok-count.count c.bytes.result.now in
+    let lines : AreLines c.args.pending.now whole part = subst (λ (l : List ℕ). AreLines l whole part) c.bytes.ensures c.in_ok-count.ensures.part in (
       whole,
       part,
       [],
@@ -52,19 +52,19 @@ returns-in_err-answer_lines-clause-told g c =
 pub returns-in-Err-clause-told : goal.returns-in-Err-clause-told
 returns-in-Err-clause-told g c =
     let before = kept_in (g.D.Disk.seen c.args.log.now.disk) in
-    let whole = whole_lines c.as_slice.result.now in
+    let whole = whole_lines c.bytes.result.now in
     let are : lines_of c.push_whole_lines.new.batch ≡ whole = c.in_ok-count.ensures.lines ∙ ap (λ (l : List (List ℕ)). l ++ whole) c.clear.ensures in
-    let part = drop c.in_ok-count.count c.as_slice.result.now in
-    let lines : AreLines c.args.pending.now.items whole part = subst (λ (l : List ℕ). AreLines l whole part) c.as_slice.ensures.value c.in_ok-count.ensures.part in
-    let text = c.as_slice-3.result.now in (
+    let part = drop c.in_ok-count.count c.bytes.result.now in
+    let lines : AreLines c.args.pending.now whole part = subst (λ (l : List ℕ). AreLines l whole part) c.bytes.ensures c.in_ok-count.ensures.part in
+    let text = c.as_slice.result.now in (
       whole,
       part,
       take c.in-Err._sent text,
       lines,
       c.in-Err.ensures.err,
       answers_sent _ _ c.answer_lines.new.answerer _ _ before _ text (take c.in-Err._sent text) (drop c.in-Err._sent text)
-          (subst (λ (l : List (List ℕ)). g.A.Answerer.rule.answers c.args.answerer.now l text c.answer_lines.new.answerer) (ap whole_lines (c.as_slice-2.ensures.value ∙ sym c.as_slice.ensures.value))
-          (subst (λ (l : List ℕ). g.A.Answerer.rule.answers c.args.answerer.now (whole_lines c.as_slice-2.result.now) l c.answer_lines.new.answerer) (sym c.as_slice-3.ensures.value) c.in_ok-answer_lines.ensures.answers))
+          (subst (λ (l : List (List ℕ)). g.A.Answerer.rule.answers c.args.answerer.now l text c.answer_lines.new.answerer) (ap whole_lines (c.bytes-2.ensures ∙ sym c.bytes.ensures))
+          (subst (λ (l : List ℕ). g.A.Answerer.rule.answers c.args.answerer.now (whole_lines c.bytes-2.result.now) l c.answer_lines.new.answerer) (sym c.as_slice.ensures.value) c.in_ok-answer_lines.ensures.answers))
           (sym (take-append-drop c.in-Err._sent text))
           (λ clean. all_kept _ _ before _ _ c.in_ok-append.ensures.settled.durable (c.in_ok-append.ensures.acknowledged clean ∙ ap (λ (l : List (List ℕ)). before ++ l) are) (omega arith)),
     )
@@ -72,20 +72,20 @@ returns-in-Err-clause-told g c =
 pub returns-clause-told : goal.returns-clause-told
 returns-clause-told g c =
     let before = kept_in (g.D.Disk.seen c.args.log.now.disk) in
-    let whole = whole_lines c.as_slice.result.now in
+    let whole = whole_lines c.bytes.result.now in
     let are : lines_of c.push_whole_lines.new.batch ≡ whole = c.in_ok-count.ensures.lines ∙ ap (λ (l : List (List ℕ)). l ++ whole) c.clear.ensures in
-    let part = drop c.in_ok-count.count c.as_slice.result.now in
-    let lines : AreLines c.args.pending.now.items whole part = subst (λ (l : List ℕ). AreLines l whole part) c.as_slice.ensures.value c.in_ok-count.ensures.part in
-    let text = c.as_slice-3.result.now in (
+    let part = drop c.in_ok-count.count c.bytes.result.now in
+    let lines : AreLines c.args.pending.now whole part = subst (λ (l : List ℕ). AreLines l whole part) c.bytes.ensures c.in_ok-count.ensures.part in
+    let text = c.as_slice.result.now in (
       whole,
       part,
       text,
       lines,
       c.in_default.ensures.ok,
       (
-        c.drop_front.ensures ∙ ap (λ (l : List ℕ). drop c.in_ok-count.count l) (sym c.as_slice.ensures.value),
-        (subst (λ (l : List (List ℕ)). g.A.Answerer.rule.answers c.args.answerer.now l text c.answer_lines.new.answerer) (ap whole_lines (c.as_slice-2.ensures.value ∙ sym c.as_slice.ensures.value))
-            (subst (λ (l : List ℕ). g.A.Answerer.rule.answers c.args.answerer.now (whole_lines c.as_slice-2.result.now) l c.answer_lines.new.answerer) (sym c.as_slice-3.ensures.value) c.in_ok-answer_lines.ensures.answers)),
+        c.drop_front.ensures ∙ ap (λ (l : List ℕ). drop c.in_ok-count.count l) (sym c.bytes.ensures),
+        (subst (λ (l : List (List ℕ)). g.A.Answerer.rule.answers c.args.answerer.now l text c.answer_lines.new.answerer) (ap whole_lines (c.bytes-2.ensures ∙ sym c.bytes.ensures))
+            (subst (λ (l : List ℕ). g.A.Answerer.rule.answers c.args.answerer.now (whole_lines c.bytes-2.result.now) l c.answer_lines.new.answerer) (sym c.as_slice.ensures.value) c.in_ok-answer_lines.ensures.answers)),
         λ clean. c.in_ok-append.ensures.acknowledged clean ∙ ap (λ (l : List (List ℕ)). before ++ l) are,
       ),
     )
