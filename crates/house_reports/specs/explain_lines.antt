@@ -3,4 +3,3 @@ pub mod Inner
 pub mod Rows
 pub mod StreamRows
 pub mod Table
-pub mod TurnedDown

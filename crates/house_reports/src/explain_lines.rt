@@ -3,17 +3,10 @@
 ghost use Rattle.std.specs.Prelude.{◌≡◌, ◌↔◌, false};
 
 mod added;
-mod causes;
 mod explainer;
-mod explaining;
-mod happened;
-mod line;
-mod member_path;
 mod row;
 mod streamed;
 mod table;
-mod telling;
-mod turned_down;
 
 use crate::command::Lines;
 use command_line::{Fault, Output, read_config};

@@ -1,4 +1,4 @@
--- The replies of a stream, the names of the refused lines and the events that are kept.
+-- The events that are kept of a stream.
 use Rattle.std.proofs.Common.{◌≡◌, ◌⊎◌, ⊎_elim, ℕ, List, Bool, true, false, refl, sym, ap, ◌∙◌, Option, Some, None, Result, Ok, Err}
 use Rattle.std.specs.Str.{bytes_eq}
 use Rattle.ocpi_types.specs.declared.config.Config.{Config}
@@ -20,33 +20,8 @@ use Rattle.line_streams.specs.declared.reply.LineReply.{LineReply}
 use Rattle.line_streams.specs.declared.reply.StreamReply.{StreamReply}
 use Rattle.line_streams.specs.declared.reply.StreamReply.TheVariants as reply
 use Rattle.line_streams.specs.declared.stream.Stream.{Stream}
-use Rattle.house_reports.specs.explain_lines.StreamRows.{IsRefused, IsRefusedAs, IsRefusedOnce, refused_again}
-use Rattle.house_reports.specs.explain_lines.Inner.StreamKept.{kept_after, refused_in}
+use Rattle.house_reports.specs.explain_lines.Inner.StreamKept.{kept_after}
 use Rattle.house_reports.proofs.explain_lines.AddedLemmas.{kept_with_command}
-
--- ---- names
-
-named_again : (same : Bool) (stream : Stream) (line : LineReply) → IsGivenAgain same line → refused_in (done_by stream line) line ≡ refused_again same
-named_again true stream line given = ap (λ (l : LineReply). refused_in (done_by stream l) l) given.1
-named_again false stream line given = ap (λ (l : LineReply). refused_in (done_by stream l) l) given
-
-named_once : (house : StreamHouse) (asks : Asked) (found : Option Remembered) (text : List ℕ) (stream : Stream) (line : LineReply)
-    → IsGivenOnce house asks found text (done_by stream line) line → IsRefusedOnce house asks found text (refused_in (done_by stream line) line)
-named_once house asks None text stream line given =
-    record { answer = given.answer; replied = given.replied; name_is = ap (λ (d : Option StreamReply). refused_in d line) given.done_is }
-named_once house asks (Some found) text stream line given = named_again (bytes_eq found.line text) stream line given
-
-named_as : (state : StreamState) (m : Result AskedLine Refusal) (text : List ℕ) (stream : Stream) (line : LineReply)
-    → IsGivenAs state m text (done_by stream line) line → IsRefusedAs state m text (refused_in (done_by stream line) line)
-named_as state (Err why) text stream line given = ap (λ (l : LineReply). refused_in (done_by stream l) l) given
-named_as state (Ok asks) text stream line given = named_once state.house asks.asked (found_under state.remembered (key_of asks)) text stream line given
-
--- a reply names the refusal of its line
-pub named : (state : StreamState) (text : List ℕ) (stream : Stream) (line : LineReply) → IsGiven state text (done_by stream line) line
-    → IsRefused state text (refused_in (done_by stream line) line)
-named state text stream line given = named_as state (asked_of text) text stream line given
-
--- ---- events
 
 -- a change adds no event
 unchanged : (house now : StreamHouse) (config : Config) (text : List ℕ) → IsChanged house config text now → now.events ≡ house.events

@@ -10,7 +10,7 @@ module _ (start reached : Standing) (lines : List (List ℕ)) (rows : List ℕ) 
       let all : count ≡ start.lines + length lines = counted ∙ sym (zero-add (length lines)) ∙ ap (λ (n : ℕ). n + length lines) (sym is_new.no_line) in
       subst (λ (l : List Event). AreTold start.config l 0 lines rows) is_new.no_event
       (subst (λ (n : ℕ). AreTold start.config start.events n lines rows) is_new.no_line
-      (tells.told (subst (λ (n : ℕ). n < 2 ^ 128) all fits)))
+      (tells.told (is_new.none_kept ∙ sym is_new.no_event) (subst (λ (n : ℕ). n < 2 ^ 128) all fits)))
 
   pub any_told : reached.any ≡ is_any_turned_down start.config [] lines
   any_told =

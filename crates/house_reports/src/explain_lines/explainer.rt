@@ -1,12 +1,13 @@
 //! A house that answers lines and explains the refused ones.
 
-ghost use Rattle.std.specs.Prelude.{◌≡◌};
+ghost use Rattle.std.specs.Prelude.{◌≡◌, IfOk};
+ghost use Rattle.line_causes.specs.LineCauses.{IsCauseOfLine};
+ghost use Rattle.house_reports.specs.explain_lines.Table.{IsRow};
 
 use crate::explain_lines::added::keep_added;
-use crate::explain_lines::explaining::of_line;
 use crate::explain_lines::row::row;
-use crate::explain_lines::turned_down::turned_down;
 use known_events::KnownEvents;
+use line_causes::{cause_of_line, turned_down};
 use ocpi_types::{Config, TryCopy};
 use period_order::BookHouse;
 use plain_house::{Refused, Replied, is_out_of_memory, out_of_memory, replies_tell_events};
@@ -29,11 +30,29 @@ pub(crate) struct Explainer<'c> {
     ghost same: { house.config ≡ config.now },
 }
 
+// Returns the row of the line of this number, which was refused by this reply after these events.
+fn row_of_line(
+    alloc: Global,
+    room: &mut LineRoom,
+    config: &Config,
+    events: &KnownEvents,
+    line: &[u8],
+    reply: &Result<Replied, Refused>,
+    number: u128,
+    refusal: &'static str,
+) -> Result<Vec<u8>, AllocError>
+    ensures { IfOk result (λ text. IsRow number refusal.now (IsCauseOfLine config.now events.now reply.now line.now) text.items) }
+{
+    match cause_of_line(alloc, room, config, events, line, reply) {
+        Ok(cause) => row(alloc, number, refusal, &cause),
+        Err(AllocError) => Err(AllocError),
+    }
+}
+
 impl<'c> Explainer<'c> {
-    ghost use Rattle.std.specs.Prelude.{◌≡◌, [], false, true, IfOk, OnOk};
+    ghost use Rattle.std.specs.Prelude.{[], false, true, OnOk};
     ghost use Rattle.request_lines.specs.Script.{after, reply_in};
     ghost use Rattle.plain_house.specs.Replies.{is_no_memory};
-    ghost use Rattle.house_reports.specs.explain_lines.Table.{IsRow};
 
     /// Returns a new house of this configuration.
     pub(crate) fn new(alloc: Global, config: &'c Config) -> Result<Explainer<'c>, AllocError>
@@ -79,19 +98,19 @@ impl<'c> Explainer<'c> {
         ensures rest { (self.new.config.now ≡ self.old.config.now) × (self.new.house ≡ self.old.house)
             × (self.new.events ≡ self.old.events) × (self.new.lines ≡ self.old.lines) }
         ensures any { self.new.is_any_turned_down ≡ true }
-        ensures row { IfOk result (λ text. IsRow self.old.lines refusal.now text.items) }
+        ensures row { IfOk result (λ text. IsRow self.old.lines refusal.now (IsCauseOfLine self.old.config.now self.old.events reply.now line.now) text.items) }
     {
         self.is_any_turned_down = true;
-        let told = of_line(
+        row_of_line(
             alloc,
             &mut self.room,
             self.config,
             &self.events,
             line,
             reply,
-        )?;
-        let _found = told.found;
-        row(alloc, self.lines, refusal, &told)
+            self.lines,
+            refusal,
+        )
     }
 }
 

@@ -1,11 +1,11 @@
 //! The records of the table of refused lines.
 
 ghost use Rattle.std.specs.Prelude.{◌≡◌, IfOk, map};
-ghost use Rattle.house_reports.specs.explain_lines.Table.{IsRow, header, record_text};
+ghost use Rattle.house_reports.specs.explain_lines.Table.{header, record_text, row_of};
 
-use crate::explain_lines::telling::Told;
 use csv::WriterBuilder;
 use itoa::Buffer;
+use line_causes::{LineCause, columns};
 use std::alloc::{AllocError, Global};
 
 // Returns the text of one record.
@@ -34,35 +34,25 @@ pub fn header(alloc: Global) -> Result<Vec<u8>, AllocError>
     record(alloc, &fields)
 }
 
-fn event_text(alloc: Global, event: Option<usize>) -> Result<String, AllocError> {
-    match event {
-        Some(event) => event.to_string(alloc),
-        None => Ok(String::new(alloc)),
-    }
-}
-
-/// Returns the row of the line of this number, from 1, and of this refusal, by RFC 4180, but ended by a newline alone.
+/// Returns the row of the line of this number, from 1, of this refusal and this cause, by RFC 4180, but ended by a newline alone.
 pub fn row(
     alloc: Global,
     number: u128,
     refusal: &'static str,
-    told: &Told,
+    cause: &LineCause,
 ) -> Result<Vec<u8>, AllocError>
-    ensures { IfOk result (λ text. IsRow number refusal.now text.items) }
+    ensures { IfOk result (λ text. text.items ≡ row_of number refusal.now cause.now) }
 {
     let mut digits = Buffer::new();
-    let path = told.path.to_string(alloc)?;
-    let found = told.found.to_string(alloc)?;
-    let against = told.against.to_string(alloc)?;
-    let event = event_text(alloc, told.event)?;
+    let texts = columns(alloc, cause)?;
     let fields = [
         digits.format(number).as_bytes(),
         refusal.as_bytes(),
-        path.as_bytes(),
-        told.cause.words().as_bytes(),
-        found.as_bytes(),
-        against.as_bytes(),
-        event.as_bytes(),
+        texts.place.as_bytes(),
+        texts.cause.as_bytes(),
+        texts.found.as_bytes(),
+        texts.against.as_bytes(),
+        texts.event.as_bytes(),
     ];
     record(alloc, &fields)
 }

@@ -2,8 +2,6 @@
 
 mod added;
 mod explainer;
-mod explaining;
-mod refused;
 mod table;
 
 pub use table::explain_stream;

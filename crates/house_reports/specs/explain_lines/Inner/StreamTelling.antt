@@ -15,6 +15,7 @@ pub record StreamStanding : Type 0 where
 
 -- no line was answered
 pub record IsStart (standing : StreamStanding) : Type 0 where
+  pub all_kept : standing.kept ≡ standing.state.house.events
   pub no_line : standing.lines ≡ 0
   pub no_refusal : standing.any ≡ false
 
@@ -23,18 +24,18 @@ pub record HasRows (before after : StreamStanding) (lines : List (List ℕ)) (te
   pub rows : AreRows before.state before.lines lines text any after.state
   pub any_is : after.any ≡ (before.any || any)
 
--- the lines were answered on the way from one standing to another, and this text is their rows if their count fits; all events are
--- kept if they were
+-- the lines were answered on the way from one standing to another; if all events were kept, all are, and this text is the rows of the
+-- lines if their count fits
 pub record Explains (before after : StreamStanding) (lines : List (List ℕ)) (text : List ℕ) : Type 0 where
   pub kept_are : before.kept ≡ before.state.house.events → after.kept ≡ after.state.house.events
   pub lines_are : before.lines + length lines < 2 ^ 128 → after.lines ≡ before.lines + length lines
-  pub told : before.lines + length lines < 2 ^ 128 → HasRows before after lines text
+  pub told : before.kept ≡ before.state.house.events → before.lines + length lines < 2 ^ 128 → HasRows before after lines text
 
 pub explains_none : (standing : StreamStanding) → Explains standing standing [] []
 explains_none standing = record {
   kept_are = λ all. all;
   lines_are = λ fits. sym (add-zero standing.lines);
-  told = λ fits. record { any = false; rows = (refl, refl, refl); any_is = or_false standing.any };
+  told = λ all fits. record { any = false; rows = (refl, refl, refl); any_is = or_false standing.any };
 }
 
 rows_more : (a b c : StreamState) (number reached : ℕ) (xs ys : List (List ℕ)) (t u : List ℕ) (p q : Bool) → reached ≡ number + length xs
@@ -67,9 +68,9 @@ explains_more a b c xs ys t u p q =
     record {
       kept_are = λ all. q.kept_are (p.kept_are all);
       lines_are = λ fits. q.lines_are (second fits) ∙ ap (λ (l : ℕ). l + length ys) (middle fits) ∙ sym joined;
-      told = λ fits.
-          let here = p.told (first fits) in
-          let there = q.told (second fits) in
+      told = λ all fits.
+          let here = p.told all (first fits) in
+          let there = q.told (p.kept_are all) (second fits) in
           record {
             any = here.any || there.any;
             rows = rows_more a.state b.state c.state a.lines b.lines xs ys t u here.any there.any (middle fits) here.rows there.rows;

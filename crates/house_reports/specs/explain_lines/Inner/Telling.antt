@@ -5,7 +5,7 @@ use Rattle.ocpi_types.specs.declared.config.Config.{Config}
 use Rattle.plain_house.specs.declared.event.Event.{Event}
 use Rattle.request_lines.specs.Script.{after, list_after, reply_in}
 use Rattle.house_reports.specs.explain_lines.Rows.{AreTold, is_any_turned_down}
-use Rattle.house_reports.specs.explain_lines.TurnedDown.{turned_down}
+use Rattle.line_causes.specs.RefusalNames.{turned_down}
 
 -- the events of a house, the events that are kept of it, the number of answered lines, and whether one of them was refused
 pub record Standing : Type 0 where
@@ -18,18 +18,19 @@ pub record Standing : Type 0 where
 -- no line was answered
 pub record IsNew (standing : Standing) : Type 0 where
   pub no_event : standing.events ≡ []
+  pub none_kept : standing.kept ≡ []
   pub no_line : standing.lines ≡ 0
   pub no_refusal : standing.any ≡ false
 
--- the lines were answered on the way from one standing to another, and this text is their rows if their count fits; all events are
--- kept if they were
+-- the lines were answered on the way from one standing to another; if all events were kept, all are, and this text is the rows of the
+-- lines if their count fits
 pub record Tells (before behind : Standing) (lines : List (List ℕ)) (text : List ℕ) : Type 0 where
   pub same : behind.config ≡ before.config
   pub events_are : behind.events ≡ list_after before.config before.events lines
   pub kept_are : before.kept ≡ before.events → behind.kept ≡ behind.events
   pub any_is : behind.any ≡ (before.any || is_any_turned_down before.config before.events lines)
   pub lines_are : before.lines + length lines < 2 ^ 128 → behind.lines ≡ before.lines + length lines
-  pub told : before.lines + length lines < 2 ^ 128 → AreTold before.config before.events before.lines lines text
+  pub told : before.kept ≡ before.events → before.lines + length lines < 2 ^ 128 → AreTold before.config before.events before.lines lines text
 
 pub or_false : (b : Bool) → b ≡ (b || false)
 or_false true = refl
@@ -46,7 +47,7 @@ tells_none standing = record {
   kept_are = λ all. all;
   any_is = or_false standing.any;
   lines_are = λ fits. sym (add-zero standing.lines);
-  told = λ fits. refl;
+  told = λ all fits. refl;
 }
 
 list_after_more : (config : Config) (events : List Event) (xs ys : List (List ℕ)) → list_after config events (xs ++ ys) ≡ list_after config (list_after config events xs) ys
@@ -100,6 +101,6 @@ tells_more a b c xs ys t u p q =
           ∙ ap (λ (z : Bool). a.any || (is_any_turned_down a.config a.events xs || z)) any_between
           ∙ ap (λ (z : Bool). a.any || z) (sym (any_more a.config a.events xs ys));
       lines_are = λ fits. q.lines_are (second fits) ∙ ap (λ (l : ℕ). l + length ys) (middle fits) ∙ sym joined;
-      told = λ fits. told_more a.config a.events a.lines b.lines xs ys t u (middle fits) (p.told (first fits))
-          (subst (λ (z : List Event). AreTold a.config z b.lines ys u) p.events_are (subst (λ (z : Config). AreTold z b.events b.lines ys u) p.same (q.told (second fits))));
+      told = λ all fits. told_more a.config a.events a.lines b.lines xs ys t u (middle fits) (p.told all (first fits))
+          (subst (λ (z : List Event). AreTold a.config z b.lines ys u) p.events_are (subst (λ (z : Config). AreTold z b.events b.lines ys u) p.same (q.told (p.kept_are all) (second fits))));
     }

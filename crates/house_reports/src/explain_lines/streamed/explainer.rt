@@ -1,12 +1,16 @@
 //! A stream whose refused lines are explained.
 
-ghost use Rattle.std.specs.Prelude.{◌≡◌};
+ghost use Rattle.std.specs.Prelude.{◌≡◌, IfOk};
+ghost use Rattle.line_causes.specs.StreamCauses.{IsCauseOfStreamLine};
+ghost use Rattle.line_streams.specs.Given.{done_by};
+ghost use Rattle.line_streams.specs.State.{state_of};
+ghost use Rattle.house_reports.specs.explain_lines.Table.{IsRow};
 
 use crate::explain_lines::row::row;
 use crate::explain_lines::streamed::added::keep_done;
-use crate::explain_lines::streamed::explaining::of_line;
-use crate::explain_lines::streamed::refused::refused;
 use known_events::KnownEvents;
+use line_causes::laws::replies_name_refusals;
+use line_causes::{cause_of_stream_line, refused};
 use line_streams::{LineReply, Stream};
 use ocpi_types::Config;
 use plain_house::replies_tell_events;
@@ -27,12 +31,32 @@ pub(crate) struct StreamExplainer {
     pub is_any_refused: bool,
 }
 
+// Returns the row of the line of this number, which the stream refused by this reply after these events.
+fn row_of_line(
+    alloc: Global,
+    room: &mut LineRoom,
+    stream: &Stream,
+    events: &KnownEvents,
+    line: &[u8],
+    reply: &LineReply,
+    number: u128,
+    refusal: &'static str,
+) -> Result<Vec<u8>, AllocError>
+    ensures { IfOk result (λ text. IsRow number refusal.now
+        (IsCauseOfStreamLine (state_of stream.now).house.config events.now (done_by stream.now reply.now) line.now) text.items) }
+{
+    let done = stream.done(reply);
+    match cause_of_stream_line(alloc, room, stream.config(), events, line, done) {
+        Ok(cause) => row(alloc, number, refusal, &cause),
+        Err(AllocError) => Err(AllocError),
+    }
+}
+
 impl StreamExplainer {
-    ghost use Rattle.std.specs.Prelude.{◌≡◌, ℕ, List, [], false, true, IfOk};
-    ghost use Rattle.line_streams.specs.Given.{IsGiven, done_by};
-    ghost use Rattle.line_streams.specs.State.{empty_under, state_of};
+    ghost use Rattle.std.specs.Prelude.{ℕ, List, [], false, true};
+    ghost use Rattle.line_streams.specs.Given.{IsGiven};
+    ghost use Rattle.line_streams.specs.State.{empty_under};
     ghost use Rattle.line_streams.specs.Stream.{IsAnswered};
-    ghost use Rattle.house_reports.specs.explain_lines.Table.{IsRow};
 
     /// Returns a stream that begins under this configuration.
     pub(crate) fn new(alloc: Global, config: Config) -> Result<StreamExplainer, AllocError>
@@ -73,19 +97,20 @@ impl StreamExplainer {
         ensures rest { (state_of self.new.stream ≡ state_of self.old.stream) × (self.new.events ≡ self.old.events)
             × (self.new.lines ≡ self.old.lines) }
         ensures any { self.new.is_any_refused ≡ true }
-        ensures row { IfOk result (λ text. IsRow self.old.lines refusal.now text.items) }
+        ensures row { IfOk result (λ text. IsRow self.old.lines refusal.now
+            (IsCauseOfStreamLine (state_of self.old.stream).house.config self.old.events (done_by self.old.stream reply.now) line.now) text.items) }
     {
         self.is_any_refused = true;
-        let told = of_line(
+        row_of_line(
             alloc,
             &mut self.room,
-            self.stream.config(),
+            &self.stream,
             &self.events,
             line,
-            self.stream.done(reply),
-        )?;
-        let _found = told.found;
-        row(alloc, self.lines, refusal, &told)
+            reply,
+            self.lines,
+            refusal,
+        )
     }
 }
 
@@ -104,6 +129,7 @@ impl Answerer for StreamExplainer {
     ghost answers_more = { λ a b c ls ms t u h k. explains_more (stream_standing a) (stream_standing b) (stream_standing c) ls ms t u h k };
 
     fn answer(&mut self, alloc: Global, line: &[u8]) -> Result<Vec<u8>, AllocError> {
+        replies_name_refusals();
         self.lines = self.lines.saturating_add(1);
         let reply = self.reply(alloc, line)?;
         match refused(&self.stream, &reply) {

@@ -1,0 +1,166 @@
+-- Why a token, a tariff of a CDR or a hold is not known.
+use Rattle.std.proofs.Common.{◌≡◌, ◌∙◌, ℕ, suc, zero, List, [], ◌∷◌, ◌++◌, Bool, true, false, not, ◌&&◌, ◌||◌, if◌then◌else◌, cond, Option, Some, None, refl, sym, ap, ap₂, find, is_some, slice_get}
+use Rattle.std.specs.List.{list_any, position}
+use Rattle.std.specs.Option.{option_or}
+use Rattle.std.proofs.lemmas.Bool.{and_from}
+use Rattle.std.proofs.lemmas.Cmp.{nat_list_eq_equiv}
+use Rattle.std.proofs.lemmas.List.Folds.{find-append}
+use Rattle.ocpi_json.specs.Folded.{folded, same_folded}
+use Rattle.ocpi_types.specs.Party.{same_party}
+use Rattle.ocpi_types.specs.declared.cdr.Cdr.{Cdr}
+use Rattle.ocpi_types.specs.declared.party.Party.{Party}
+use Rattle.ocpi_types.specs.declared.tariff.Tariff.{Tariff}
+use Rattle.cdr_checks.specs.declared.request.Authorize.{Authorize}
+use Rattle.cdr_checks.specs.declared.request.Release.{Release}
+use Rattle.plain_house.specs.Entries.{account_entries, book_entries}
+use Rattle.plain_house.specs.Exposure.{ends_hold, released_hold}
+use Rattle.plain_house.specs.Happened.{ends, gives, puts, registers}
+use Rattle.plain_house.specs.Inner.Scanned.{event_open_hold, event_open_holds}
+use Rattle.plain_house.specs.Tariffs.{lacks_registered}
+use Rattle.plain_house.specs.declared.entry.AccountEntry.TheVariants as account
+use Rattle.plain_house.specs.declared.event.Event.{Event}
+use Rattle.plain_house.specs.declared.event.Event.TheVariants as event
+use Rattle.plain_house.specs.declared.event.Hold.{Hold}
+use Rattle.plain_house.proofs.EntriesLemmas.{open_in_events, registered_in_events}
+use Rattle.operator_book.proofs.KeyLemmas.{both_are, or_false}
+use Rattle.house_causes.specs.First.{◌>>=◌, Numbered, first_that}
+use Rattle.house_causes.specs.Holds.{by_event, ended, hold_of, unknown_hold, why_ended, why_no_hold, why_not_open}
+use Rattle.house_causes.specs.Tokens.{token_of, unknown_token, why_unknown}
+use Rattle.house_causes.specs.Versions.{not_registered}
+use Rattle.house_causes.specs.declared.house_cause.HouseReason.TheVariants as reason
+use Rattle.house_causes.proofs.FirstLemmas.{found_then, has_first, has_place, is_found, is_there, passes_at, slice_get-suc}
+
+-- ---- tokens
+
+puts_a_token : (ask : Authorize) (e : Event) → puts ask e ≡ true → is_some (token_of e) ≡ true
+puts_a_token ask (event.Tariff tariff) h = absurd (cc)
+puts_a_token ask (event.Token token) h = refl
+puts_a_token ask (event.Authorised hold) h = absurd (cc)
+puts_a_token ask (event.Released release) h = absurd (cc)
+puts_a_token ask (event.Cdr cdr cost) h = absurd (cc)
+puts_a_token ask (event.Credit cdr amount) h = absurd (cc)
+puts_a_token ask (event.Settled settlement) h = absurd (cc)
+puts_a_token ask (event.Closed period) h = absurd (cc)
+
+pub token_unknown : (events : List Event) (ask : Authorize) → is_some (unknown_token events ask) ≡ true
+unfolding unknown_token
+token_unknown events ask = by (first_that (puts ask) events) refl
+  where
+    by : (found : Option Numbered) → first_that (puts ask) events ≡ found → is_some (why_unknown ask found) ≡ true
+    by None is = refl
+    by (Some put) is = found_then (token_of put.event) _ (puts_a_token ask put.event (is_found (puts ask) events put is).passes) (λ token which. refl)
+
+-- ---- tariffs of a CDR
+
+pub tariff_unregistered : (events : List Event) (cdr : Cdr) → lacks_registered cdr (book_entries events) ≡ true → is_some (not_registered events cdr) ≡ true
+unfolding not_registered
+tariff_unregistered events cdr h =
+    let test : Tariff → Bool = λ tariff. not (list_any (registers cdr.operator tariff) events) in
+    let same : lacks_registered cdr (book_entries events) ≡ list_any test cdr.tariffs = λ i. list_any (λ tariff. not (registered_in_events cdr.operator events tariff i)) cdr.tariffs in
+    found_then (position test cdr.tariffs) _ (has_place test cdr.tariffs (sym same ∙ h)) (λ number is.
+    let it = passes_at test cdr.tariffs number is in
+    found_then (slice_get cdr.tariffs number) _ (is_there (slice_get cdr.tariffs number) it.item it.stands) (λ tariff which. refl))
+
+-- ---- holds
+
+neither : (a b : Bool) → (a || b) ≡ false → b ≡ false
+neither true b h = absurd (cc)
+neither false b h = h
+
+either : {A : Type 0} (one other : Option A) → is_some other ≡ true → is_some (option_or one other) ≡ true
+either None other h = h
+either (Some x) other h = refl
+
+-- a hold that no event ends is open
+left_open : (test : Hold → Bool) (hold : Hold) (events : List Event) (at : ℕ) → slice_get events at ≡ Some (event.Authorised hold)
+    → list_any (ends hold) events ≡ false → test hold ≡ true → is_some (find test (event_open_holds events)) ≡ true
+left_open test hold [] at stands none good = absurd (cc)
+left_open test hold (e ∷ later) zero stands none good =
+    let is : e ≡ event.Authorised hold = cc in
+    ap (λ (it : Event). is_some (find test (event_open_hold it later ++ event_open_holds later))) is
+    ∙ ap (λ (b : Bool). is_some (find test ((if b then [] else hold ∷ []) ++ event_open_holds later))) (neither (ends hold e) (list_any (ends hold) later) none)
+    ∙ ap (λ b. is_some (cond b (Some hold) (find test (event_open_holds later)))) good
+left_open test hold (e ∷ later) (suc at) stands none good =
+    ap is_some (find-append test (event_open_hold e later) (event_open_holds later))
+    ∙ either (find test (event_open_hold e later)) (find test (event_open_holds later))
+    (left_open test hold later at (sym (slice_get-suc e later at) ∙ stands) (neither (ends hold e) (list_any (ends hold) later) none) good)
+
+ends_a_hold : (reference : List ℕ) (hold : Hold) (e : Event) → ends hold e ≡ true → is_some (why_ended reference e) ≡ true
+ends_a_hold reference hold (event.Tariff tariff) h = absurd (cc)
+ends_a_hold reference hold (event.Token token) h = absurd (cc)
+ends_a_hold reference hold (event.Authorised another) h = absurd (cc)
+ends_a_hold reference hold (event.Released release) h = refl
+ends_a_hold reference hold (event.Cdr cdr cost) h = refl
+ends_a_hold reference hold (event.Credit cdr amount) h = absurd (cc)
+ends_a_hold reference hold (event.Settled settlement) h = absurd (cc)
+ends_a_hold reference hold (event.Closed period) h = absurd (cc)
+
+-- the event gives the hold, of the release's provider and reference
+record Given (release : Release) (e : Event) : Type 0 where
+  hold : Hold
+  is : e ≡ event.Authorised hold
+  provider : same_party hold.provider release.provider ≡ true
+  reference : same_folded hold.reference release.reference ≡ true
+
+given : (release : Release) (e : Event) → gives release e ≡ true → Given release e
+given release (event.Tariff tariff) h = absurd (cc)
+given release (event.Token token) h = absurd (cc)
+given release (event.Authorised hold) h =
+    let keys = both_are (same_party hold.provider release.provider) (same_folded hold.reference release.reference)
+    (sym (or_false (same_party hold.provider release.provider && same_folded hold.reference release.reference)) ∙ h) in
+    record { hold = hold; is = refl; provider = keys.0; reference = keys.1 }
+given release (event.Released other) h = absurd (cc)
+given release (event.Cdr cdr cost) h = absurd (cc)
+given release (event.Credit cdr amount) h = absurd (cc)
+given release (event.Settled settlement) h = absurd (cc)
+given release (event.Closed period) h = absurd (cc)
+
+party_turned : (a b : Party) → same_party a b ≡ true → same_party b a ≡ true
+party_turned a b h =
+    ap₂ (λ (x y : Bool). x && y) (nat_list_eq_equiv.symm (folded b.country_code) (folded a.country_code)) (nat_list_eq_equiv.symm (folded b.party_id) (folded a.party_id)) ∙ h
+
+folded_turned : (a b : List ℕ) → same_folded a b ≡ true → same_folded b a ≡ true
+folded_turned a b h = nat_list_eq_equiv.symm (folded b) (folded a) ∙ h
+
+module _ (events : List Event) (release : Release) (unknown : released_hold (account_entries events) release ≡ None) where
+  module _ (at : ℕ) (hold : Hold) (stands : slice_get events at ≡ Some (event.Authorised hold))
+      (provider : same_party hold.provider release.provider ≡ true) (reference : same_folded hold.reference release.reference ≡ true) where
+    ends_it : same_party hold.operator release.operator ≡ true → ends_hold hold (account.Release release) ≡ true
+    ends_it operator =
+        and_from (same_party release.operator hold.operator && same_party release.provider hold.provider) (same_folded release.reference hold.reference)
+        (and_from (same_party release.operator hold.operator) (same_party release.provider hold.provider) (party_turned hold.operator release.operator operator) (party_turned hold.provider release.provider provider))
+        (folded_turned hold.reference release.reference reference)
+
+    is_ended : same_party hold.operator release.operator ≡ true → list_any (ends hold) events ≡ true
+    is_ended operator = by (list_any (ends hold) events) refl
+      where
+        by : (b : Bool) → list_any (ends hold) events ≡ b → b ≡ true
+        by true is = refl
+        by false is =
+            let is_open : is_some (find (λ held. ends_hold held (account.Release release)) (event_open_holds events)) ≡ true =
+            left_open (λ held. ends_hold held (account.Release release)) hold events at stands is (ends_it operator) in
+            let none : find (λ held. ends_hold held (account.Release release)) (event_open_holds events) ≡ None =
+            ap (find (λ held. ends_hold held (account.Release release))) (sym (open_in_events 0 events)) ∙ unknown in
+            sym (ap is_some none) ∙ is_open
+
+    why_given : is_some (why_not_open events release at hold) ≡ true
+    why_given = by (same_party hold.operator release.operator) refl
+      where
+        by : (same : Bool) → same_party hold.operator release.operator ≡ same
+            → is_some (if same then ended events release hold else Some (by_event (reason.GivenToAnother release.reference hold.operator) at)) ≡ true
+        by true is =
+            found_then (first_that (ends hold) events) _ (has_first (ends hold) events (is_ended is))
+            (λ it which. found_then (why_ended release.reference it.event) _ (ends_a_hold release.reference hold it.event (is_found (ends hold) events it which).passes) (λ why what. refl))
+        by false is = refl
+
+  pub hold_unknown : is_some (unknown_hold events release) ≡ true
+  unfolding unknown_hold
+  hold_unknown = by (first_that (gives release) events) refl
+    where
+      by : (found : Option Numbered) → first_that (gives release) events ≡ found → is_some (why_no_hold events release found) ≡ true
+      by None is = refl
+      by (Some first) is =
+          let there = is_found (gives release) events first is in
+          let it = given release first.event there.passes in
+          ap (λ (e : Event). is_some (hold_of e >>= λ hold. why_not_open events release first.at hold)) it.is
+          ∙ why_given first.at it.hold (there.stands ∙ ap (λ (e : Event). Some e) it.is) it.provider it.reference

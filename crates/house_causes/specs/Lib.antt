@@ -1,0 +1,12 @@
+pub mod Bookings
+pub mod Causes
+pub mod Credits
+pub mod First
+pub mod Holds
+pub mod HouseCause
+pub mod Laws
+pub mod Periods
+pub mod RequestCause
+pub mod Stores
+pub mod Tokens
+pub mod Versions

@@ -1,0 +1,25 @@
+//! Laws of causes.
+
+ghost use Rattle.house_causes.specs.Laws.{CausesSayTheirRefusals, EachRefusalHasACause, TheirAnswersHaveCauses};
+
+use cdr_checks::posts_are_checked;
+use ocpi_types::laws::{cdrs_without_difference_are_same, tariffs_without_difference_are_same};
+
+/// States that the cause of a refusal says that refusal.
+pub fn causes_say_their_refusals()
+    ensures { CausesSayTheirRefusals }
+{}
+
+/// States that each refusal of a command that is admitted has a cause.
+pub fn each_refusal_has_a_cause()
+    ensures { EachRefusalHasACause }
+{
+    posts_are_checked();
+    cdrs_without_difference_are_same();
+    tariffs_without_difference_are_same();
+}
+
+/// States that the answers BLOCKED and NO_CREDIT have causes.
+pub fn turned_down_answers_have_causes()
+    ensures { TheirAnswersHaveCauses }
+{}

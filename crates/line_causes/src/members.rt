@@ -1,0 +1,38 @@
+//! Why a member of a line is not read.
+
+ghost use Rattle.std.specs.Prelude.{IfOk};
+ghost use Rattle.line_causes.specs.Members.{IsMember};
+
+use crate::line_cause::LineCause;
+use command_line::text_of_found;
+use ocpi_json::ci_text::CiText;
+use ocpi_json::{MemberFault, Node, standing_at};
+use std::alloc::{AllocError, Global};
+
+// The text of a value, as `text_of_found` writes it.
+fn text_of(alloc: Global, value: &Node) -> Result<CiText<64>, AllocError> {
+    match CiText::new(text_of_found(alloc, Some(value))?.as_str()) {
+        Some(text) => Ok(text),
+        None => Ok(CiText::new("").unwrap()),
+    }
+}
+
+/// Why the member at fault is not read, of this line or of one of a stream.
+pub fn cause_of_member(
+    alloc: Global,
+    line: Node,
+    fault: &MemberFault,
+    of_stream: bool,
+) -> Result<LineCause, AllocError>
+    ensures { IfOk result (λ cause. IsMember of_stream line.entry fault.now cause) }
+{
+    let found = match standing_at(line, fault) {
+        Some(value) => Some(text_of(alloc, &value)?),
+        None => None,
+    };
+    Ok(LineCause::Member {
+        fault: *fault,
+        found,
+        of_stream,
+    })
+}

@@ -1,0 +1,53 @@
+//! The column at which a line stops being text or JSON.
+
+ghost use Rattle.std.specs.Prelude.{◌≡◌, ◌≤◌, length, IfOk};
+ghost use Rattle.std.specs.Str.{is_utf8};
+ghost use Rattle.line_causes.specs.NotJson.{IsNotJson, begins_character, column_after};
+
+use crate::line_cause::LineCause;
+use json::{Reader, Scratch};
+use std::alloc::{AllocError, Global};
+use std::str;
+
+/// The greatest depth of nested arrays and objects.
+const MAX_DEPTH: usize = 127;
+
+fn begins_character(byte: &u8) -> bool
+    ensures { result ≡ begins_character byte.now }
+{
+    *byte < 0x80 || 0xc0 <= *byte
+}
+
+// The column, from 1, after so many bytes of a line.
+fn column_after(line: &[u8], count: usize) -> usize
+    requires { count ≤ length line.now }
+    ensures { result ≡ column_after line.now count }
+{
+    let before = &line[..count];
+    before.iter().filter(|byte| begins_character(byte)).count() + 1
+}
+
+// The number of bytes that are read when the reader stops: at text that is no JSON, or after a mark that cannot be there.
+fn read_bytes(alloc: Global, text: &str) -> Result<usize, AllocError> {
+    let mut scratch = Scratch::new(alloc);
+    let mut reader = Reader::new(text, &mut scratch)?;
+    let _ = reader.skip_value(MAX_DEPTH);
+    Ok(reader.offset())
+}
+
+/// Where a line stops being text or JSON, in a line that is no JSON.
+pub fn cause_of_text(alloc: Global, line: &[u8]) -> Result<LineCause, AllocError>
+    ensures { IfOk result (λ cause. IsNotJson (is_utf8 line.now) line.now cause) }
+{
+    match str::from_utf8(line) {
+        Ok(text) => {
+            let read = read_bytes(alloc, text)?;
+            let column = column_after(line, read.min(line.len()));
+            Ok(LineCause::NotJson { column })
+        }
+        Err(error) => {
+            let column = column_after(line, error.valid_up_to());
+            Ok(LineCause::NotUtf8 { column })
+        }
+    }
+}
