@@ -35,9 +35,10 @@ enum clear_code {
     CLEAR_MEMBER = 6,        /* clear_open: a member is at fault; `check_config` says which */
     CLEAR_NO_LINE = 7,       /* clear_answer: longer than 1,048,576 bytes, or with a newline in it */
     CLEAR_KEPT = 8,          /* clear_answer: an answer is kept, which clear_again gives first */
-    CLEAR_TOO_SMALL = 9,     /* the line is answered; its answer is longer than the buffer, and kept */
+    CLEAR_TOO_SMALL = 9,     /* the line is answered; its answer is longer than the buffer, and kept. clear_cause: the cause is longer */
     CLEAR_NOT_WRITTEN = 10,  /* the line is answered; memory for the answer's text was refused, and the answer is kept */
-    CLEAR_NOTHING_KEPT = 11  /* clear_again: no answer is kept */
+    CLEAR_NOTHING_KEPT = 11, /* clear_again: no answer is kept */
+    CLEAR_NOT_REFUSED = 12   /* clear_cause: the last line was not refused, or no line was answered */
 };
 
 /* The functions of the library, for other languages too. No pointer may be NULL, also where its length is 0; what is read
@@ -46,6 +47,7 @@ uint32_t clear_embedded_open(struct clear_house *house, const unsigned char *con
 uint32_t clear_embedded_answer(struct clear_house *house, const unsigned char *line, size_t line_length,
                                unsigned char *buffer, size_t capacity, size_t *length);
 uint32_t clear_embedded_again(struct clear_house *house, unsigned char *buffer, size_t capacity, size_t *length);
+uint32_t clear_embedded_cause(struct clear_house *house, unsigned char *buffer, size_t capacity, size_t *length);
 void clear_embedded_close(struct clear_house *house);
 
 /* Opens an empty house under the configuration that these bytes are. The bytes are not used after the call. A line `configure` may
@@ -79,6 +81,19 @@ static inline enum clear_code clear_again(struct clear_house *house, unsigned ch
     if (house == NULL || length == NULL || (buffer == NULL && capacity > 0))
         return CLEAR_NULL;
     return (enum clear_code)clear_embedded_again(house, buffer == NULL ? &none : buffer, capacity, length);
+}
+
+/* Says why the last line that was answered was refused, or answered BLOCKED or NO_CREDIT: a JSON object (docs/FORMATS.md, section 7)
+   at the buffer's beginning, without a newline. The house stays as it is, and the call may be made again. It looks through all events
+   of the house. *length is the length of the object at CLEAR_DONE and at CLEAR_TOO_SMALL, as it was at CLEAR_NULL, and else 0; no cause
+   is longer than 1,024 bytes. A buffer of capacity 0 may be NULL. */
+static inline enum clear_code clear_cause(struct clear_house *house, unsigned char *buffer, size_t capacity, size_t *length)
+{
+    unsigned char none;
+
+    if (house == NULL || length == NULL || (buffer == NULL && capacity > 0))
+        return CLEAR_NULL;
+    return (enum clear_code)clear_embedded_cause(house, buffer == NULL ? &none : buffer, capacity, length);
 }
 
 /* Ends the house, if there is one, with all that it has and keeps, and frees its memory. The struct may be opened again. */

@@ -48,6 +48,15 @@ static const char id_used[] = "{\"status_code\":2000,\"refusal\":\"RequestIdUsed
 static const char allowed[] = "{\"status_code\":1000,\"answer\":\"ALLOWED\",\"at\":1,\"authorization_reference\":\"NLMSA-1\"}\n";
 static const char no_credit[] = "{\"status_code\":1000,\"answer\":\"NO_CREDIT\",\"at\":2}\n";
 static const char no_json[] = "{\"status_code\":2001,\"refusal\":\"Syntax\",\"number\":1}\n";
+static const char unknown_token[] =
+    "{\"platform\":\"cpo\",\"do\":\"authorize\",\"operator\":\"NL/CPA\",\"provider\":\"NL/MSA\",\"uid\":\"U\\\"\",\"currency\":\"EUR\"}";
+static const char token_not_put[] = "{\"place\":\"uid\",\"cause\":\"token that is not put\",\"found\":\"U\\\"\"}";
+static const char cause_no_json[] = "{\"place\":\"column 1\",\"cause\":\"no JSON\"}";
+static const char cause_otherwise[] =
+    "{\"place\":\"configuration\",\"cause\":\"an event would come out otherwise\",\"found\":\"Token\",\"event\":0}";
+static const char cause_id_used[] = "{\"place\":\"request_id\",\"cause\":\"given to another line\",\"found\":\"c\"}";
+static const char cause_no_credit[] =
+    "{\"place\":\"provider\",\"cause\":\"above the provider's limit\",\"found\":\"40.0000\",\"against\":\"30.0000\"}";
 static int failed;
 
 static void is(int holds, const char *what)
@@ -103,8 +112,40 @@ static void null_codes(struct clear_house *house)
     IS(clear_again(NULL, buffer, sizeof buffer, &length) == CLEAR_NULL);
     IS(clear_again(house, NULL, 1, &length) == CLEAR_NULL);
     IS(clear_again(house, buffer, sizeof buffer, NULL) == CLEAR_NULL);
+    IS(clear_cause(NULL, buffer, sizeof buffer, &length) == CLEAR_NULL);
+    IS(clear_cause(house, NULL, 1, &length) == CLEAR_NULL);
+    IS(clear_cause(house, buffer, sizeof buffer, NULL) == CLEAR_NULL);
     IS(length == 7);
     clear_close(NULL);
+}
+
+/* Whether the buffer has this text after a call. */
+static int has(const char *text, size_t length)
+{
+    return length == strlen(text) && memcmp(buffer, text, length) == 0;
+}
+
+/* Whether the last line was refused for this cause, which a buffer that is too small does not change. */
+static int is_refused_for(struct clear_house *house, const char *cause)
+{
+    size_t length = 7, size = strlen(cause);
+
+    memset(buffer, '.', size + 1);
+    if (clear_cause(house, NULL, 0, &length) != CLEAR_TOO_SMALL || length != size)
+        return 0;
+    if (clear_cause(house, buffer, size - 1, &length) != CLEAR_TOO_SMALL || length != size || buffer[0] != '.')
+        return 0;
+    if (clear_cause(house, buffer, size, &length) != CLEAR_DONE || !has(cause, length) || buffer[size] != '.')
+        return 0;
+    return clear_cause(house, buffer, sizeof buffer, &length) == CLEAR_DONE && has(cause, length);
+}
+
+/* Whether the last line was not refused, or no line was answered. */
+static int is_not_refused(struct clear_house *house)
+{
+    size_t length = 7;
+
+    return clear_cause(house, buffer, sizeof buffer, &length) == CLEAR_NOT_REFUSED && length == 0;
 }
 
 static void line_codes(struct clear_house *house)
@@ -112,12 +153,21 @@ static void line_codes(struct clear_house *house)
     size_t length = 7;
 
     memset(longest, 'x', sizeof longest);
+    IS(is_not_refused(house));
     IS(clear_answer(house, bytes_of("[\n]"), 3, buffer, sizeof buffer, &length) == CLEAR_NO_LINE && length == 0);
+    IS(is_not_refused(house));
     IS(clear_answer(house, longest, MOST_LINE + 1, buffer, sizeof buffer, &length) == CLEAR_NO_LINE && length == 0);
     IS(clear_answer(house, longest, MOST_LINE, buffer, sizeof buffer, &length) == CLEAR_DONE);
     IS(length == strlen(no_json) && memcmp(buffer, no_json, length) == 0);
     IS(clear_answer(house, bytes_of(""), 0, buffer, sizeof buffer, &length) == CLEAR_DONE);
     IS(length == strlen(no_json) && memcmp(buffer, no_json, length) == 0);
+    IS(is_refused_for(house, cause_no_json));
+    IS(clear_answer(house, bytes_of("[\n]"), 3, buffer, sizeof buffer, &length) == CLEAR_NO_LINE && length == 0);
+    IS(is_refused_for(house, cause_no_json));
+    IS(clear_answer(house, bytes_of(unknown_token), strlen(unknown_token), NULL, 0, &length) == CLEAR_TOO_SMALL);
+    IS(is_refused_for(house, token_not_put)); /* while the answer is kept */
+    IS(clear_again(house, buffer, sizeof buffer, &length) == CLEAR_DONE);
+    IS(is_refused_for(house, token_not_put));
 }
 
 static void kept_codes(struct clear_house *house)
@@ -144,14 +194,10 @@ static void closed_codes(struct clear_house *house)
     IS(clear_answer(house, bytes_of(exposure_line), strlen(exposure_line), buffer, sizeof buffer, &length) == CLEAR_CLOSED && length == 0);
     length = 7;
     IS(clear_again(house, buffer, sizeof buffer, &length) == CLEAR_CLOSED && length == 0);
+    length = 7;
+    IS(clear_cause(house, buffer, sizeof buffer, &length) == CLEAR_CLOSED && length == 0);
     clear_close(house);
     IS(!house->is_open);
-}
-
-/* Whether the buffer has this answer after a call. */
-static int has(const char *answer, size_t length)
-{
-    return length == strlen(answer) && memcmp(buffer, answer, length) == 0;
 }
 
 /* Whether a line gets this answer in one call. */
@@ -187,10 +233,14 @@ static void changes(struct clear_house *house)
     IS(gets_at_once(house, exposure_line, EXPOSURE("1", "0.0000", "200.0000")));
     IS(gets_at_once(house, without_provider, otherwise));
     IS(gets_later(house, without_provider, otherwise));
+    IS(is_refused_for(house, cause_otherwise));
     IS(gets_at_once(house, exposure_line, EXPOSURE("1", "0.0000", "200.0000")));
     IS(gets_at_once(house, raised, configured));
+    IS(is_not_refused(house));
     IS(gets_at_once(house, lowered, id_used));
+    IS(is_refused_for(house, cause_id_used));
     IS(gets_later(house, lowered, id_used));
+    IS(is_refused_for(house, cause_id_used));
     IS(gets_at_once(house, exposure_line, EXPOSURE("1", "0.0000", "200.0000")));
 }
 
@@ -205,6 +255,9 @@ static void retries(struct clear_house *house)
     IS(gets_later(house, lowered_later, configured_later));
     IS(gets_at_once(house, exposure_line, EXPOSURE("2", "20.0000", "30.0000")));
     IS(gets_at_once(house, AUTHORIZE("b"), no_credit));
+    IS(is_refused_for(house, cause_no_credit));
+    IS(gets_at_once(house, AUTHORIZE("b"), no_credit)); /* repeated, and not refused again */
+    IS(is_not_refused(house));
     IS(gets_at_once(house, AUTHORIZE("a"), allowed));
     IS(gets_later(house, raised, configured));
     IS(gets_later(house, stored_token, stored));
@@ -230,6 +283,7 @@ static int codes(struct clear_house *house, size_t size)
     retries(house);
     clear_close(house);
     IS(clear_open(house, config, size) == CLEAR_DONE); /* a house that is opened again remembers no line */
+    IS(is_not_refused(house));
     IS(gets_at_once(house, stored_token, stored));
     IS(gets_at_once(house, exposure_line, EXPOSURE("1", "0.0000", "100.0000")));
     clear_close(house);

@@ -1,32 +1,48 @@
 -- The state of an open house before a line and after it.
-use Rattle.std.specs.Prelude.{◌≡◌, ℕ, ◌<◌, ◌≤◌, List, ◌++◌, length, drop, Option, Some, None, IsSome}
-use Rattle.line_streams.specs.State.{empty_under}
+use Rattle.std.specs.Prelude.{◌≡◌, ℕ, ◌<◌, ◌≤◌, List, ◌++◌, length, drop, Option, Some, None, IsSome, is_some, if◌then◌else◌}
+use Rattle.line_causes.specs.JsonText.{json_text}
+use Rattle.line_causes.specs.Refused.{IsRefused}
+use Rattle.line_causes.specs.StreamCauses.{IsCauseOfStreamLine}
+use Rattle.line_causes.specs.declared.line_cause.LineCause.{LineCause}
+use Rattle.line_streams.specs.State.{StreamState, empty_under}
 use Rattle.line_streams.specs.Stream as stream
+use Rattle.line_streams.specs.declared.reply.StreamReply.{StreamReply}
 use Rattle.ocpi_types.specs.declared.config.Config.{Config}
 use Rattle.request_lines.specs.Lines.{IsShort, HasNoNewline}
-use Rattle.clear_embedded.specs.Standing.{Standing}
+use Rattle.clear_embedded.specs.Standing.{Refused, Standing}
 use Rattle.clear_embedded.specs.declared.code.Code.{Code}
-use Rattle.clear_embedded.specs.declared.code.Code.TheVariants.{Done, NoMemory, Closed, Open, NoJson, Member, NoLine, Kept, TooSmall, NotWritten, NothingKept}
+use Rattle.clear_embedded.specs.declared.code.Code.TheVariants.{Done, NoMemory, Closed, Open, NoJson, Member, NoLine, Kept, TooSmall, NotWritten, NothingKept, NotRefused}
 
 -- ---- the house
 
 -- an empty house under this configuration
 abbrev pub opened : Config → Standing
-opened config = record { stream = empty_under config; kept = None }
+opened config = record { stream = empty_under config; kept = None; refused = None }
 
 -- nothing is kept any more
 abbrev pub given : Standing → Standing
-given house = record { stream = house.stream; kept = None }
+given house = record { stream = house.stream; kept = None; refused = house.refused }
 
 -- at most 1,048,576 bytes, and none of them a newline
 abbrev pub IsLine : List ℕ → Type 0
 IsLine line = IsShort line × HasNoNewline line
+
+-- the line, if it is refused
+abbrev pub refused_with : List ℕ → Option StreamReply → Option (List ℕ) → Option Refused
+refused_with line done name = if is_some name then Some (record { line = line; done = done }) else None
+
+pub record IsRefusedLine (state : StreamState) (line : List ℕ) (refused : Option Refused) : Type 0 where
+  pub done : Option StreamReply
+  pub name : Option (List ℕ)
+  pub is : IsRefused state line done name
+  pub refused_is : refused ≡ refused_with line done name
 
 -- the stream answered the line with this text, and nothing was kept before
 pub record IsLineDone (house : Standing) (line text : List ℕ) (kept : Option (List ℕ)) (house' : Standing) : Type 0 where
   pub nothing_kept : house.kept ≡ None
   pub answered : stream.IsAnswered house.stream line text house'.stream
   pub kept_is : house'.kept ≡ kept
+  pub refused : IsRefusedLine house.stream line house'.refused
 
 -- ---- the caller's buffer
 
@@ -69,6 +85,7 @@ IsAnswered Open house line house' buffer = ⊥
 IsAnswered NoJson house line house' buffer = ⊥
 IsAnswered Member house line house' buffer = ⊥
 IsAnswered NothingKept house line house' buffer = ⊥
+IsAnswered NotRefused house line house' buffer = ⊥
 
 -- ---- the kept answer
 
@@ -85,3 +102,29 @@ IsGivenAgain Closed house house' buffer = ⊥
 IsGivenAgain Open house house' buffer = ⊥
 IsGivenAgain NoJson house house' buffer = ⊥
 IsGivenAgain Member house house' buffer = ⊥
+IsGivenAgain NotRefused house house' buffer = ⊥
+
+-- ---- the cause of a refusal
+
+-- the cause of the last line, as JSON
+pub record IsCauseText (house : Standing) (text : List ℕ) : Type 0 where
+  pub refused : Refused
+  pub refused_is : house.refused ≡ Some refused
+  pub cause : LineCause
+  pub cause_is : IsCauseOfStreamLine house.stream.house.config house.stream.house.events refused.done refused.line cause
+  pub text_is : text ≡ json_text cause
+
+-- at `Done` the cause of the last line, which was refused, is in the buffer; the house does not change
+abbrev pub IsCauseTold : Code → Standing → Buffer → Type 0
+IsCauseTold Done house buffer = (text : List ℕ) × IsCauseText house text × IsWritten text buffer
+IsCauseTold TooSmall house buffer = (text : List ℕ) × IsCauseText house text × IsTooLong text buffer
+IsCauseTold NoMemory house buffer = IsUnwritten buffer
+IsCauseTold NotRefused house buffer = (house.refused ≡ None) × IsUnwritten buffer
+IsCauseTold NotWritten house buffer = ⊥
+IsCauseTold NothingKept house buffer = ⊥
+IsCauseTold Kept house buffer = ⊥
+IsCauseTold NoLine house buffer = ⊥
+IsCauseTold Closed house buffer = ⊥
+IsCauseTold Open house buffer = ⊥
+IsCauseTold NoJson house buffer = ⊥
+IsCauseTold Member house buffer = ⊥

@@ -5,10 +5,10 @@ use Rattle.ocpi_types.specs.declared.config.Config.{Config}
 use Rattle.ocpi_types.specs.declared.config.reading.ConfigFault.TheVariants as fault
 use Rattle.ocpi_types.specs.declared.config.reading.ConfigFault.TheVariants.{Syntax}
 use Rattle.ocpi_types.specs.ConfigText.{config_of}
-use Rattle.clear_embedded.specs.Answering.{Buffer, IsAnswered, IsGivenAgain, IsUnwritten, opened}
+use Rattle.clear_embedded.specs.Answering.{Buffer, IsAnswered, IsCauseTold, IsGivenAgain, IsUnwritten, opened}
 use Rattle.clear_embedded.specs.Standing.{Standing}
 use Rattle.clear_embedded.specs.declared.code.Code.{Code}
-use Rattle.clear_embedded.specs.declared.code.Code.TheVariants.{Done, NoMemory, Closed, Open, NoJson, Member, NoLine, Kept, TooSmall, NotWritten, NothingKept}
+use Rattle.clear_embedded.specs.declared.code.Code.TheVariants.{Done, NoMemory, Closed, Open, NoJson, Member, NoLine, Kept, TooSmall, NotWritten, NothingKept, NotRefused}
 
 -- an empty house is opened where the bytes are a configuration and there is memory
 abbrev pub IsOpened : Code → List ℕ → Option Standing → Type 0
@@ -23,6 +23,7 @@ IsOpened Kept bytes pointer' = ⊥
 IsOpened TooSmall bytes pointer' = ⊥
 IsOpened NotWritten bytes pointer' = ⊥
 IsOpened NothingKept bytes pointer' = ⊥
+IsOpened NotRefused bytes pointer' = ⊥
 
 -- a house is opened where none is open
 abbrev pub OpenIs : Code → Option Standing → List ℕ → Option Standing → Type 0
@@ -38,3 +39,8 @@ AnswerIs code (Some house) line pointer' buffer = (house' : Standing) × (pointe
 abbrev pub AgainIs : Code → Option Standing → Option Standing → Buffer → Type 0
 AgainIs code None pointer' buffer = (code ≡ Closed) × (pointer' ≡ None) × IsUnwritten buffer
 AgainIs code (Some house) pointer' buffer = (house' : Standing) × (pointer' ≡ Some house') × IsGivenAgain code house house' buffer
+
+-- the open house, if there is one, says why it refused the last line, and stays as it is
+abbrev pub CauseIs : Code → Option Standing → Option Standing → Buffer → Type 0
+CauseIs code None pointer' buffer = (code ≡ Closed) × (pointer' ≡ None) × IsUnwritten buffer
+CauseIs code (Some house) pointer' buffer = (pointer' ≡ Some house) × IsCauseTold code house buffer

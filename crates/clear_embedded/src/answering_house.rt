@@ -1,12 +1,18 @@
 //! A house that answers the lines of a stream one at a time, into a buffer.
 
-ghost use Rattle.std.specs.Prelude.{◌≡◌, ◌≢◌, ◌++◌, ◌≤◌, ◌↔◌, ℕ, List, true, None, Some, Ok, Err, length, drop, IfOk, IfErr, OnErr, OnOk};
+ghost use Rattle.std.specs.Prelude.{◌≡◌, ◌≢◌, ◌++◌, ◌≤◌, ◌↔◌, ℕ, List, true, None, Some, Ok, Err, length, drop, option_map, IfOk, IfErr, OnErr, OnOk};
 ghost use Rattle.ocpi_types.specs.ConfigText.{config_of};
 ghost use Rattle.ocpi_types.specs.declared.config.Config.{Config as ConfigValue};
 ghost use Rattle.ocpi_types.specs.declared.config.reading.ConfigFault.TheVariants.{NoMemory};
-ghost use Rattle.clear_embedded.specs.Answering.{IsAnswered, IsGivenAgain, IsLine, IsLineDone, opened};
+ghost use Rattle.line_causes.specs.RefusalNames.{refused_in};
+ghost use Rattle.line_streams.specs.Given.{done_by};
+ghost use Rattle.clear_embedded.specs.Answering.{IsAnswered, IsCauseTold, IsGivenAgain, IsLine, IsLineDone, opened, refused_with};
+ghost use Rattle.clear_embedded.specs.Standing.{shown_refused};
 
 use super::code::{Code, Told};
+use super::refused_line::{RefusedLine, cause_text, refusal_copy};
+use line_causes::laws::replies_name_refusals;
+use line_causes::refused;
 use line_streams::{LineReply, Stream};
 use memchr::memchr;
 use ocpi_types::{Config, ConfigFault};
@@ -19,15 +25,22 @@ use std::marker::Model;
 pub struct AnsweringHouse {
     stream: Stream,
     kept: Option<LineReply>,
+    /// The last line that was answered, if it was refused.
+    refused: Option<RefusedLine>,
 }
 
 impl Model for AnsweringHouse {
     ghost use Rattle.line_streams.specs.State.{state_of};
-    ghost use Rattle.clear_embedded.specs.Standing.{Standing, kept_answer};
+    ghost use Rattle.std.specs.Prelude.{option_map};
+    ghost use Rattle.clear_embedded.specs.Standing.{Standing, kept_answer, shown_refused};
 
     ghost Value = { Standing };
 
-    ghost view = { λ it. record { stream = state_of it.stream; kept = kept_answer (state_of it.stream) it.kept } };
+    ghost view = { λ it. record {
+      stream = state_of it.stream;
+      kept = kept_answer (state_of it.stream) it.kept;
+      refused = option_map shown_refused it.refused;
+    } };
 }
 
 /// Whether the bytes are one line: not too many, and none of them a newline.
@@ -53,7 +66,20 @@ fn house_of(alloc: Global, config: Config) -> Result<AnsweringHouse, AllocError>
     Ok(AnsweringHouse {
         stream: Stream::new(alloc, config)?,
         kept: None,
+        refused: None,
     })
+}
+
+/// Returns the last line, with the reply to what was done for it, if the reply refuses it.
+fn refused_line(stream: &Stream, line: Vec<u8>, reply: &LineReply) -> Option<RefusedLine>
+    ensures { option_map shown_refused result ≡ refused_with line.items (done_by stream.now reply.now) (refused_in (done_by stream.now reply.now) reply.now) }
+{
+    refused(stream, reply)?;
+    let done = match stream.done(reply) {
+        Some(done) => Some(refusal_copy(done)?),
+        None => None,
+    };
+    Some(RefusedLine { line, done })
 }
 
 fn boxed(alloc: Global, house: AnsweringHouse) -> Result<Box<AnsweringHouse>, ConfigFault>
@@ -93,7 +119,10 @@ impl AnsweringHouse {
         ensures ok { OnOk result ((text : List ℕ) × IsLineDone self.old line.now text (Some text) self.new) }
         ensures err { OnErr result (self.new ≡ self.old) }
     {
+        replies_name_refusals();
+        let copy = Vec::from_slice(alloc, line)?;
         let reply = self.stream.reply_to(alloc, line)?;
+        self.refused = refused_line(&self.stream, copy, &reply);
         self.kept = Some(reply);
         Ok(())
     }
@@ -140,5 +169,29 @@ impl AnsweringHouse {
             return Told::of(Code::NoMemory);
         }
         self.again(alloc, buffer)
+    }
+
+    /// Writes why the last line was refused. The house does not change.
+    pub(crate) fn cause(&self, alloc: Global, buffer: &mut [u8]) -> Told
+        ensures { IsCauseTold result.code self.now (record { before = buffer.old; after = buffer.new; told = result.length }) }
+    {
+        let Some(refused) = &self.refused else {
+            return Told::of(Code::NotRefused);
+        };
+        let Ok(text) = cause_text(alloc, &self.stream, refused) else {
+            return Told::of(Code::NoMemory);
+        };
+        let size = text.len();
+        if buffer.len() < size {
+            return Told {
+                code: Code::TooSmall,
+                length: size,
+            };
+        }
+        write_front(buffer, text.as_bytes());
+        Told {
+            code: Code::Done,
+            length: size,
+        }
     }
 }

@@ -1,7 +1,7 @@
 //! What C has of a house.
 
 ghost use Rattle.std.specs.Prelude.{◌≡◌, Some, None, true, false, IsSome, MatchOption};
-ghost use Rattle.clear_embedded.specs.Calls.{AgainIs, AnswerIs, OpenIs};
+ghost use Rattle.clear_embedded.specs.Calls.{AgainIs, AnswerIs, CauseIs, OpenIs};
 
 use super::answering_house::AnsweringHouse;
 use super::code::{Code, Told};
@@ -106,6 +106,19 @@ impl ClearHouse {
             return Told::of(Code::Closed);
         };
         let told = house.again(alloc, buffer);
+        self.put(house);
+        told
+    }
+
+    /// Says why the last line was refused.
+    pub(crate) fn cause(&mut self, alloc: Global, buffer: &mut [u8]) -> Told
+        ensures { CauseIs result.code self.old.pointer.standing self.new.pointer.standing
+            (record { before = buffer.old; after = buffer.new; told = result.length }) }
+    {
+        let Some(house) = self.take(alloc) else {
+            return Told::of(Code::Closed);
+        };
+        let told = house.cause(alloc, buffer);
         self.put(house);
         told
     }

@@ -27,6 +27,8 @@ pub enum Code {
     NotWritten,
     /// No answer is kept.
     NothingKept,
+    /// The last line was not refused, or no line was answered.
+    NotRefused,
 }
 
 impl Code {
@@ -46,6 +48,7 @@ impl Code {
             Code::TooSmall => 9,
             Code::NotWritten => 10,
             Code::NothingKept => 11,
+            Code::NotRefused => 12,
         }
     }
 }

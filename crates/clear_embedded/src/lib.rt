@@ -1,4 +1,4 @@
-//! The clearing house for programs in C and in other languages that call C: four functions over a house that C holds.
+//! The clearing house for programs in C and in other languages that call C: five functions over a house that C holds.
 //! `clear.h` says how they are called.
 #![tactic(auto)]
 
@@ -7,9 +7,10 @@ mod clear_house;
 mod code;
 mod house_pointer;
 mod loose;
+mod refused_line;
 
 ghost use Rattle.std.specs.Prelude.{◌≡◌, None};
-ghost use Rattle.clear_embedded.specs.Calls.{AgainIs, AnswerIs, OpenIs};
+ghost use Rattle.clear_embedded.specs.Calls.{AgainIs, AnswerIs, CauseIs, OpenIs};
 ghost use Rattle.clear_embedded.specs.Codes.{code_number};
 ghost use Rattle.clear_embedded.specs.declared.code.Code.{Code as CodeValue};
 
@@ -55,6 +56,23 @@ pub extern "C" fn clear_embedded_again(
         (record { before = buffer.old; after = buffer.new; told = length.new }) }
 {
     let told = house.again(alloc, buffer);
+    *length = told.length;
+    told.code.number()
+}
+
+/// Says why the last line was refused, as JSON.
+#[unsafe(no_mangle)]
+pub extern "C" fn clear_embedded_cause(
+    alloc: Global,
+    house: &mut ClearHouse,
+    buffer: &mut [u8],
+    length: &mut usize,
+) -> u32
+    ensures { (code : CodeValue) × (result ≡ code_number code)
+        × CauseIs code house.old.pointer.standing house.new.pointer.standing
+        (record { before = buffer.old; after = buffer.new; told = length.new }) }
+{
+    let told = house.cause(alloc, buffer);
     *length = told.length;
     told.code.number()
 }
