@@ -28,6 +28,7 @@ use Rattle.cdr_checks.specs.declared.request.Settlement.{Settlement}
 use Rattle.plain_house.specs.Booked.{Booked, booked_as, is_credited}
 use Rattle.plain_house.specs.Entries.{account_entries, book_entries, charge_of, period_of}
 use Rattle.plain_house.specs.Exposure.{exposure_of, of_pair, of_provider, released_hold}
+use Rattle.plain_house.specs.Happened.{settles}
 use Rattle.plain_house.specs.Full.{are_periods_full, are_versions_full, first_full, is_order_full}
 use Rattle.plain_house.specs.House.{cdr_posted, credit_posted, credit_taken, found_of, full_for, full_for_cdr, over_credit, post_of, release_of, stored_already, unless_covered, unless_current, unless_open, unless_settled, unless_valid, verdict}
 use Rattle.plain_house.specs.Known.{known}
@@ -44,18 +45,23 @@ use Rattle.plain_house.specs.declared.entry.Charge.{Charge}
 use Rattle.plain_house.specs.declared.event.Event.{Event}
 use Rattle.plain_house.specs.declared.event.Hold.{Hold}
 use Rattle.plain_house.specs.declared.over_limit.OverLimit.{OverLimit}
+use Rattle.plain_house.proofs.EntriesLemmas.{settled_in_events}
 use Rattle.house_causes.specs.Causes.{refused}
-use Rattle.house_causes.specs.Laws.{EachRefusalHasACause}
-use Rattle.house_causes.proofs.CreditLemmas.{credit_named, credited_by_an_event, mapped_is_there, unlike_its_original}
+use Rattle.house_causes.specs.HouseCause.{is_by_event}
+use Rattle.house_causes.specs.Laws.{CausesNameTheirEvents, EachRefusalHasACause, said_by_house}
+use Rattle.house_causes.specs.declared.house_cause.HouseReason.TheVariants as reason
+use Rattle.house_causes.proofs.CreditLemmas.{credit_named, credited_by_an_event, unlike_its_original}
 use Rattle.house_causes.proofs.DifferenceLemmas.{booked_otherwise, stored_otherwise}
+use Rattle.house_causes.proofs.EventLemmas.{IsCaused, caused_of, is_caused_there}
+use Rattle.house_causes.proofs.FirstLemmas.{has_place}
 use Rattle.house_causes.proofs.UnknownLemmas.{hold_unknown, tariff_unregistered, token_unknown}
 
 -- ---- in general
 
 module _ (config : Config) (events : List Event) (asked : Command) where
-  -- the refusal has a cause
+  -- the refusal has a cause, which names an event if and only if an event gives its reason
   abbrev HasCause : Refusal → Type 0
-  HasCause refused_so = is_some (refused config events asked refused_so) ≡ true
+  HasCause refused_so = IsCaused (refused config events asked refused_so)
 
   -- the reply is no refusal, or its refusal has a cause
   abbrev ReplyHas : Result Answer Refusal → Type 0
@@ -179,7 +185,7 @@ module _ (config : Config) (events : List Event) (checked : Checked) where
     taken_has id original named stands =
         let credited = is_credited original.cdr.operator original.cdr.id (book_entries events) in
         ensure_has config events (command.Post checked) (not (is_credit original.cdr)) refusal.CreditOfCredit _
-        (λ of_credit. credit_named config events checked.cdr id named)
+        (λ of_credit. credit_named config events checked.cdr id named original stands)
         (ensure_has config events (command.Post checked) (not credited) refusal.AlreadyCredited _
         (λ again. credited_by_an_event config events checked.cdr id named original stands (not-false credited again))
         (ensure_has config events (command.Post checked) (is_in_window config.credit_window original.period (period_of events)) (refusal.TooLate original.period (period_of events)) _
@@ -193,7 +199,7 @@ module _ (config : Config) (events : List Event) (checked : Checked) where
         by_original : (id : List ℕ) → checked.cdr.credit ≡ Some id → (original : Option Booked) → booked_as checked.cdr.operator id (book_entries events) ≡ original
             → AmountHas config events (command.Post checked)
             (or_refusal refusal.UnknownOriginal original >>= λ found. taken_back config (period_of events) checked.cdr (is_credited found.cdr.operator found.cdr.id (book_entries events)) found)
-        by_original id named None stands = mapped_is_there _ checked.cdr.credit is_a_credit
+        by_original id named None stands = caused_of _ checked.cdr.credit is_a_credit (λ it. refl)
         by_original id named (Some original) stands = taken_has id original named stands
 
         by_reference : (reference : Option (List ℕ)) → checked.cdr.credit ≡ reference
@@ -225,9 +231,13 @@ module _ (config : Config) (events : List Event) (checked : Checked) where
 current_has : (config : Config) (events : List Event) (close : Close) → CaseHas config events (command.Close close) (unless_current close.period (period_of events))
 current_has config events close = by (close.period == period_of events)
   where
+    named : (b : Bool) → false ≡ is_by_event (if b then reason.ClosedAlready close.period (period_of events) else reason.NotCurrentYet close.period (period_of events))
+    named true = refl
+    named false = refl
+
     by : (b : Bool) → CaseHas config events (command.Close close) (if b then None else Some (Err (refusal.NotCurrent (period_of events))))
     by true = tt
-    by false = refl
+    by false = named (nat_lt close.period (period_of events))
 
 open_has : (config : Config) (events : List Event) (asked : Command) (period : ℕ) → HasCause config events asked refusal.PeriodOpen
     → CaseHas config events asked (unless_open period (period_of events))
@@ -237,9 +247,10 @@ open_has config events asked period has = by (nat_lt period (period_of events))
     by true = tt
     by false = has
 
-settled_has : (config : Config) (events : List Event) (settlement : Settlement) (is_settled : Bool) → CaseHas config events (command.Settle settlement) (unless_settled is_settled)
-settled_has config events settlement true = refl
-settled_has config events settlement false = tt
+settled_has : (config : Config) (events : List Event) (settlement : Settlement) (settled : Bool) → is_settled settlement (account_entries events) ≡ settled
+    → CaseHas config events (command.Settle settlement) (unless_settled settled)
+settled_has config events settlement true is = has_place (settles settlement) events (sym (settled_in_events settlement events) ∙ is)
+settled_has config events settlement false is = tt
 
 find_has : (config : Config) (events : List Event) (find : Find) (found : Option Booked)
     → ReplyHas config events (command.Find find) (found_of find (book_entries events) found).reply
@@ -277,7 +288,7 @@ module _ (posts : PostsAreChecked) (cdrs : CdrsWithoutDifferenceAreSame) (tariff
       unless_has config events (command.Settle settlement)
       (unless_open settlement.period (period_of events) ∷ unless_settled (is_settled settlement (account_entries events)) ∷ full_for config (known events) settlement.provider ∷ []) _ (
         open_has config events (command.Settle settlement) settlement.period refl,
-        (settled_has config events settlement (is_settled settlement (account_entries events)), (full_has config events (command.Settle settlement) _, tt)),
+        (settled_has config events settlement (is_settled settlement (account_entries events)) refl, (full_has config events (command.Settle settlement) _, tt)),
       ) tt
   reply_has config events (command.Exposure ask) admitted = tt
   reply_has config events (command.Find find) admitted = find_has config events find (booked_as find.operator find.id (book_entries events))
@@ -285,5 +296,12 @@ module _ (posts : PostsAreChecked) (cdrs : CdrsWithoutDifferenceAreSame) (tariff
       unless_has config events (command.Statement ask) (unless_open ask.period (period_of events) ∷ []) _
       (open_has config events (command.Statement ask) ask.period refl, tt) tt
 
+  caused : (config : Config) (events : List Event) (asked : Command) (refused_so : Refusal) → IsAdmitted config asked
+      → said_by_house config events asked ≡ Err refused_so → HasCause config events asked refused_so
+  caused config events asked refused_so admitted said = subst (ReplyHas config events asked) said (reply_has config events asked admitted)
+
   pub each_has : EachRefusalHasACause
-  each_has config events asked refused_so admitted said = subst (ReplyHas config events asked) said (reply_has config events asked admitted)
+  each_has config events asked refused_so admitted said = is_caused_there (refused config events asked refused_so) (caused config events asked refused_so admitted said)
+
+  pub names_its_event : CausesNameTheirEvents
+  names_its_event config events asked refused_so cause admitted said is = subst IsCaused is (caused config events asked refused_so admitted said)

@@ -24,6 +24,7 @@ use Rattle.operator_book.proofs.KeyLemmas.{both_are, or_false}
 use Rattle.house_causes.specs.First.{◌>>=◌, Numbered}
 use Rattle.house_causes.specs.Bookings.{booking_conflict}
 use Rattle.house_causes.specs.Versions.{stored_difference, tariff_of, version_conflict}
+use Rattle.house_causes.proofs.EventLemmas.{IsCaused, booked_by_an_event, caused_then}
 use Rattle.house_causes.proofs.FirstLemmas.{first_at, found_then, is_there}
 
 find_passes : {A : Type 0} (test : A → Bool) (xs : List A) (x : A) → find test xs ≡ Some x → test x ≡ true
@@ -47,15 +48,15 @@ booked_has_id cdr id events found h =
     (find_passes (has_id cdr.operator id) (booked (book_entries events)) found h)
 
 pub booked_otherwise : CdrsWithoutDifferenceAreSame → (events : List Event) (cdr : Cdr) (found : Booked)
-    → booked_as cdr.operator cdr.id (book_entries events) ≡ Some found → same_cdr found.cdr cdr ≡ false → is_some (booking_conflict events cdr) ≡ true
+    → booked_as cdr.operator cdr.id (book_entries events) ≡ Some found → same_cdr found.cdr cdr ≡ false → IsCaused (booking_conflict events cdr)
 unfolding booking_conflict
 booked_otherwise law events cdr found h other =
-    found_then (booked_as cdr.operator cdr.id (book_entries events)) _ (is_there (booked_as cdr.operator cdr.id (book_entries events)) found h) (λ it is.
+    caused_then (booked_as cdr.operator cdr.id (book_entries events)) _ (is_there (booked_as cdr.operator cdr.id (book_entries events)) found h) (λ it is.
     let same : found ≡ it = cc in
     let keys = booked_has_id cdr cdr.id events it is in
-    found_then (difference_of_cdrs it.cdr cdr) _
+    caused_then (difference_of_cdrs it.cdr cdr) _
     (differs (difference_of_cdrs it.cdr cdr) (same_cdr it.cdr cdr) (law it.cdr cdr keys.0 keys.1) (ap (λ (b : Booked). same_cdr b.cdr cdr) (sym same) ∙ other))
-    (λ differing which. refl))
+    (λ differing which. booked_by_an_event cdr.operator cdr.id events found h))
 
 -- ---- stored versions
 
@@ -127,9 +128,9 @@ module _ (law : TariffsWithoutDifferenceAreSame) (events : List Event) (tariff s
       ∙ ap (λ (o : Option Tariff). is_some (o >>= difference_from tariff at)) (only_version it.item it.one it.only ∙ ap (λ (version : Tariff). Some version) same)
       ∙ found_then (difference_of_tariffs stored tariff) _ differs_in_a_member (λ differing which. refl)
 
-  pub stored_otherwise : is_some (version_conflict events tariff) ≡ true
+  pub stored_otherwise : IsCaused (version_conflict events tariff)
   unfolding version_conflict
-  stored_otherwise = found_then (stored_difference events tariff) _ (by (position (stores tariff) events) refl) (λ which is. refl)
+  stored_otherwise = caused_then (stored_difference events tariff) _ (by (position (stores tariff) events) refl) (λ which is. refl)
     where
       by : (place : Option ℕ) → position (stores tariff) events ≡ place → is_some (stored_difference events tariff) ≡ true
       by None is = absurd (

@@ -1,11 +1,12 @@
 -- Why a token, a tariff of a CDR or a hold is not known.
-use Rattle.std.proofs.Common.{◌≡◌, ◌∙◌, ℕ, suc, zero, List, [], ◌∷◌, ◌++◌, Bool, true, false, not, ◌&&◌, ◌||◌, if◌then◌else◌, cond, Option, Some, None, refl, sym, ap, ap₂, find, is_some, slice_get}
+use Rattle.std.proofs.Common.{◌≡◌, ◌∙◌, ℕ, suc, zero, List, [], ◌∷◌, ◌++◌, Bool, true, false, not, ◌&&◌, ◌||◌, if◌then◌else◌, cond, Option, Some, None, refl, sym, ap, ap₂, subst, find, is_some, slice_get}
 use Rattle.std.specs.List.{list_any, position}
 use Rattle.std.specs.Option.{option_or}
 use Rattle.std.proofs.lemmas.Bool.{and_from}
 use Rattle.std.proofs.lemmas.Cmp.{nat_list_eq_equiv}
 use Rattle.std.proofs.lemmas.List.Folds.{find-append}
 use Rattle.ocpi_json.specs.Folded.{folded, same_folded}
+use Rattle.ocpi_json.specs.declared.name.Name.{Name}
 use Rattle.ocpi_types.specs.Party.{same_party}
 use Rattle.ocpi_types.specs.declared.cdr.Cdr.{Cdr}
 use Rattle.ocpi_types.specs.declared.party.Party.{Party}
@@ -26,9 +27,12 @@ use Rattle.operator_book.proofs.KeyLemmas.{both_are, or_false}
 use Rattle.house_causes.specs.First.{◌>>=◌, Numbered, first_that}
 use Rattle.house_causes.specs.Holds.{by_event, ended, hold_of, unknown_hold, why_ended, why_no_hold, why_not_open}
 use Rattle.house_causes.specs.Tokens.{token_of, unknown_token, why_unknown}
-use Rattle.house_causes.specs.Versions.{not_registered}
+use Rattle.house_causes.specs.HouseCause.{cause_at, is_by_event}
+use Rattle.house_causes.specs.Versions.{not_registered, not_stored, stored_difference, tariff_at, why_unregistered}
+use Rattle.house_causes.specs.declared.house_cause.HouseReason.{HouseReason}
 use Rattle.house_causes.specs.declared.house_cause.HouseReason.TheVariants as reason
-use Rattle.house_causes.proofs.FirstLemmas.{found_then, has_first, has_place, is_found, is_there, passes_at, slice_get-suc}
+use Rattle.house_causes.proofs.EventLemmas.{IsCaused, caused_then}
+use Rattle.house_causes.proofs.FirstLemmas.{has_first, has_place, is_found, is_there, passes_at, slice_get-suc}
 
 -- ---- tokens
 
@@ -42,24 +46,33 @@ puts_a_token ask (event.Credit cdr amount) h = absurd (cc)
 puts_a_token ask (event.Settled settlement) h = absurd (cc)
 puts_a_token ask (event.Closed period) h = absurd (cc)
 
-pub token_unknown : (events : List Event) (ask : Authorize) → is_some (unknown_token events ask) ≡ true
+pub token_unknown : (events : List Event) (ask : Authorize) → IsCaused (unknown_token events ask)
 unfolding unknown_token
 token_unknown events ask = by (first_that (puts ask) events) refl
   where
-    by : (found : Option Numbered) → first_that (puts ask) events ≡ found → is_some (why_unknown ask found) ≡ true
+    by : (found : Option Numbered) → first_that (puts ask) events ≡ found → IsCaused (why_unknown ask found)
     by None is = refl
-    by (Some put) is = found_then (token_of put.event) _ (puts_a_token ask put.event (is_found (puts ask) events put is).passes) (λ token which. refl)
+    by (Some put) is = caused_then (token_of put.event) _ (puts_a_token ask put.event (is_found (puts ask) events put is).passes) (λ token which. refl)
 
 -- ---- tariffs of a CDR
 
-pub tariff_unregistered : (events : List Event) (cdr : Cdr) → lacks_registered cdr (book_entries events) ≡ true → is_some (not_registered events cdr) ≡ true
+why_unregistered_is : (events : List Event) (cdr : Cdr) (number : ℕ) (tariff : Tariff) → IsCaused (Some (why_unregistered events cdr number tariff))
+why_unregistered_is events cdr number tariff = by (same_party tariff.operator cdr.operator) (stored_difference events tariff)
+  where
+    by : (same : Bool) (difference : Option (Name × ℕ))
+        → IsCaused (Some (if same then not_stored number tariff difference else cause_at (tariff_at number) (reason.OfAnotherOperator tariff.operator cdr.operator)))
+    by true None = refl
+    by true (Some found) = refl
+    by false difference = refl
+
+pub tariff_unregistered : (events : List Event) (cdr : Cdr) → lacks_registered cdr (book_entries events) ≡ true → IsCaused (not_registered events cdr)
 unfolding not_registered
 tariff_unregistered events cdr h =
     let test : Tariff → Bool = λ tariff. not (list_any (registers cdr.operator tariff) events) in
     let same : lacks_registered cdr (book_entries events) ≡ list_any test cdr.tariffs = λ i. list_any (λ tariff. not (registered_in_events cdr.operator events tariff i)) cdr.tariffs in
-    found_then (position test cdr.tariffs) _ (has_place test cdr.tariffs (sym same ∙ h)) (λ number is.
+    caused_then (position test cdr.tariffs) _ (has_place test cdr.tariffs (sym same ∙ h)) (λ number is.
     let it = passes_at test cdr.tariffs number is in
-    found_then (slice_get cdr.tariffs number) _ (is_there (slice_get cdr.tariffs number) it.item it.stands) (λ tariff which. refl))
+    caused_then (slice_get cdr.tariffs number) _ (is_there (slice_get cdr.tariffs number) it.item it.stands) (λ tariff which. why_unregistered_is events cdr number tariff))
 
 -- ---- holds
 
@@ -94,6 +107,16 @@ ends_a_hold reference hold (event.Cdr cdr cost) h = refl
 ends_a_hold reference hold (event.Credit cdr amount) h = absurd (cc)
 ends_a_hold reference hold (event.Settled settlement) h = absurd (cc)
 ends_a_hold reference hold (event.Closed period) h = absurd (cc)
+
+ended_by_event : (reference : List ℕ) (e : Event) (why : HouseReason) → why_ended reference e ≡ Some why → is_by_event why ≡ true
+ended_by_event reference (event.Tariff tariff) why h = absurd (cc)
+ended_by_event reference (event.Token token) why h = absurd (cc)
+ended_by_event reference (event.Authorised another) why h = absurd (cc)
+ended_by_event reference (event.Released release) why h = let same : reason.ReleasedAlready reference ≡ why = cc in ap is_by_event (sym same)
+ended_by_event reference (event.Cdr cdr cost) why h = let same : reason.UsedUp reference cdr.id ≡ why = cc in ap is_by_event (sym same)
+ended_by_event reference (event.Credit cdr amount) why h = absurd (cc)
+ended_by_event reference (event.Settled settlement) why h = absurd (cc)
+ended_by_event reference (event.Closed period) why h = absurd (cc)
 
 -- the event gives the hold, of the release's provider and reference
 record Given (release : Release) (e : Event) : Type 0 where
@@ -143,24 +166,24 @@ module _ (events : List Event) (release : Release) (unknown : released_hold (acc
             ap (find (λ held. ends_hold held (account.Release release))) (sym (open_in_events 0 events)) ∙ unknown in
             sym (ap is_some none) ∙ is_open
 
-    why_given : is_some (why_not_open events release at hold) ≡ true
+    why_given : IsCaused (why_not_open events release at hold)
     why_given = by (same_party hold.operator release.operator) refl
       where
         by : (same : Bool) → same_party hold.operator release.operator ≡ same
-            → is_some (if same then ended events release hold else Some (by_event (reason.GivenToAnother release.reference hold.operator) at)) ≡ true
+            → IsCaused (if same then ended events release hold else Some (by_event (reason.GivenToAnother release.reference hold.operator) at))
         by true is =
-            found_then (first_that (ends hold) events) _ (has_first (ends hold) events (is_ended is))
-            (λ it which. found_then (why_ended release.reference it.event) _ (ends_a_hold release.reference hold it.event (is_found (ends hold) events it which).passes) (λ why what. refl))
+            caused_then (first_that (ends hold) events) _ (has_first (ends hold) events (is_ended is))
+            (λ it which. caused_then (why_ended release.reference it.event) _ (ends_a_hold release.reference hold it.event (is_found (ends hold) events it which).passes) (λ why what. sym (ended_by_event release.reference it.event why what)))
         by false is = refl
 
-  pub hold_unknown : is_some (unknown_hold events release) ≡ true
+  pub hold_unknown : IsCaused (unknown_hold events release)
   unfolding unknown_hold
   hold_unknown = by (first_that (gives release) events) refl
     where
-      by : (found : Option Numbered) → first_that (gives release) events ≡ found → is_some (why_no_hold events release found) ≡ true
+      by : (found : Option Numbered) → first_that (gives release) events ≡ found → IsCaused (why_no_hold events release found)
       by None is = refl
       by (Some first) is =
           let there = is_found (gives release) events first is in
           let it = given release first.event there.passes in
-          ap (λ (e : Event). is_some (hold_of e >>= λ hold. why_not_open events release first.at hold)) it.is
-          ∙ why_given first.at it.hold (there.stands ∙ ap (λ (e : Event). Some e) it.is) it.provider it.reference
+          subst (λ (e : Event). IsCaused (hold_of e >>= λ hold. why_not_open events release first.at hold)) (sym it.is)
+          (why_given first.at it.hold (there.stands ∙ ap (λ (e : Event). Some e) it.is) it.provider it.reference)

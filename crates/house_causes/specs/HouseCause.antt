@@ -1,5 +1,5 @@
 -- Why a house turns a command down, and the refusal that it is.
-use Rattle.std.specs.Prelude.{Option, None, Some}
+use Rattle.std.specs.Prelude.{Bool, true, false, Option, None, Some}
 use Rattle.ocpi_types.specs.declared.refusal.Refusal.{Refusal}
 use Rattle.ocpi_types.specs.declared.refusal.Refusal.TheVariants as refusal
 use Rattle.cdr_checks.specs.declared.place.Place.{Place}
@@ -37,6 +37,37 @@ refusal_by (reason.SettledAlready period) = Some refusal.AlreadySettled
 refusal_by (reason.NoCdr id) = Some refusal.UnknownCdr
 refusal_by (reason.Full what party limit) = Some (refusal.Full what)
 refusal_by (reason.AboveLimit exposure limit pair) = Some (refusal.OverLimit exposure limit pair)
+
+-- an event gives the reason
+abbrev pub is_by_event : HouseReason → Bool
+is_by_event reason.StoredOtherwise = true
+is_by_event (reason.BookedOtherwise amount) = true
+is_by_event (reason.OfAnotherOperator found operator) = false
+is_by_event reason.RegisteredOtherwise = true
+is_by_event (reason.NotRegistered last_updated) = false
+is_by_event (reason.NotPut uid) = false
+is_by_event (reason.OfAnotherType found put) = true
+is_by_event (reason.NotValid uid) = false
+is_by_event (reason.NotCovered over) = false
+is_by_event (reason.NeverGiven reference) = false
+is_by_event (reason.GivenToAnother reference operator) = true
+is_by_event (reason.ReleasedAlready reference) = true
+is_by_event (reason.UsedUp reference cdr) = true
+is_by_event (reason.NoOriginal id) = false
+is_by_event (reason.OfCredit id) = true
+is_by_event (reason.CreditedAlready id credit) = true
+is_by_event (reason.BeforeWindow original current) = false
+is_by_event (reason.OtherProvider found cdr) = true
+is_by_event (reason.OtherCurrency found cdr) = true
+is_by_event (reason.AboveZero cost) = true
+is_by_event (reason.FarFromNegated cost negated) = true
+is_by_event (reason.ClosedAlready period current) = false
+is_by_event (reason.NotCurrentYet period current) = false
+is_by_event (reason.NotClosedYet period current) = false
+is_by_event (reason.SettledAlready period) = true
+is_by_event (reason.NoCdr id) = false
+is_by_event (reason.Full what party limit) = false
+is_by_event (reason.AboveLimit exposure limit pair) = false
 
 -- a cause at a place of the request, by an event if one is to blame
 abbrev pub cause_at : Place → HouseReason → HouseCause

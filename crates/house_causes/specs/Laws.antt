@@ -11,7 +11,7 @@ use Rattle.plain_house.specs.declared.answer.Answer.TheVariants as answer
 use Rattle.plain_house.specs.declared.event.Event.{Event}
 use Rattle.plain_house.specs.declared.over_limit.OverLimit.{OverLimit}
 use Rattle.house_causes.specs.Causes.{cause_of}
-use Rattle.house_causes.specs.HouseCause.{refusal_by}
+use Rattle.house_causes.specs.HouseCause.{is_by_event, refusal_by}
 use Rattle.house_causes.specs.declared.house_cause.HouseCause.{HouseCause}
 
 -- the cause of a refusal says that refusal
@@ -30,7 +30,14 @@ EachRefusalHasACause =
     (config : Config) (events : List Event) (command : Command) (refusal : Refusal) → IsAdmitted config command →
     said_by_house config events command ≡ Err refusal → is_some (cause_of config events command (Err refusal)) ≡ true
 
--- and so have the answers BLOCKED and NO_CREDIT
+-- it names an event if and only if an event gives its reason
+abbrev pub CausesNameTheirEvents : Type 0
+CausesNameTheirEvents =
+    (config : Config) (events : List Event) (command : Command) (refusal : Refusal) (cause : HouseCause) → IsAdmitted config command →
+    said_by_house config events command ≡ Err refusal → cause_of config events command (Err refusal) ≡ Some cause →
+    is_some cause.event ≡ is_by_event cause.reason
+
+-- the answers BLOCKED and NO_CREDIT have causes, too
 pub record TheirAnswersHaveCauses : Type 0 where
   pub blocked : (config : Config) (events : List Event) (command : Command) →
       said_by_house config events command ≡ Ok answer.Blocked → is_some (cause_of config events command (Ok answer.Blocked)) ≡ true

@@ -32,10 +32,11 @@ pub fn of_credit(events: &KnownEvents, credit: &Cdr) -> Option<HouseCause>
     ensures { result ≡ of_credit events.now credit.now }
 {
     let id = credit.credit?;
+    let event = events.booked_at(&credit.operator, &id);
     Some(HouseCause {
         place: Some(reference_place()),
         reason: HouseReason::OfCredit { id },
-        event: events.booked_at(&credit.operator, &id),
+        event,
     })
 }
 

@@ -1,6 +1,6 @@
 //! Laws of causes.
 
-ghost use Rattle.house_causes.specs.Laws.{CausesSayTheirRefusals, EachRefusalHasACause, TheirAnswersHaveCauses};
+ghost use Rattle.house_causes.specs.Laws.{CausesNameTheirEvents, CausesSayTheirRefusals, EachRefusalHasACause, TheirAnswersHaveCauses};
 
 use cdr_checks::posts_are_checked;
 use ocpi_types::laws::{cdrs_without_difference_are_same, tariffs_without_difference_are_same};
@@ -13,6 +13,15 @@ pub fn causes_say_their_refusals()
 /// States that each refusal of a command that is admitted has a cause.
 pub fn each_refusal_has_a_cause()
     ensures { EachRefusalHasACause }
+{
+    posts_are_checked();
+    cdrs_without_difference_are_same();
+    tariffs_without_difference_are_same();
+}
+
+/// States that the cause of a refusal names an event if and only if an event gives its reason.
+pub fn causes_name_their_events()
+    ensures { CausesNameTheirEvents }
 {
     posts_are_checked();
     cdrs_without_difference_are_same();
