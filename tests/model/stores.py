@@ -9,10 +9,11 @@ import signal
 import subprocess
 import time
 from pathlib import Path
+from typing import TypeAlias
 
 TOP = Path(__file__).resolve().parent.parent.parent
 
-Ended = tuple[int, bytes, str]
+Ended: TypeAlias = tuple[int, bytes, str]  # status, standard output and standard error
 
 
 class Room:
@@ -68,9 +69,7 @@ class Room:
     def answered(self, lines: list[bytes]) -> list[bytes]:
         """The answers to these lines by the command that keeps nothing."""
         words: list[str | Path] = [self.program, self.answers, self.config]
-        done = subprocess.run(
-            words, input=b"".join(lines), stdout=subprocess.PIPE, check=True
-        )
+        done = subprocess.run(words, input=b"".join(lines), stdout=subprocess.PIPE, check=True)
         return done.stdout.splitlines(True)
 
     def keep(
@@ -96,9 +95,7 @@ class Room:
 
     def kept(self, store: str) -> list[bytes]:
         """The lines that a store keeps."""
-        done = subprocess.run(
-            [self.program, "log", self.work / store], stdout=subprocess.PIPE, check=True
-        )
+        done = subprocess.run([self.program, "log", self.work / store], stdout=subprocess.PIPE, check=True)
         return done.stdout.splitlines(True)
 
     def has_begun(self, store: str) -> bool:
@@ -144,9 +141,7 @@ class Client:
             printed = b""
             left: list[bytes] | None = None
             while time.monotonic() < until:
-                printed += (
-                    os.read(keep.stdout.fileno(), 1 << 16) if readable(keep) else b""
-                )
+                printed += os.read(keep.stdout.fileno(), 1 << 16) if readable(keep) else b""
                 if left is None and b"\n" in printed:
                     left = self.room.lines[int(printed[8 : printed.index(b"}")]) :]
                 if left:
@@ -164,9 +159,7 @@ class Client:
         """Gives it all lines that are not kept, and lets it end."""
         had = str(len(self.answers))
         kept = len(self.room.kept(self.store)) if self.room.has_begun(self.store) else 0
-        ended = self.room.keep(
-            self.store, b"".join(self.room.lines[kept:]), "--from", had
-        )
+        ended = self.room.keep(self.store, b"".join(self.room.lines[kept:]), "--from", had)
         self.take(ended[1])
         return ended
 

@@ -2,17 +2,17 @@
 
 from __future__ import annotations
 
-from causes import EXPECTED, MISSING, OBJECT, UNFIT, Explainer, row, written
-from rules import Refused, fold, request_of
-from streams import Stream, request_id_of
+from causes import EXPECTED, MISSING, OBJECT, UNFIT, Explainer, Row, row, written
+from rules import Json, Refused, Request, fold, request_of
+from streams import Change, Stream, request_id_of
 
 VERSION = "a whole number from 1 to 2 in digits alone"
-
-Row = tuple[str, str, str, str, str]
 
 
 class StreamExplainer(Explainer):
     """The explanations of the lines of a stream, each under the configuration that is in force at the line."""
+
+    house: Stream
 
     def __init__(self, house: Stream) -> None:
         super().__init__(house)
@@ -28,15 +28,13 @@ class StreamExplainer(Explainer):
         try:
             value = self.read(line)
             given = request_id_of(value)
-            asked = (
-                self.house.change_of(value) if is_change(value) else request_of(line)
-            )
+            asked: Change | Request = self.house.change_of(value) if is_change(value) else request_of(line)
         except (ValueError, Refused):
             return False
-        first, _ = self.known.get((asked["platform"], given), (None, None))
+        first, _ = self.known.get((asked["platform"], given or ""), (None, None))
         return first == line
 
-    def row(self, line: str, answer: dict[str, str]) -> Row | None:
+    def row(self, line: str, answer: Json) -> Row | None:
         if answer.get("refusal") != "Field":
             return super().row(line, answer)
         value, field = self.read(line), answer["field"]
@@ -46,11 +44,11 @@ class StreamExplainer(Explainer):
         if is_change(value):
             return self.of_change(value, field)
         explained = super().row(line, answer)
-        if field == "do":
-            return (*explained[:3], explained[3] + " configure", explained[4])
+        if explained and field == "do":
+            return explained._replace(against=explained.against + " configure")
         return explained
 
-    def of_change(self, value: dict[str, object], field: str) -> Row:
+    def of_change(self, value: Json, field: str) -> Row:
         expected = {"platform": EXPECTED[None]["platform"], "configuration": OBJECT}
         if field in expected:
             return at_fault(field, value.get(field, MISSING), expected[field])
@@ -59,28 +57,28 @@ class StreamExplainer(Explainer):
         found = value["configuration"].get("version", MISSING)
         return at_fault("configuration.version", found, VERSION)
 
-    def NotYours(self, v: dict[str, str], answer: dict[str, str]) -> Row:
+    def NotYours(self, v: Json, answer: Json) -> Row:
         if v["do"] != "configure":
             return super().NotYours(v, answer)
         names = [fold(p["name"]) for p in self.house.config["platforms"]]
         cause = "no hub" if fold(v["platform"]) in names else "not configured"
         return row("platform", cause, v["platform"])
 
-    def ComesOutOtherwise(self, _: object, answer: dict[str, str]) -> Row:
+    def ComesOutOtherwise(self, _: Json, answer: Json) -> Row:
         cause = "an event would come out otherwise"
         return row("configuration", cause, answer["kind"], "", answer["event"])
 
-    def RequestIdUsed(self, v: dict[str, str], _: object) -> Row:
+    def RequestIdUsed(self, v: Json, _: Json) -> Row:
         given = v["request_id"]
         is_plain = given.isascii() and given.isprintable()
         found = given if is_plain else written(given)
         return row("request_id", "given to another line", found)
 
 
-def at_fault(path: str, found: object, expected: str) -> Row:
+def at_fault(path: str, found: Json, expected: str) -> Row:
     cause = "missing" if found is MISSING else UNFIT
     return row(path, cause, written(found), expected)
 
 
-def is_change(value: object) -> bool:
+def is_change(value: Json) -> bool:
     return isinstance(value, dict) and value.get("do") == "configure"

@@ -61,9 +61,7 @@ def output_of(folder: Path) -> bytes:
     found = path_in(folder, "answers_from")
     if found:
         return found.read_bytes()
-    return next(
-        (bytes_of(folder / name) for name in OUTPUTS if (folder / name).exists()), b""
-    )
+    return next((bytes_of(folder / name) for name in OUTPUTS if (folder / name).exists()), b"")
 
 
 def wrong_with(suite: Suite, program: Path, folder: Path) -> list[str] | None:
@@ -75,12 +73,8 @@ def wrong_with(suite: Suite, program: Path, folder: Path) -> list[str] | None:
             if words[:1] != ["script"] or len(words) != 2 or words[1].startswith("-"):
                 return None
             words = [*suite.arguments, *words[1:]]
-            wanted_errors = re.sub(
-                rb"(?m)^clear: ", f"{suite.program}: ".encode(), wanted_errors
-            )
-        output_to, errors_to = path_in(folder, "output_to"), path_in(
-            folder, "errors_to"
-        )
+            wanted_errors = re.sub(rb"(?m)^clear: ", f"{suite.program}: ".encode(), wanted_errors)
+        output_to, errors_to = path_in(folder, "output_to"), path_in(folder, "errors_to")
         ran = run(
             [str(program), *words],
             folder,
@@ -90,16 +84,8 @@ def wrong_with(suite: Suite, program: Path, folder: Path) -> list[str] | None:
             output_to,
             errors_to,
         )
-        wrong = (
-            []
-            if output_to
-            else differences(output_of(folder), ran.output, "standard output")
-        )
-        wrong += (
-            []
-            if errors_to
-            else differences(wanted_errors, ran.errors, "standard error")
-        )
+        wrong = [] if output_to else differences(output_of(folder), ran.output, "standard output")
+        wrong += [] if errors_to else differences(wanted_errors, ran.errors, "standard error")
         if ran.status != status_of(folder):
             wrong.append(f"exit status {ran.status}, not {status_of(folder)}")
         return wrong

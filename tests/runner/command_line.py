@@ -47,9 +47,7 @@ def words_of(words: Sequence[str]) -> argparse.Namespace:
         help="a suite, or SUITE/CASE; all suites if there is none",
     )
     parser.add_argument("--list", action="store_true", help="print the table of suites")
-    parser.add_argument(
-        "--jobs", type=int, default=1, metavar="N", help="suites at once"
-    )
+    parser.add_argument("--jobs", type=int, default=1, metavar="N", help="suites at once")
     parser.add_argument(
         "--require-all",
         action="store_true",
@@ -73,27 +71,17 @@ def words_of(words: Sequence[str]) -> argparse.Namespace:
     return parser.parse_args(list(words))
 
 
-def chosen(
-    names: Sequence[str], suites: dict[str, Suite], programs: Programs
-) -> list[tuple[Suite, str]]:
+def chosen(names: Sequence[str], suites: dict[str, Suite], programs: Programs) -> list[tuple[Suite, str]]:
     """The suites of these names, each with the case that is asked for; or all suites, but for those of programs that have to be given."""
-    known = [
-        it.name
-        for it in suites.values()
-        if not it.program or programs.is_known(it.program)
-    ]
-    pairs = [
-        (name.partition("/")[0], name.partition("/")[2]) for name in names or known
-    ]
+    known = [it.name for it in suites.values() if not it.program or programs.is_known(it.program)]
+    pairs = [(name.partition("/")[0], name.partition("/")[2]) for name in names or known]
     unknown = [name for name, _ in pairs if name not in suites]
     if unknown:
         raise BadTable(f"no suite {', '.join(unknown)}: tests/run --list prints them")
     return [(suites[name], case) for name, case in pairs]
 
 
-def run_suite(
-    suite: Suite, case: str, programs: Programs, require_all: bool
-) -> tuple[Suite, Outcome | None]:
+def run_suite(suite: Suite, case: str, programs: Programs, require_all: bool) -> tuple[Suite, Outcome | None]:
     """Runs a suite and prints how it ended; None if a program that it needs is not built."""
     missing = programs.missing(suite.program, suite.arguments)
     if missing and not require_all:
@@ -118,9 +106,7 @@ def run_suite(
     return suite, outcome
 
 
-def run_all(
-    asked: list[tuple[Suite, str]], programs: Programs, jobs: int, require_all: bool
-) -> int:
+def run_all(asked: list[tuple[Suite, str]], programs: Programs, jobs: int, require_all: bool) -> int:
     """Runs the suites, those that have to be alone after the others, and prints the count of all. Returns the exit status."""
     beside = [it for it in asked if not it[0].alone]
     alone = [it for it in asked if it[0].alone]
@@ -132,15 +118,11 @@ def run_all(
         ended = list(pool.map(run_one, beside))
     ended += map(run_one, alone)
     outcomes = [outcome for _, outcome in ended if outcome]
-    passed, failed = sum(it.passed for it in outcomes), sum(
-        it.failed for it in outcomes
-    )
+    passed, failed = sum(it.passed for it in outcomes), sum(it.failed for it in outcomes)
     bad = [suite.name for suite, outcome in ended if outcome and outcome.failed]
     if bad:
         print(f"failed suites: {' '.join(bad)}")
-    print(
-        f"suites: {passed} passed, {failed} failed, {len(ended) - len(outcomes)} skipped"
-    )
+    print(f"suites: {passed} passed, {failed} failed, {len(ended) - len(outcomes)} skipped")
     return 0 if passed and not failed else 1
 
 
@@ -151,11 +133,7 @@ def main(words: Sequence[str]) -> int:
         suites = read_suites()
         if asked.list:
             width = max(map(len, suites))
-            print(
-                "\n".join(
-                    f"{name:{width}}  {suite.shows}" for name, suite in suites.items()
-                )
-            )
+            print("\n".join(f"{name:{width}}  {suite.shows}" for name, suite in suites.items()))
             return 0
         programs = Programs(asked.proved.resolve(), dict(asked.program))
         return run_all(

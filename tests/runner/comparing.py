@@ -37,11 +37,7 @@ def bytes_of(path: Path, otherwise: bytes = b"") -> bytes:
 def lines_of(path: Path) -> list[str]:
     """The lines of the file, or none if there is no file. Bytes that are no UTF-8 stay what they are in an argument."""
     text = bytes_of(path)
-    return (
-        [os.fsdecode(line) for line in text.removesuffix(b"\n").split(b"\n")]
-        if text
-        else []
-    )
+    return [os.fsdecode(line) for line in text.removesuffix(b"\n").split(b"\n")] if text else []
 
 
 def status_of(folder: Path) -> int:

@@ -33,9 +33,7 @@ def prepared(folder: Path, case: Path) -> None:
 
 def line_counts(case: Path) -> dict[str, str]:
     """The files of which the case wants a number of lines, each with that number or a hyphen."""
-    rows = (
-        line.split(" ", 1) for line in bytes_of(case / "lines").decode().splitlines()
-    )
+    rows = (line.split(" ", 1) for line in bytes_of(case / "lines").decode().splitlines())
     return {name: count for name, count in rows}
 
 

@@ -24,9 +24,7 @@ def built_shim(room: Path) -> Path:
     """The library that makes one allocation of a program fail."""
     library = room / "refuse.so"
     source = TESTS / "faults" / "refuse.c"
-    subprocess.run(
-        ["cc", "-O1", "-shared", "-fPIC", "-o", library, source, "-ldl"], check=True
-    )
+    subprocess.run(["cc", "-O1", "-shared", "-fPIC", "-o", library, source, "-ldl"], check=True)
     return library
 
 

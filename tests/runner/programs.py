@@ -51,9 +51,7 @@ class Programs:
         """The programs that the suite names and that are not built."""
         named = [program] if program else []
         named += [
-            it[1:-1]
-            for it in arguments
-            if it.startswith("{") and it.endswith("}") and it != "{proved}"
+            it[1:-1] for it in arguments if it.startswith("{") and it.endswith("}") and it != "{proved}"
         ]
         return [it for it in named if not os.access(self.path(it), os.X_OK)]
 
@@ -99,19 +97,9 @@ def run(
 ) -> Ran:
     """Runs a program in a folder with a file as standard input, and returns what it wrote; a stream that goes to a path gives nothing."""
     with contextlib.ExitStack() as opened:
-        standard_input = opened.enter_context(
-            descriptor(given or Path(os.devnull), os.O_RDONLY)
-        )
-        output = (
-            opened.enter_context(descriptor(output_to, WRITTEN))
-            if output_to
-            else subprocess.PIPE
-        )
-        errors = (
-            opened.enter_context(descriptor(errors_to, WRITTEN))
-            if errors_to
-            else subprocess.PIPE
-        )
+        standard_input = opened.enter_context(descriptor(given or Path(os.devnull), os.O_RDONLY))
+        output = opened.enter_context(descriptor(output_to, WRITTEN)) if output_to else subprocess.PIPE
+        errors = opened.enter_context(descriptor(errors_to, WRITTEN)) if errors_to else subprocess.PIPE
         done = subprocess.run(
             list(words),
             cwd=folder,

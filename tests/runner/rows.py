@@ -19,18 +19,12 @@ from runner.suites import TESTS, BadTable, Outcome, Suite
 
 def rows_of(folder: Path) -> list[dict[str, str]]:
     """The rows of the table, each by the names of its columns."""
-    lines = [
-        line
-        for line in (folder / "rows").read_text().splitlines()
-        if not line.startswith("#")
-    ]
+    lines = [line for line in (folder / "rows").read_text().splitlines() if not line.startswith("#")]
     columns = lines[0].split("|")
     rows = [line.split("|") for line in lines[1:]]
     odd = [row for row in rows if len(row) != len(columns)]
     if odd:
-        raise BadTable(
-            f"{folder.name}: {'|'.join(odd[0])}: other columns than {'|'.join(columns)}"
-        )
+        raise BadTable(f"{folder.name}: {'|'.join(odd[0])}: other columns than {'|'.join(columns)}")
     return [dict(zip(columns, row)) for row in rows]
 
 
@@ -40,24 +34,18 @@ def line_of(row: dict[str, str], column: str) -> bytes:
     return f"{text}\n".encode() if column in row else b""
 
 
-def wrong_with(
-    suite: Suite, program: Path, template: str, row: dict[str, str]
-) -> list[str]:
+def wrong_with(suite: Suite, program: Path, template: str, row: dict[str, str]) -> list[str]:
     """What is wrong with the run of a row."""
     for column, value in row.items():
         template = template.replace(f"@{column}@", value)
     with tempfile.TemporaryDirectory() as room:
         given = Path(room) / "cdr.json"
         given.write_text(template)
-        ran = run(
-            [str(program), *suite.arguments, row.get("zone", "")], Path(room), given
-        )
+        ran = run([str(program), *suite.arguments, row.get("zone", "")], Path(room), given)
     wrong = differences(line_of(row, "amount"), ran.output, "standard output")
     wrong += differences(line_of(row, "stderr"), ran.errors, "standard error")
     status = int(row.get("status", "0"))
-    return wrong + (
-        [f"exit status {ran.status}, not {status}"] if ran.status != status else []
-    )
+    return wrong + ([f"exit status {ran.status}, not {status}"] if ran.status != status else [])
 
 
 def run_rows(suite: Suite, programs: Programs, only: str) -> Outcome:

@@ -64,9 +64,7 @@ def suite_of(name: str, row: dict[str, object]) -> Suite:
         "alone",
     }
     if set(row) - known or row.get("kind") not in KINDS or not row.get("shows"):
-        raise BadTable(
-            f"suite {name}: {', '.join(sorted(set(row) - known)) or 'no kind or nothing shown'}"
-        )
+        raise BadTable(f"suite {name}: {', '.join(sorted(set(row) - known)) or 'no kind or nothing shown'}")
     cases, arguments = row.get("cases", []), row.get("arguments", [])
     if not isinstance(cases, list) or not isinstance(arguments, list):
         raise BadTable(f"suite {name}: cases and arguments are lists")
