@@ -1,5 +1,5 @@
 -- Each refusal of the house has a cause.
-use Rattle.std.proofs.Common.{◌≡◌, ◌∙◌, ◌==◌, ℕ, ℤ, pos, List, [], ◌∷◌, ◌++◌, Bool, true, false, not, if◌then◌else◌, Option, Some, None, Result, Ok, Err, refl, sym, ap, subst, is_some, length, option_and_then}
+use Rattle.std.proofs.Common.{◌≡◌, ◌∙◌, ◌==◌, ℕ, ℤ, pos, List, [], ◌∷◌, ◌++◌, Bool, true, false, not, if◌then◌else◌, Option, Some, None, Result, Ok, Err, refl, sym, ap, subst, is_some, length, option_and_then, option_map}
 use Rattle.std.specs.Option.{option_or}
 use Rattle.std.specs.Prelude.{nat_lt}
 use Rattle.std.proofs.lemmas.Bool.{not-false}
@@ -46,9 +46,11 @@ use Rattle.plain_house.specs.declared.event.Event.{Event}
 use Rattle.plain_house.specs.declared.event.Hold.{Hold}
 use Rattle.plain_house.specs.declared.over_limit.OverLimit.{OverLimit}
 use Rattle.plain_house.proofs.EntriesLemmas.{settled_in_events}
-use Rattle.house_causes.specs.Causes.{refused}
+use Rattle.house_causes.specs.Causes.{authorize_in, cause_of, refused}
 use Rattle.house_causes.specs.HouseCause.{is_by_event}
 use Rattle.house_causes.specs.Laws.{CausesNameTheirEvents, EachRefusalHasACause, said_by_house}
+use Rattle.house_causes.specs.Tokens.{blocked}
+use Rattle.house_causes.specs.declared.house_cause.HouseCause.{HouseCause}
 use Rattle.house_causes.specs.declared.house_cause.HouseReason.TheVariants as reason
 use Rattle.house_causes.proofs.CreditLemmas.{credit_named, credited_by_an_event, unlike_its_original}
 use Rattle.house_causes.proofs.DifferenceLemmas.{booked_otherwise, stored_otherwise}
@@ -304,4 +306,28 @@ module _ (posts : PostsAreChecked) (cdrs : CdrsWithoutDifferenceAreSame) (tariff
   each_has config events asked refused_so admitted said = is_caused_there (refused config events asked refused_so) (caused config events asked refused_so admitted said)
 
   pub names_its_event : CausesNameTheirEvents
-  names_its_event config events asked refused_so cause admitted said is = subst IsCaused is (caused config events asked refused_so admitted said)
+  names_its_event config events asked cause admitted is = by (said_by_house config events asked) refl is
+    where
+      named : (o : Option HouseCause) → IsCaused o → o ≡ Some cause → is_some cause.event ≡ is_by_event cause.reason
+      named o its same = subst IsCaused same its
+
+      blocked_by : (ask : Option Authorize) → option_map (λ it. blocked it) ask ≡ Some cause → is_some cause.event ≡ is_by_event cause.reason
+      blocked_by None same = absurd (cc)
+      blocked_by (Some ask) same = subst IsCaused same refl
+
+      by : (reply : Result Answer Refusal) → said_by_house config events asked ≡ reply → cause_of config events asked reply ≡ Some cause
+          → is_some cause.event ≡ is_by_event cause.reason
+      by (Err refused_so) said same = named (refused config events asked refused_so) (caused config events asked refused_so admitted said) same
+      by (Ok answer.Blocked) said same = blocked_by (authorize_in asked) same
+      by (Ok (answer.NoCredit over)) said same = subst IsCaused same refl
+      by (Ok answer.Stored) said same = absurd (cc)
+      by (Ok answer.Unchanged) said same = absurd (cc)
+      by (Ok (answer.Allowed reference)) said same = absurd (cc)
+      by (Ok (answer.Released amount)) said same = absurd (cc)
+      by (Ok (answer.Accepted amount period)) said same = absurd (cc)
+      by (Ok (answer.Repeated amount period)) said same = absurd (cc)
+      by (Ok (answer.Closed period positions)) said same = absurd (cc)
+      by (Ok (answer.Settled amount)) said same = absurd (cc)
+      by (Ok (answer.Exposure holds debts limit)) said same = absurd (cc)
+      by (Ok (answer.Found amount period credited)) said same = absurd (cc)
+      by (Ok (answer.Statement rows)) said same = absurd (cc)

@@ -1,4 +1,4 @@
--- Why a house turns a command down after these events, by what it replies.
+-- Why a house refuses a command after these events, by what it replies.
 use Rattle.std.specs.Prelude.{ℕ, ℤ, Bool, Option, None, Some, List, Result, Ok, Err, option_map}
 use Rattle.ocpi_json.specs.declared.name.Name.TheVariants as name
 use Rattle.ocpi_types.specs.declared.cdr.Cdr.{Cdr}

@@ -1,4 +1,4 @@
--- Why a house turns a command down, and the refusal that it is.
+-- Why a house refuses a command, and the refusal that it is.
 use Rattle.std.specs.Prelude.{Bool, true, false, Option, None, Some}
 use Rattle.ocpi_types.specs.declared.refusal.Refusal.{Refusal}
 use Rattle.ocpi_types.specs.declared.refusal.Refusal.TheVariants as refusal
@@ -69,6 +69,6 @@ is_by_event (reason.NoCdr id) = false
 is_by_event (reason.Full what party limit) = false
 is_by_event (reason.AboveLimit exposure limit pair) = false
 
--- a cause at a place of the request, by an event if one is to blame
+-- a cause at a place of the request, by no event
 abbrev pub cause_at : Place → HouseReason → HouseCause
 cause_at place why = record { place = Some place; reason = why; event = None }

@@ -30,15 +30,14 @@ EachRefusalHasACause =
     (config : Config) (events : List Event) (command : Command) (refusal : Refusal) → IsAdmitted config command →
     said_by_house config events command ≡ Err refusal → is_some (cause_of config events command (Err refusal)) ≡ true
 
--- it names an event if and only if an event gives its reason
+-- the cause of a reply names an event if and only if an event gives its reason
 abbrev pub CausesNameTheirEvents : Type 0
 CausesNameTheirEvents =
-    (config : Config) (events : List Event) (command : Command) (refusal : Refusal) (cause : HouseCause) → IsAdmitted config command →
-    said_by_house config events command ≡ Err refusal → cause_of config events command (Err refusal) ≡ Some cause →
-    is_some cause.event ≡ is_by_event cause.reason
+    (config : Config) (events : List Event) (command : Command) (cause : HouseCause) → IsAdmitted config command →
+    cause_of config events command (said_by_house config events command) ≡ Some cause → is_some cause.event ≡ is_by_event cause.reason
 
--- the answers BLOCKED and NO_CREDIT have causes, too
-pub record TheirAnswersHaveCauses : Type 0 where
+-- so have the answers that refuse, BLOCKED and NO_CREDIT
+pub record RefusingAnswersHaveCauses : Type 0 where
   pub blocked : (config : Config) (events : List Event) (command : Command) →
       said_by_house config events command ≡ Ok answer.Blocked → is_some (cause_of config events command (Ok answer.Blocked)) ≡ true
   pub no_credit : (config : Config) (events : List Event) (command : Command) (over : OverLimit) →

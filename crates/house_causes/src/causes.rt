@@ -1,4 +1,4 @@
-//! Why a house turns a command down.
+//! Why a house refuses a command.
 
 ghost use Rattle.std.specs.Prelude.{◌≡◌, option_copied, option_map};
 ghost use Rattle.house_causes.specs.Causes.{above_limit, answered, authorize_in, cause_of, cdr_in, conflict, find_in, not_covered, period_in, refused, release_in, said_in, settlement_in};

@@ -1,4 +1,4 @@
-//! Why a Credit CDR takes nothing back.
+//! Why a Credit CDR is refused.
 
 ghost use Rattle.std.specs.Prelude.{◌≡◌, option_map};
 ghost use Rattle.plain_house.specs.Booked.{shown_booked};

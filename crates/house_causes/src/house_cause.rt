@@ -1,4 +1,4 @@
-//! Why a house turns a command down.
+//! Why a house refuses a command.
 
 ghost use Rattle.std.specs.Prelude.{◌≡◌, Some};
 ghost use Rattle.ocpi_types.specs.declared.refusal.Refusal.TheVariants as refusal;
@@ -72,7 +72,7 @@ pub enum HouseReason {
     OfCredit {
         id: CiText<39>,
     },
-    /// Another CDR or Credit CDR credits the named CDR.
+    /// The named CDR is credited, by this Credit CDR.
     CreditedAlready {
         id: CiText<39>,
         credit: CiText<39>,
@@ -138,13 +138,13 @@ pub enum HouseReason {
     },
 }
 
-fn too_late(original: u64, current: u64) -> Refusal
+fn too_late_refusal(original: u64, current: u64) -> Refusal
     ensures { result ≡ refusal.TooLate original current }
 {
     Refusal::TooLate { original, current }
 }
 
-fn over_limit(exposure: Amount, limit: Amount, pair: bool) -> Refusal
+fn over_limit_refusal(exposure: Amount, limit: Amount, pair: bool) -> Refusal
     ensures { result ≡ refusal.OverLimit exposure limit pair }
 {
     Refusal::OverLimit {
@@ -155,7 +155,7 @@ fn over_limit(exposure: Amount, limit: Amount, pair: bool) -> Refusal
 }
 
 impl HouseReason {
-    /// The refusal that it is; none of the answers BLOCKED and NO_CREDIT.
+    /// Returns the refusal; none for the answers BLOCKED and NO_CREDIT.
     pub fn refusal(&self) -> Option<Refusal>
         ensures { result ≡ refusal_by self.now }
     {
@@ -173,7 +173,9 @@ impl HouseReason {
             HouseReason::NoOriginal { .. } => Refusal::UnknownOriginal,
             HouseReason::OfCredit { .. } => Refusal::CreditOfCredit,
             HouseReason::CreditedAlready { .. } => Refusal::AlreadyCredited,
-            HouseReason::BeforeWindow { original, current } => too_late(*original, *current),
+            HouseReason::BeforeWindow { original, current } => too_late_refusal(
+                *original, *current,
+            ),
             HouseReason::OtherProvider { .. }
             | HouseReason::OtherCurrency { .. }
             | HouseReason::AboveZero { .. }
@@ -190,13 +192,13 @@ impl HouseReason {
                 exposure,
                 limit,
                 pair,
-            } => over_limit(*exposure, *limit, *pair),
+            } => over_limit_refusal(*exposure, *limit, *pair),
         };
         Some(refusal)
     }
 }
 
-/// Why a house turns a command down.
+/// Why a house refuses a command.
 #[derive(Clone, Copy)]
 pub struct HouseCause {
     /// The member of the request that the house does not take; none if a store is full.

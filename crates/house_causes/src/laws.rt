@@ -1,6 +1,6 @@
 //! Laws of causes.
 
-ghost use Rattle.house_causes.specs.Laws.{CausesNameTheirEvents, CausesSayTheirRefusals, EachRefusalHasACause, TheirAnswersHaveCauses};
+ghost use Rattle.house_causes.specs.Laws.{CausesNameTheirEvents, CausesSayTheirRefusals, EachRefusalHasACause, RefusingAnswersHaveCauses};
 
 use cdr_checks::posts_are_checked;
 use ocpi_types::laws::{cdrs_without_difference_are_same, tariffs_without_difference_are_same};
@@ -19,7 +19,7 @@ pub fn each_refusal_has_a_cause()
     tariffs_without_difference_are_same();
 }
 
-/// States that the cause of a refusal names an event if and only if an event gives its reason.
+/// States that the cause of a reply names an event if and only if an event gives its reason.
 pub fn causes_name_their_events()
     ensures { CausesNameTheirEvents }
 {
@@ -28,7 +28,7 @@ pub fn causes_name_their_events()
     tariffs_without_difference_are_same();
 }
 
-/// States that the answers BLOCKED and NO_CREDIT have causes.
-pub fn turned_down_answers_have_causes()
-    ensures { TheirAnswersHaveCauses }
+/// States that the answers that refuse, BLOCKED and NO_CREDIT, have causes.
+pub fn refusing_answers_have_causes()
+    ensures { RefusingAnswersHaveCauses }
 {}

@@ -1,4 +1,4 @@
-//! Why a request is turned down: the place in the request, what was found there, what it was compared with, and the event that
+//! Why a request is refused: the place in the request, what was found there, what it was compared with, and the event that
 //! contradicts it.
 #![tactic(auto)]
 

@@ -1,4 +1,4 @@
-//! Why a request is turned down.
+//! Why a request is refused.
 
 ghost use Rattle.std.specs.Prelude.{◌≡◌};
 ghost use Rattle.house_causes.specs.Causes.{said_in};
@@ -11,13 +11,13 @@ use known_events::KnownEvents;
 use ocpi_types::{Config, Refusal};
 use plain_house::{Refused, Replied};
 
-/// Why a request is turned down.
+/// Why a request is refused.
 #[derive(Clone, Copy)]
 pub enum RequestCause {
     /// It is not admitted.
     NotAdmitted(Cause),
-    /// It is admitted, and the house turns its command down.
-    TurnedDown(HouseCause),
+    /// It is admitted, and the house refuses its command.
+    ByHouse(HouseCause),
 }
 
 impl RequestCause {
@@ -27,7 +27,7 @@ impl RequestCause {
     {
         match self {
             RequestCause::NotAdmitted(cause) => Some(cause.refusal()),
-            RequestCause::TurnedDown(cause) => cause.reason.refusal(),
+            RequestCause::ByHouse(cause) => cause.reason.refusal(),
         }
     }
 }
@@ -42,7 +42,7 @@ pub fn cause_of_request(
     ensures { result ≡ cause_of_request config.now events.now request (said_in reply.now) }
 {
     match admit(config, request) {
-        Ok(command) => Some(RequestCause::TurnedDown(cause_of(config, events, &command, reply)?)),
+        Ok(command) => Some(RequestCause::ByHouse(cause_of(config, events, &command, reply)?)),
         Err(cause) => Some(RequestCause::NotAdmitted(cause)),
     }
 }

@@ -16,10 +16,10 @@ use streamed::explain_stream;
 use table::explain;
 
 // Returns the exit status, by whether a line is refused.
-fn status(is_any_turned_down: bool) -> u8
-    ensures { (result ≡ 0) ↔ (is_any_turned_down ≡ false) }
+fn status(is_any_refused: bool) -> u8
+    ensures { (result ≡ 0) ↔ (is_any_refused ≡ false) }
 {
-    if is_any_turned_down { 3 } else { 0 }
+    if is_any_refused { 3 } else { 0 }
 }
 
 // Prints the rows of the lines of a reader, and returns whether there is one.

@@ -1,5 +1,6 @@
 pub mod NotJsonLemmas
 pub mod RefusedLemmas
+pub mod RefusedLinesLemmas
+pub mod RefusedStreamLemmas
 pub mod ShownMoments
 pub mod SixDecimals
-pub mod TurnedDownLemmas

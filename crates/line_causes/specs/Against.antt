@@ -3,7 +3,7 @@ use Rattle.std.specs.Prelude.{Bool, true}
 use Rattle.ocpi_json.specs.declared.expected.Expected.{Expected}
 use Rattle.ocpi_json.specs.declared.expected.Expected.TheVariants as expected
 use Rattle.house_causes.specs.declared.request_cause.RequestCause.{RequestCause}
-use Rattle.house_causes.specs.declared.request_cause.RequestCause.TheVariants.{NotAdmitted, TurnedDown}
+use Rattle.house_causes.specs.declared.request_cause.RequestCause.TheVariants.{NotAdmitted, ByHouse}
 use Rattle.line_causes.specs.HouseColumns.{house_against}
 use Rattle.line_causes.specs.ReasonColumns.{reason_against}
 use Rattle.line_causes.specs.declared.line_cause.LineCause.{LineCause}
@@ -13,7 +13,7 @@ use Rattle.line_causes.specs.declared.value.Value.TheVariants as value
 
 abbrev pub request_against : RequestCause → Value
 request_against (NotAdmitted cause) = reason_against cause.reason
-request_against (TurnedDown cause) = house_against cause.reason
+request_against (ByHouse cause) = house_against cause.reason
 
 -- what a member has to be; a stream has a command more
 abbrev pub member_against : Expected → Bool → Value

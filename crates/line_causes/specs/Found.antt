@@ -3,7 +3,7 @@ use Rattle.std.specs.Prelude.{ℕ, List, Option, Some, None}
 use Rattle.ocpi_json.specs.declared.expected.Expected.{Expected}
 use Rattle.ocpi_json.specs.declared.expected.Expected.TheVariants as expected
 use Rattle.house_causes.specs.declared.request_cause.RequestCause.{RequestCause}
-use Rattle.house_causes.specs.declared.request_cause.RequestCause.TheVariants.{NotAdmitted, TurnedDown}
+use Rattle.house_causes.specs.declared.request_cause.RequestCause.TheVariants.{NotAdmitted, ByHouse}
 use Rattle.line_causes.specs.HouseColumns.{house_found}
 use Rattle.line_causes.specs.ReasonColumns.{reason_found}
 use Rattle.line_causes.specs.declared.line_cause.LineCause.{LineCause}
@@ -13,7 +13,7 @@ use Rattle.line_causes.specs.declared.value.Value.TheVariants as value
 
 abbrev pub request_found : RequestCause → Value
 request_found (NotAdmitted cause) = reason_found cause.reason
-request_found (TurnedDown cause) = house_found cause.reason
+request_found (ByHouse cause) = house_found cause.reason
 
 -- the value in the place of a member
 abbrev pub standing : Option (List ℕ) → Value

@@ -1,4 +1,4 @@
--- The columns `cause`, `found` and `against` of a command that the house turns down.
+-- The columns `cause`, `found` and `against` of a command that the house refuses.
 use Rattle.std.specs.Prelude.{ℕ, List, Bool, true, false, Option, Some, None, codes}
 use Rattle.ocpi_types.specs.declared.party.Party.{Party}
 use Rattle.ocpi_types.specs.declared.refusal.Store.{Store}

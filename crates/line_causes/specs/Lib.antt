@@ -15,6 +15,7 @@ pub mod NotJson
 pub mod ReasonColumns
 pub mod RefusalNames
 pub mod Refused
+pub mod ShortText
 pub mod StreamCauses
 pub mod Value
 pub mod Words

@@ -1,4 +1,4 @@
--- Why a house turns a line of a script down, by what it replies.
+-- Why a house refuses a line of a script, by what it replies.
 use Rattle.std.specs.Prelude.{◌≡◌, ℕ, false, List, Option, None, Some, Result, Ok, Err}
 use Rattle.std.specs.Str.{is_utf8}
 use Rattle.json.specs.Json.{Json as Data}
@@ -33,6 +33,6 @@ abbrev pub IsCauseIn : Config → List Event → Reply → List ℕ → Option D
 IsCauseIn config events reply line None why = IsNotJson (is_utf8 line) line why
 IsCauseIn config events reply line (Some node) why = IsCauseAt config events reply node (request_at node) why
 
--- the line is no JSON, or has a fault at a member, or its request is turned down
+-- the line is no JSON, or has a fault at a member, or its request is refused
 unfoldable pub IsCauseOfLine : Config → List Event → Reply → List ℕ → LineCause → Type 0
 IsCauseOfLine config events reply line why = IsCauseIn config events reply line (data_of line) why

@@ -6,7 +6,7 @@ use Rattle.ocpi_json.specs.declared.name.Name.TheVariants as name
 use Rattle.cdr_checks.specs.Place.{at}
 use Rattle.cdr_checks.specs.declared.place.Place.{Place}
 use Rattle.house_causes.specs.declared.request_cause.RequestCause.{RequestCause}
-use Rattle.house_causes.specs.declared.request_cause.RequestCause.TheVariants.{NotAdmitted, TurnedDown}
+use Rattle.house_causes.specs.declared.request_cause.RequestCause.TheVariants.{NotAdmitted, ByHouse}
 use Rattle.line_causes.specs.declared.line_cause.LineCause.{LineCause}
 use Rattle.line_causes.specs.declared.line_cause.LineCause.TheVariants as line
 use Rattle.line_causes.specs.declared.line_place.LinePlace.{LinePlace}
@@ -33,7 +33,7 @@ place_if (Some place) = Member place
 
 abbrev pub place_of_request : RequestCause → LinePlace
 place_of_request (NotAdmitted cause) = Member cause.place
-place_of_request (TurnedDown cause) = place_if cause.place
+place_of_request (ByHouse cause) = place_if cause.place
 
 abbrev pub place_of : LineCause → LinePlace
 place_of (line.NotUtf8 column) = Column column

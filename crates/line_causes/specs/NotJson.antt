@@ -1,5 +1,5 @@
 -- The column at which a line stops being text or JSON.
-use Rattle.std.specs.Prelude.{◌≡◌, ℕ, ◌+◌, Bool, true, false, ◌||◌, List, count_by, nat_le, nat_lt, take}
+use Rattle.std.specs.Prelude.{◌≡◌, ℕ, ◌+◌, ◌≤◌, Bool, true, false, ◌||◌, List, count_by, length, nat_le, nat_lt, take}
 use Rattle.std.specs.Str.Lossy.{utf8_valid_len}
 use Rattle.line_causes.specs.declared.line_cause.LineCause.{LineCause}
 use Rattle.line_causes.specs.declared.line_cause.LineCause.TheVariants.{NotJson, NotUtf8}
@@ -8,11 +8,11 @@ use Rattle.line_causes.specs.declared.line_cause.LineCause.TheVariants.{NotJson,
 abbrev pub begins_character : ℕ → Bool
 begins_character byte = nat_lt byte 128 || nat_le 192 byte
 
--- the column, from 1, after so many bytes
+-- the column, from 1, after this many bytes
 abbrev pub column_after : List ℕ → ℕ → ℕ
 column_after line count = count_by begins_character (take count line) + 1
 
--- by whether the line is UTF-8: after the longest part of it that is, or at some column
+-- by whether the line is UTF-8: after the longest part of it that is, or after some part of the line
 abbrev pub IsNotJson : Bool → List ℕ → LineCause → Type 0
 IsNotJson false line cause = cause ≡ NotUtf8 (column_after line (utf8_valid_len line))
-IsNotJson true line cause = (column : ℕ) × (cause ≡ NotJson column)
+IsNotJson true line cause = (count : ℕ) × (count ≤ length line) × (cause ≡ NotJson (column_after line count))

@@ -1,5 +1,5 @@
 -- Whether a line of a stream is refused, and the reply to what is done for it.
-use Rattle.std.specs.Prelude.{◌≡◌, ℕ, Bool, true, false, List, Option, Some, None, Result, Ok, Err, codes}
+use Rattle.std.specs.Prelude.{◌≡◌, ℕ, Bool, true, false, List, Option, Some, None, Result, Ok, Err}
 use Rattle.std.specs.Str.{bytes_eq}
 use Rattle.ocpi_types.specs.declared.refusal.Refusal.{Refusal}
 use Rattle.ocpi_types.specs.Refusal.{refusal_name}
@@ -10,9 +10,10 @@ use Rattle.line_streams.specs.State.{Remembered, StreamState}
 use Rattle.line_streams.specs.Stream.{found_under, key_of}
 use Rattle.line_streams.specs.declared.asked.Asked.{Asked}
 use Rattle.line_streams.specs.declared.asked.AskedLine.{AskedLine}
+use Rattle.line_streams.specs.declared.reply.LineReply.TheVariants as given
 use Rattle.line_streams.specs.declared.reply.StreamReply.{StreamReply}
 use Rattle.line_streams.specs.declared.reply.StreamReply.TheVariants as reply
-use Rattle.line_causes.specs.RefusalNames.{refused_by}
+use Rattle.line_causes.specs.RefusalNames.{refused_by, refused_undone}
 
 -- a line that is done is refused as its reply is
 pub record IsRefusedBy (house : StreamHouse) (asks : Asked) (done : Option StreamReply) (name : Option (List ℕ)) : Type 0 where
@@ -24,7 +25,7 @@ pub record IsRefusedBy (house : StreamHouse) (asks : Asked) (done : Option Strea
 -- under the request id of a line that was done, that line is repeated, and another is refused
 abbrev pub refused_again : Bool → Option (List ℕ)
 refused_again true = None
-refused_again false = Some (codes "RequestIdUsed")
+refused_again false = refused_undone given.IdUsed
 
 abbrev pub IsRefusedOnce : StreamHouse → Asked → Option Remembered → List ℕ → Option StreamReply → Option (List ℕ) → Type 0
 IsRefusedOnce house asks None line done name = IsRefusedBy house asks done name

@@ -1,5 +1,5 @@
--- Why a stream turns a line down, by its reply to what the line asks for.
-use Rattle.std.specs.Prelude.{◌≡◌, ℕ, true, ◌&&◌, List, [], Option, None, Some, Result, Ok, Err, length, nat_le, if◌then◌else◌}
+-- Why a stream refuses a line, by its reply to what the line asks for.
+use Rattle.std.specs.Prelude.{◌≡◌, ℕ, true, List, Option, None, Some, Result, Ok, Err}
 use Rattle.std.specs.Str.{is_utf8}
 use Rattle.json.specs.Json.{Json as Data}
 use Rattle.ocpi_json.specs.Folded.{is_printable}
@@ -19,6 +19,7 @@ use Rattle.house_causes.specs.declared.request_cause.RequestCause.TheVariants.{N
 use Rattle.line_causes.specs.LineCauses.{request_line_cause}
 use Rattle.line_causes.specs.Members.{IsMember}
 use Rattle.line_causes.specs.NotJson.{IsNotJson}
+use Rattle.line_causes.specs.ShortText.{short_text}
 use Rattle.line_causes.specs.declared.line_cause.LineCause.{LineCause}
 use Rattle.line_causes.specs.declared.line_cause.LineCause.TheVariants as cause
 
@@ -26,10 +27,6 @@ use Rattle.line_causes.specs.declared.line_cause.LineCause.TheVariants as cause
 abbrev pub by_hub : Result Unit Cause → LineCause
 by_hub (Ok hub) = cause.Unknown
 by_hub (Err why) = cause.Request (NotAdmitted why)
-
--- a text of at most 64 printable characters, and nothing in the place of another
-abbrev pub short_text : List ℕ → List ℕ
-short_text text = if is_printable text && nat_le (length text) 64 then text else []
 
 -- the cause of the reply to a request or a change
 abbrev pub done_cause : Config → List Event → Asked → StreamReply → LineCause
@@ -61,6 +58,6 @@ abbrev pub IsStreamCauseIn : Config → List Event → Option StreamReply → Li
 IsStreamCauseIn config events answer line None why = IsNotJson (is_utf8 line) line why
 IsStreamCauseIn config events answer line (Some node) why = IsStreamCauseAt config events answer node (line_at node) why
 
--- the line is no JSON, or has a fault at a member, or what it asks for is turned down
+-- the line is no JSON, or has a fault at a member, or what it asks for is refused
 unfoldable pub IsCauseOfStreamLine : Config → List Event → Option StreamReply → List ℕ → LineCause → Type 0
 IsCauseOfStreamLine config events answer line why = IsStreamCauseIn config events answer line (data_of line) why

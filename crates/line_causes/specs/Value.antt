@@ -1,11 +1,12 @@
 -- The values in the columns `found` and `against`.
-use Rattle.std.specs.Prelude.{ℕ, List, [], codes, decimal}
+use Rattle.std.specs.Prelude.{ℕ, List, [], ◌++◌, codes, decimal}
 use Rattle.exact_money.specs.Amount.{amount_text}
 use Rattle.ocpi_types.specs.Party.{party_text}
 use Rattle.ocpi_types.specs.declared.token.TokenKind.{TokenKind}
 use Rattle.ocpi_types.specs.declared.token.TokenKind.TheVariants.{AdHocUser, AppUser, Other, Rfid}
 use Rattle.line_causes.specs.Decimals.{energy_text, millionths_text}
 use Rattle.ocpi_json.specs.ExpectedText.{expected_text}
+use Rattle.ocpi_json.specs.declared.expected.Expected.TheVariants as expected
 use Rattle.line_causes.specs.MomentText.{moment_text}
 use Rattle.line_causes.specs.declared.value.Value.{Value}
 use Rattle.line_causes.specs.declared.value.Value.TheVariants as value
@@ -17,8 +18,9 @@ kind_text AppUser = codes "APP_USER"
 kind_text Other = codes "OTHER"
 kind_text Rfid = codes "RFID"
 
+-- the commands of a script, and that of a change
 abbrev pub stream_commands : List ℕ
-stream_commands = codes "one of put_tariff put_token authorize release post close settle exposure find statement configure"
+stream_commands = expected_text expected.Command ++ (codes " " ++ expected_text expected.Change)
 
 unfoldable pub value_text : Value → List ℕ
 value_text value.Nothing = []

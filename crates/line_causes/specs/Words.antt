@@ -3,7 +3,7 @@ use Rattle.std.specs.Prelude.{List, ℕ, [], codes, Bool, true, false, is_some}
 use Rattle.ocpi_json.specs.declared.expected.Expected.{Expected}
 use Rattle.ocpi_json.specs.declared.expected.Expected.TheVariants as expected
 use Rattle.house_causes.specs.declared.request_cause.RequestCause.{RequestCause}
-use Rattle.house_causes.specs.declared.request_cause.RequestCause.TheVariants.{NotAdmitted, TurnedDown}
+use Rattle.house_causes.specs.declared.request_cause.RequestCause.TheVariants.{NotAdmitted, ByHouse}
 use Rattle.line_causes.specs.HouseColumns.{house_words}
 use Rattle.line_causes.specs.ReasonColumns.{reason_words}
 use Rattle.line_causes.specs.declared.line_cause.LineCause.{LineCause}
@@ -11,7 +11,7 @@ use Rattle.line_causes.specs.declared.line_cause.LineCause.TheVariants as line
 
 abbrev pub request_words : RequestCause → List ℕ
 request_words (NotAdmitted cause) = reason_words cause.reason
-request_words (TurnedDown cause) = house_words cause.reason
+request_words (ByHouse cause) = house_words cause.reason
 
 -- a member that has no value, or another one than it has to have
 abbrev pub value_words : Bool → List ℕ

@@ -15,7 +15,7 @@ fn request_against(cause: &RequestCause) -> Value
 {
     match cause {
         RequestCause::NotAdmitted(cause) => reason_against(&cause.reason),
-        RequestCause::TurnedDown(cause) => house_against(&cause.reason),
+        RequestCause::ByHouse(cause) => house_against(&cause.reason),
     }
 }
 

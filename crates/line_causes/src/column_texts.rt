@@ -36,6 +36,10 @@ fn event_text(alloc: Global, event: Option<usize>) -> Result<String, AllocError>
 }
 
 /// Returns the columns of a line that is refused for this cause.
+///
+/// # Errors
+///
+/// `AllocError` if an allocation fails.
 pub fn columns(alloc: Global, cause: &LineCause) -> Result<ColumnTexts, AllocError>
     ensures { IfOk result (λ texts. column_texts texts ≡ columns_of cause.now) }
 {

@@ -11,7 +11,7 @@ fn event_of_request(cause: &RequestCause) -> Option<usize>
 {
     match cause {
         RequestCause::NotAdmitted(_) => None,
-        RequestCause::TurnedDown(cause) => cause.event,
+        RequestCause::ByHouse(cause) => cause.event,
     }
 }
 

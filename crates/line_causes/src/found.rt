@@ -16,7 +16,7 @@ fn request_found(cause: &RequestCause) -> Value
 {
     match cause {
         RequestCause::NotAdmitted(cause) => reason_found(&cause.reason),
-        RequestCause::TurnedDown(cause) => house_found(&cause.reason),
+        RequestCause::ByHouse(cause) => house_found(&cause.reason),
     }
 }
 

@@ -1,4 +1,4 @@
-//! The columns of a command that the house turns down.
+//! The columns of a command that the house refuses.
 
 ghost use Rattle.std.specs.Prelude.{◌≡◌};
 ghost use Rattle.line_causes.specs.HouseColumns.{house_against, house_found, house_words, limit_words, party_if, store_words};

@@ -48,6 +48,10 @@ fn put_columns(out: &mut Writer, texts: &ColumnTexts) -> Result<(), AllocError>
 
 /// Returns the columns of a line that is refused for this cause as one JSON object without spaces. An empty column has no member:
 /// `{"place":"uid","cause":"token that is not valid","found":"012345"}`.
+///
+/// # Errors
+///
+/// `AllocError` if an allocation fails.
 #[tactic(auto, unfolding(crate::specs::JsonText::json_text))]
 pub fn json_of(alloc: Global, cause: &LineCause) -> Result<String, AllocError>
     ensures { IfOk result (λ text. string_bytes text ≡ json_text cause.now) }

@@ -1,15 +1,23 @@
 //! Laws of the causes of lines.
 
-ghost use Rattle.line_causes.specs.Laws.{RepliesNameRefusals, TurnedDownLinesHaveCauses};
+ghost use Rattle.line_causes.specs.Laws.{RefusedLinesHaveCauses, RefusedStreamLinesHaveCauses, RepliesNameRefusals};
 
-use house_causes::laws::{each_refusal_has_a_cause, turned_down_answers_have_causes};
+use house_causes::laws::{each_refusal_has_a_cause, refusing_answers_have_causes};
 
-/// States that no line that a house turns down is without a cause.
-pub fn turned_down_lines_have_causes()
-    ensures { TurnedDownLinesHaveCauses }
+/// States that no line that a house refuses is without a cause.
+pub fn refused_lines_have_causes()
+    ensures { RefusedLinesHaveCauses }
 {
     each_refusal_has_a_cause();
-    turned_down_answers_have_causes();
+    refusing_answers_have_causes();
+}
+
+/// States that no line that a stream refuses is without a cause.
+pub fn refused_stream_lines_have_causes()
+    ensures { RefusedStreamLinesHaveCauses }
+{
+    each_refusal_has_a_cause();
+    refusing_answers_have_causes();
 }
 
 /// States that the name in a stream's reply to a line is that of the line's refusal.

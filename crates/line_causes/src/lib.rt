@@ -1,4 +1,4 @@
-//! Why a line is turned down, and the texts that say so: the place, the cause in words, what was found there, what it was compared
+//! Why a line is refused, and the texts that say so: the place, the cause in words, what was found there, what it was compared
 //! with, and the number of the event that contradicts the line.
 #![tactic(auto)]
 
@@ -18,6 +18,7 @@ mod moment;
 mod not_json;
 mod reason_columns;
 mod refusal_names;
+mod short_text;
 mod stream_causes;
 mod value;
 mod words;
@@ -30,7 +31,7 @@ pub use json_object::json_of;
 pub use line_cause::LineCause;
 pub use line_causes::cause_of_line;
 pub use line_place::{LinePlace, place_in};
-pub use refusal_names::{refused, turned_down};
+pub use refusal_names::{refused, refused_by_reply};
 pub use stream_causes::cause_of_stream_line;
 pub use value::Value;
 pub use words::words_of;

@@ -1,10 +1,10 @@
-//! Why a line is turned down.
+//! Why a line is refused.
 
 use house_causes::RequestCause;
 use ocpi_json::MemberFault;
 use ocpi_json::ci_text::CiText;
 
-/// Why a line is turned down.
+/// Why a line is refused.
 #[derive(Clone, Copy)]
 pub enum LineCause {
     /// The bytes stop being UTF-8 at this column, in characters from 1.
@@ -23,7 +23,7 @@ pub enum LineCause {
         /// Whether the line is one of a stream, which takes the command `configure` too.
         of_stream: bool,
     },
-    /// A request, or a change of the configuration, is not admitted, or the house turns the command down.
+    /// A request, or a change of the configuration, is not admitted, or the house refuses the command.
     Request(RequestCause),
     /// With the configuration that the line asks for, the event of this number, from 0, and of this kind would come out otherwise.
     ComesOutOtherwise {

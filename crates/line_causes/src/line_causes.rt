@@ -1,4 +1,4 @@
-//! Why a line of a script is turned down.
+//! Why a line of a script is refused.
 
 ghost use Rattle.std.specs.Prelude.{◌≡◌, IfOk};
 ghost use Rattle.line_causes.specs.LineCauses.{IsCauseOfLine, request_line_cause};

@@ -52,7 +52,7 @@ fn place_of_request(cause: &RequestCause) -> LinePlace
 {
     match cause {
         RequestCause::NotAdmitted(cause) => LinePlace::Member(cause.place),
-        RequestCause::TurnedDown(cause) => match cause.place {
+        RequestCause::ByHouse(cause) => match cause.place {
             Some(place) => LinePlace::Member(place),
             None => LinePlace::Nowhere,
         },

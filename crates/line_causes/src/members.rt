@@ -4,6 +4,7 @@ ghost use Rattle.std.specs.Prelude.{IfOk};
 ghost use Rattle.line_causes.specs.Members.{IsMember};
 
 use crate::line_cause::LineCause;
+use crate::short_text::short_text;
 use command_line::text_of_found;
 use ocpi_json::ci_text::CiText;
 use ocpi_json::{MemberFault, Node, standing_at};
@@ -11,13 +12,14 @@ use std::alloc::{AllocError, Global};
 
 // The text of a value, as `text_of_found` writes it.
 fn text_of(alloc: Global, value: &Node) -> Result<CiText<64>, AllocError> {
-    match CiText::new(text_of_found(alloc, Some(value))?.as_str()) {
-        Some(text) => Ok(text),
-        None => Ok(CiText::new("").unwrap()),
-    }
+    Ok(short_text(text_of_found(alloc, Some(value))?.as_str()))
 }
 
-/// Why the member at fault is not read, of this line or of one of a stream.
+/// Returns why the member at fault is not read, of this line or of one of a stream.
+///
+/// # Errors
+///
+/// `AllocError` if an allocation fails.
 pub fn cause_of_member(
     alloc: Global,
     line: Node,

@@ -18,7 +18,7 @@ fn begins_character(byte: &u8) -> bool
     *byte < 0x80 || 0xc0 <= *byte
 }
 
-// The column, from 1, after so many bytes of a line.
+// Returns the column, from 1, after `count` bytes of a line.
 fn column_after(line: &[u8], count: usize) -> usize
     requires { count ≤ length line.now }
     ensures { result ≡ column_after line.now count }
@@ -35,14 +35,19 @@ fn read_bytes(alloc: Global, text: &str) -> Result<usize, AllocError> {
     Ok(reader.offset())
 }
 
-/// Where a line stops being text or JSON, in a line that is no JSON.
+/// Returns where a line that is no JSON stops being text or JSON.
+///
+/// # Errors
+///
+/// `AllocError` if an allocation fails.
 pub fn cause_of_text(alloc: Global, line: &[u8]) -> Result<LineCause, AllocError>
     ensures { IfOk result (λ cause. IsNotJson (is_utf8 line.now) line.now cause) }
 {
     match str::from_utf8(line) {
         Ok(text) => {
             let read = read_bytes(alloc, text)?;
-            let column = column_after(line, read.min(line.len()));
+            let count = read.min(line.len());
+            let column = column_after(line, count);
             Ok(LineCause::NotJson { column })
         }
         Err(error) => {

@@ -2,13 +2,13 @@
 
 ghost use Rattle.std.specs.Prelude.{◌≡◌, option_map};
 ghost use Rattle.line_streams.specs.Given.{done_by};
-ghost use Rattle.line_causes.specs.RefusalNames.{refused_by, refused_in, refused_undone, turned_down, turned_down_by};
+ghost use Rattle.line_causes.specs.RefusalNames.{refused_by, refused_in, refused_undone, refused_by_reply, refused_by_answer};
 
 use line_streams::{LineReply, Stream, StreamReply};
 use plain_house::{Answer, Refused, Replied};
 
-fn turned_down_by(answer: &Answer) -> Option<&'static str>
-    ensures { option_map (λ name. name.now) result ≡ turned_down_by answer.now }
+fn refused_by_answer(answer: &Answer) -> Option<&'static str>
+    ensures { option_map (λ name. name.now) result ≡ refused_by_answer answer.now }
 {
     match answer {
         Answer::Blocked => Some("BLOCKED"),
@@ -28,11 +28,11 @@ fn turned_down_by(answer: &Answer) -> Option<&'static str>
 }
 
 /// Returns the name on the answer line of a reply that is a refusal, `BLOCKED` or `NO_CREDIT`.
-pub fn turned_down(reply: &Result<Replied, Refused>) -> Option<&'static str>
-    ensures { option_map (λ name. name.now) result ≡ turned_down reply.now }
+pub fn refused_by_reply(reply: &Result<Replied, Refused>) -> Option<&'static str>
+    ensures { option_map (λ name. name.now) result ≡ refused_by_reply reply.now }
 {
     match reply {
-        Ok(replied) => turned_down_by(&replied.answer),
+        Ok(replied) => refused_by_answer(&replied.answer),
         Err(refused) => Some(refused.refusal.name()),
     }
 }
@@ -42,7 +42,7 @@ fn refused_by(reply: &StreamReply) -> Option<&'static str>
     ensures { option_map (λ name. name.now) result ≡ refused_by reply.now }
 {
     match reply {
-        StreamReply::House(reply) => turned_down(reply),
+        StreamReply::House(reply) => refused_by_reply(reply),
         StreamReply::Configured { .. } | StreamReply::Lowered { .. } => None,
         StreamReply::Otherwise { .. } => Some("ComesOutOtherwise"),
     }

@@ -1,13 +1,14 @@
-//! Why a line of a stream is turned down.
+//! Why a line of a stream is refused.
 
 ghost use Rattle.std.specs.Prelude.{◌≡◌, IfOk, option_copied};
 ghost use Rattle.cdr_checks.specs.Asking.{is_a_hub};
-ghost use Rattle.line_causes.specs.StreamCauses.{IsCauseOfAsked, IsCauseOfStreamLine, IsUsedId, by_hub, done_cause, short_text};
+ghost use Rattle.line_causes.specs.StreamCauses.{IsCauseOfAsked, IsCauseOfStreamLine, IsUsedId, by_hub, done_cause};
 
 use crate::line_cause::LineCause;
 use crate::line_causes::request_line_cause;
 use crate::members::cause_of_member;
 use crate::not_json::cause_of_text;
+use crate::short_text::short_text;
 use cdr_checks::is_a_hub;
 use command_line::text_of_found;
 use house_causes::RequestCause;
@@ -20,16 +21,6 @@ use ocpi_json::{Node, ReadFault};
 use ocpi_types::Config;
 use request_lines::LineRoom;
 use std::alloc::{AllocError, Global};
-
-// A text of at most 64 printable characters, and nothing in the place of another.
-fn short_text(text: &str) -> CiText<64>
-    ensures { result ≡ short_text text.now }
-{
-    match CiText::new(text) {
-        Some(short) => short,
-        None => CiText::new("").unwrap(),
-    }
-}
 
 // Whether a hub asks for the change.
 fn by_hub(config: &Config, change: &Change) -> LineCause

@@ -50,9 +50,6 @@ fn kind_word(kind: TokenKind) -> &'static str
     }
 }
 
-const STREAM_COMMANDS: &str =
-    "one of put_tariff put_token authorize release post close settle exposure find statement configure";
-
 /// Writes amounts with four decimals, volumes, energies and declared costs with six, and moments in UTC with a `Z`.
 impl fmt::Display for Value {
     ghost use Rattle.std.specs.Prelude.{Some};
@@ -77,7 +74,7 @@ impl fmt::Display for Value {
             Value::Energy(millionths) => write_energy(f, *millionths),
             Value::Written(text) => f.write_str(text.as_str()),
             Value::Expected(expected) => write!(f, "{expected}"),
-            Value::StreamCommand => f.write_str(STREAM_COMMANDS),
+            Value::StreamCommand => write!(f, "{} {}", Expected::Command, Expected::Change),
         }
     }
 }

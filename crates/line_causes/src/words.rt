@@ -14,7 +14,7 @@ fn request_words(cause: &RequestCause) -> &'static str
 {
     match cause {
         RequestCause::NotAdmitted(cause) => reason_words(&cause.reason),
-        RequestCause::TurnedDown(cause) => house_words(&cause.reason),
+        RequestCause::ByHouse(cause) => house_words(&cause.reason),
     }
 }
 

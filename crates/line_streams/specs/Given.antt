@@ -1,5 +1,5 @@
 -- What a stream replies to a line, before the reply is written.
-use Rattle.std.specs.Prelude.{◌≡◌, ℕ, Bool, true, false, List, Option, Some, None, Result, Ok, Err, option_map}
+use Rattle.std.specs.Prelude.{◌≡◌, ℕ, Bool, true, false, List, Option, Some, None, Result, Ok, Err, length, option_map}
 use Rattle.std.specs.Map.{lookup}
 use Rattle.std.specs.Str.{bytes_eq}
 use Rattle.ocpi_types.specs.declared.config.Config.{Config}
@@ -8,6 +8,8 @@ use Rattle.ocpi_types.specs.declared.refusal.Refusal.TheVariants as refusal
 use Rattle.ocpi_types.specs.Config.{is_hub}
 use Rattle.cdr_checks.specs.Admission.{admission}
 use Rattle.plain_house.specs.Legal.{IsLegal}
+use Rattle.plain_house.specs.declared.event.Event.{Event}
+use Rattle.house_statements.specs.Order.{event_name}
 use Rattle.request_lines.specs.Script.{reply_to}
 use Rattle.new_configuration.specs.Loosened.{loosened}
 use Rattle.new_configuration.specs.TakenOver.{IsFirstOtherwise}
@@ -28,12 +30,18 @@ use Rattle.line_streams.specs.declared.stream.Stream.{Stream}
 
 -- ---- what is done
 
+-- the first event that would come out otherwise under the configuration, by its number and its kind
+abbrev pub IsNamedOtherwise : Config → List Event → ℕ → List ℕ → Type 0
+IsNamedOtherwise config events number kind = (first : IsFirstOtherwise config events number) × (kind ≡ event_name first.event)
+
 -- a change is made if all events come out again under it or once it is loosened, and refused if one would not however loose it is
 abbrev pub IsReplyToChange : StreamHouse → Config → StreamReply → Type 0
 IsReplyToChange house config (reply.House answer) = ⊥
-IsReplyToChange house config (reply.Configured at) = IsLegal config house.events
-IsReplyToChange house config (reply.Lowered at event kind) = IsLegal (loosened config) house.events
-IsReplyToChange house config (reply.Otherwise at event kind) = IsFirstOtherwise (loosened config) house.events event
+IsReplyToChange house config (reply.Configured at) = (at ≡ length house.events) × IsLegal config house.events
+IsReplyToChange house config (reply.Lowered at event kind) =
+    (at ≡ length house.events) × IsNamedOtherwise config house.events event kind.now × IsLegal (loosened config) house.events
+IsReplyToChange house config (reply.Otherwise at event kind) =
+    (at ≡ length house.events) × IsNamedOtherwise (loosened config) house.events event kind.now
 
 -- by whether a hub asks for the change
 abbrev pub IsReplyByHub : Bool → StreamHouse → Config → StreamReply → Type 0

@@ -1,7 +1,7 @@
 -- The rows of all lines that a new house answers.
 use Rattle.std.proofs.Common.{◌≡◌, ℕ, ◌+◌, ◌<◌, ◌^◌, Bool, ◌||◌, List, [], length, sym, ap, ◌∙◌, subst, zero-add}
 use Rattle.plain_house.specs.declared.event.Event.{Event}
-use Rattle.house_reports.specs.explain_lines.Rows.{AreTold, is_any_turned_down}
+use Rattle.house_reports.specs.explain_lines.Rows.{AreTold, is_any_refused}
 use Rattle.house_reports.specs.explain_lines.Inner.Telling.{IsNew, Standing, Tells}
 
 module _ (start reached : Standing) (lines : List (List ℕ)) (rows : List ℕ) (is_new : IsNew start) (tells : Tells start reached lines rows) where
@@ -12,8 +12,8 @@ module _ (start reached : Standing) (lines : List (List ℕ)) (rows : List ℕ) 
       (subst (λ (n : ℕ). AreTold start.config start.events n lines rows) is_new.no_line
       (tells.told (is_new.none_kept ∙ sym is_new.no_event) (subst (λ (n : ℕ). n < 2 ^ 128) all fits)))
 
-  pub any_told : reached.any ≡ is_any_turned_down start.config [] lines
+  pub any_told : reached.any ≡ is_any_refused start.config [] lines
   any_told =
       tells.any_is
-      ∙ ap (λ (b : Bool). b || is_any_turned_down start.config start.events lines) is_new.no_refusal
-      ∙ ap (λ (l : List Event). is_any_turned_down start.config l lines) is_new.no_event
+      ∙ ap (λ (b : Bool). b || is_any_refused start.config start.events lines) is_new.no_refusal
+      ∙ ap (λ (l : List Event). is_any_refused start.config l lines) is_new.no_event

@@ -7,7 +7,7 @@ ghost use Rattle.house_reports.specs.explain_lines.Table.{IsRow};
 use crate::explain_lines::added::keep_added;
 use crate::explain_lines::row::row;
 use known_events::KnownEvents;
-use line_causes::{cause_of_line, turned_down};
+use line_causes::{cause_of_line, refused_by_reply};
 use ocpi_types::{Config, TryCopy};
 use period_order::BookHouse;
 use plain_house::{Refused, Replied, is_out_of_memory, out_of_memory, replies_tell_events};
@@ -26,7 +26,7 @@ pub(crate) struct Explainer<'c> {
     /// The number of answered lines.
     lines: u128,
     /// Whether one of them was refused.
-    pub is_any_turned_down: bool,
+    pub is_any_refused: bool,
     ghost same: { house.config ≡ config.now },
 }
 
@@ -58,7 +58,7 @@ impl<'c> Explainer<'c> {
     pub(crate) fn new(alloc: Global, config: &'c Config) -> Result<Explainer<'c>, AllocError>
         ensures config { IfOk result (λ explainer. explainer.config.now ≡ config.now) }
         ensures empty { IfOk result (λ explainer. (explainer.house.events ≡ []) × (explainer.events ≡ [])) }
-        ensures none { IfOk result (λ explainer. (explainer.lines ≡ 0) × (explainer.is_any_turned_down ≡ false)) }
+        ensures none { IfOk result (λ explainer. (explainer.lines ≡ 0) × (explainer.is_any_refused ≡ false)) }
     {
         let house = BookHouse::new(alloc, config.copy(alloc)?)?;
         Ok(Explainer {
@@ -67,14 +67,14 @@ impl<'c> Explainer<'c> {
             events: KnownEvents::new(alloc),
             room: LineRoom::new(alloc),
             lines: 0,
-            is_any_turned_down: false,
+            is_any_refused: false,
         })
     }
 
     // Returns the reply of the house to a line. If an allocation fails, the house is as before the line or after it.
     fn reply(&mut self, alloc: Global, line: &[u8]) -> Result<Replied, Refused>
         ensures rest { (self.new.config.now ≡ self.old.config.now) × (self.new.lines ≡ self.old.lines)
-            × (self.new.is_any_turned_down ≡ self.old.is_any_turned_down) }
+            × (self.new.is_any_refused ≡ self.old.is_any_refused) }
         ensures reply { is_no_memory result ≡ false → result ≡ reply_in self.old.config.now self.old.house.events line.now }
         ensures house { is_no_memory result ≡ false → self.new.house.events ≡ after self.old.config.now self.old.house.events line.now }
         ensures events { is_no_memory result ≡ false → self.old.events ≡ self.old.house.events → self.new.events ≡ self.new.house.events }
@@ -97,10 +97,10 @@ impl<'c> Explainer<'c> {
     ) -> Result<Vec<u8>, AllocError>
         ensures rest { (self.new.config.now ≡ self.old.config.now) × (self.new.house ≡ self.old.house)
             × (self.new.events ≡ self.old.events) × (self.new.lines ≡ self.old.lines) }
-        ensures any { self.new.is_any_turned_down ≡ true }
+        ensures any { self.new.is_any_refused ≡ true }
         ensures row { IfOk result (λ text. IsRow self.old.lines refusal.now (IsCauseOfLine self.old.config.now self.old.events reply.now line.now) text.items) }
     {
-        self.is_any_turned_down = true;
+        self.is_any_refused = true;
         row_of_line(
             alloc,
             &mut self.room,
@@ -134,7 +134,7 @@ impl Answerer for Explainer<'_> {
         if is_out_of_memory(&reply) {
             return Err(AllocError);
         }
-        match turned_down(&reply) {
+        match refused_by_reply(&reply) {
             Some(refusal) => self.row(alloc, line, &reply, refusal),
             None => Ok(Vec::new(alloc)),
         }

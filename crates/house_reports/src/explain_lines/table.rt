@@ -4,7 +4,7 @@ ghost use Rattle.std.specs.Prelude.{◌≡◌, ℕ, List, [], IfOk, OnOk, Ok};
 ghost use Rattle.ocpi_types.specs.ConfigText.{config_of};
 ghost use Rattle.ocpi_types.specs.declared.config.Config.{Config};
 ghost use Rattle.request_lines.specs.Lines.{lines_of};
-ghost use Rattle.house_reports.specs.explain_lines.Rows.{AreTold, IsTable, is_any_turned_down};
+ghost use Rattle.house_reports.specs.explain_lines.Rows.{AreTold, IsTable, is_any_refused};
 ghost use Rattle.house_reports.specs.explain_lines.Table.{header};
 ghost use Rattle.house_reports.specs.explain_lines.Inner.Standing.{standing};
 ghost use Rattle.house_reports.specs.explain_lines.Inner.Telling.{IsNew};
@@ -35,11 +35,11 @@ fn write_rows<R: Source, W: Sink>(
     requires { IsNew (standing explainer.old) }
     ensures { IfOk result (λ any. (calls : ℕ) × (bytes : List ℕ) × (rows : List ℕ)
         × R.reading.gives reader.old calls bytes reader.new × R.reading.at_end reader.new × W.writing.takes writer.old rows writer.new
-        × AreTold explainer.old.config.now [] 0 (lines_of bytes) rows × (any ≡ is_any_turned_down explainer.old.config.now [] (lines_of bytes))) }
+        × AreTold explainer.old.config.now [] 0 (lines_of bytes) rows × (any ≡ is_any_refused explainer.old.config.now [] (lines_of bytes))) }
 {
     let count = run_lines(alloc, reader, writer, explainer)?;
     let _lines = count.lines;
-    Ok(explainer.is_any_turned_down)
+    Ok(explainer.is_any_refused)
 }
 
 // Writes the rows by a new house of this configuration.
@@ -51,7 +51,7 @@ fn write_rows_under<R: Source, W: Sink>(
 ) -> Result<bool, ScriptFault>
     ensures { IfOk result (λ any. (calls : ℕ) × (bytes : List ℕ) × (rows : List ℕ)
         × R.reading.gives reader.old calls bytes reader.new × R.reading.at_end reader.new × W.writing.takes writer.old rows writer.new
-        × AreTold config.now [] 0 (lines_of bytes) rows × (any ≡ is_any_turned_down config.now [] (lines_of bytes))) }
+        × AreTold config.now [] 0 (lines_of bytes) rows × (any ≡ is_any_refused config.now [] (lines_of bytes))) }
 {
     let Ok(mut explainer) = Explainer::new(alloc, config) else {
         return Err(ScriptFault::NoMemory);

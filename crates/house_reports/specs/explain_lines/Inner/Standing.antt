@@ -8,5 +8,5 @@ standing explainer = record {
   events = explainer.house.events;
   kept = explainer.events;
   lines = explainer.lines;
-  any = explainer.is_any_turned_down;
+  any = explainer.is_any_refused;
 }

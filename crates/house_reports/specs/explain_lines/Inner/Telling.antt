@@ -4,8 +4,8 @@ use Rattle.std.proofs.Common.{sym, ap, subst, ◌∙◌, append_assoc, length-ap
 use Rattle.ocpi_types.specs.declared.config.Config.{Config}
 use Rattle.plain_house.specs.declared.event.Event.{Event}
 use Rattle.request_lines.specs.Script.{after, list_after, reply_in}
-use Rattle.house_reports.specs.explain_lines.Rows.{AreTold, is_any_turned_down}
-use Rattle.line_causes.specs.RefusalNames.{turned_down}
+use Rattle.house_reports.specs.explain_lines.Rows.{AreTold, is_any_refused}
+use Rattle.line_causes.specs.RefusalNames.{refused_by_reply}
 
 -- the events of a house, the events that are kept of it, the number of answered lines, and whether one of them was refused
 pub record Standing : Type 0 where
@@ -28,7 +28,7 @@ pub record Tells (before behind : Standing) (lines : List (List ℕ)) (text : Li
   pub same : behind.config ≡ before.config
   pub events_are : behind.events ≡ list_after before.config before.events lines
   pub kept_are : before.kept ≡ before.events → behind.kept ≡ behind.events
-  pub any_is : behind.any ≡ (before.any || is_any_turned_down before.config before.events lines)
+  pub any_is : behind.any ≡ (before.any || is_any_refused before.config before.events lines)
   pub lines_are : before.lines + length lines < 2 ^ 128 → behind.lines ≡ before.lines + length lines
   pub told : before.kept ≡ before.events → before.lines + length lines < 2 ^ 128 → AreTold before.config before.events before.lines lines text
 
@@ -55,13 +55,13 @@ list_after_more config events [] ys = refl
 list_after_more config events (x ∷ xs) ys = list_after_more config (after config events x) xs ys
 
 any_more : (config : Config) (events : List Event) (xs ys : List (List ℕ)) →
-    is_any_turned_down config events (xs ++ ys) ≡ (is_any_turned_down config events xs || is_any_turned_down config (list_after config events xs) ys)
+    is_any_refused config events (xs ++ ys) ≡ (is_any_refused config events xs || is_any_refused config (list_after config events xs) ys)
 any_more config events [] ys = refl
 any_more config events (x ∷ xs) ys =
-    let here = is_some (turned_down (reply_in config events x)) in
+    let here = is_some (refused_by_reply (reply_in config events x)) in
     let behind = after config events x in
     ap (λ (b : Bool). here || b) (any_more config behind xs ys)
-    ∙ sym (or_assoc here (is_any_turned_down config behind xs) (is_any_turned_down config (list_after config behind xs) ys))
+    ∙ sym (or_assoc here (is_any_refused config behind xs) (is_any_refused config (list_after config behind xs) ys))
 
 -- a number after one line more, and after the lines that follow it
 pub behind_one : (number : ℕ) (lines : List (List ℕ)) (line : List ℕ) → number + length (line ∷ lines) ≡ number + 1 + length lines
@@ -90,15 +90,15 @@ tells_more a b c xs ys t u p q =
     let first : a.lines + length (xs ++ ys) < 2 ^ 128 → a.lines + length xs < 2 ^ 128 = λ fits. lt_of_le_of_lt (le-add_right (a.lines + length xs) (length ys)) (whole fits) in
     let middle : a.lines + length (xs ++ ys) < 2 ^ 128 → b.lines ≡ a.lines + length xs = λ fits. p.lines_are (first fits) in
     let second : a.lines + length (xs ++ ys) < 2 ^ 128 → b.lines + length ys < 2 ^ 128 = λ fits. subst (λ (l : ℕ). l + length ys < 2 ^ 128) (sym (middle fits)) (whole fits) in
-    let any_between : is_any_turned_down b.config b.events ys ≡ is_any_turned_down a.config (list_after a.config a.events xs) ys =
-    ap (λ (z : Config). is_any_turned_down z b.events ys) p.same ∙ ap (λ (z : List Event). is_any_turned_down a.config z ys) p.events_are in
+    let any_between : is_any_refused b.config b.events ys ≡ is_any_refused a.config (list_after a.config a.events xs) ys =
+    ap (λ (z : Config). is_any_refused z b.events ys) p.same ∙ ap (λ (z : List Event). is_any_refused a.config z ys) p.events_are in
     record {
       same = q.same ∙ p.same;
       events_are = q.events_are ∙ ap (λ (z : Config). list_after z b.events ys) p.same ∙ ap (λ (z : List Event). list_after a.config z ys) p.events_are ∙ sym (list_after_more a.config a.events xs ys);
       kept_are = λ all. q.kept_are (p.kept_are all);
-      any_is = q.any_is ∙ ap (λ (z : Bool). z || is_any_turned_down b.config b.events ys) p.any_is
-          ∙ or_assoc a.any (is_any_turned_down a.config a.events xs) (is_any_turned_down b.config b.events ys)
-          ∙ ap (λ (z : Bool). a.any || (is_any_turned_down a.config a.events xs || z)) any_between
+      any_is = q.any_is ∙ ap (λ (z : Bool). z || is_any_refused b.config b.events ys) p.any_is
+          ∙ or_assoc a.any (is_any_refused a.config a.events xs) (is_any_refused b.config b.events ys)
+          ∙ ap (λ (z : Bool). a.any || (is_any_refused a.config a.events xs || z)) any_between
           ∙ ap (λ (z : Bool). a.any || z) (sym (any_more a.config a.events xs ys));
       lines_are = λ fits. q.lines_are (second fits) ∙ ap (λ (l : ℕ). l + length ys) (middle fits) ∙ sym joined;
       told = λ all fits. told_more a.config a.events a.lines b.lines xs ys t u (middle fits) (p.told all (first fits))
