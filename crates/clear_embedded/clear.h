@@ -24,25 +24,25 @@ struct clear_house {
     bool is_open;
 };
 
-/* What a call comes to. At every other code than CLEAR_DONE, CLEAR_TOO_SMALL and CLEAR_NOT_WRITTEN the house is as it was. */
+/* The result of a call. At every other code than CLEAR_DONE, CLEAR_TOO_SMALL and CLEAR_NOT_WRITTEN the house is as it was. */
 enum clear_code {
     CLEAR_DONE = 0,
-    CLEAR_NO_MEMORY = 1,     /* memory was refused; the same call may be made again */
+    CLEAR_NO_MEMORY = 1,     /* an allocation failed; the same call may be made again */
     CLEAR_NULL = 2,          /* a pointer is NULL that may not be */
     CLEAR_CLOSED = 3,        /* no house is open */
     CLEAR_OPEN = 4,          /* clear_open: a house is open already, and stays */
     CLEAR_NO_JSON = 5,       /* clear_open: no JSON, or longer than 1,048,576 bytes */
-    CLEAR_MEMBER = 6,        /* clear_open: a member is at fault; `check_config` says which */
+    CLEAR_MEMBER = 6,        /* clear_open: a member is at fault; `check_config` prints which */
     CLEAR_NO_LINE = 7,       /* clear_answer: longer than 1,048,576 bytes, or with a newline in it */
-    CLEAR_KEPT = 8,          /* clear_answer: an answer is kept, which clear_again gives first */
+    CLEAR_KEPT = 8,          /* clear_answer: an answer is kept, which clear_again writes first */
     CLEAR_TOO_SMALL = 9,     /* the line is answered; its answer is longer than the buffer, and kept. clear_cause: the cause is longer */
-    CLEAR_NOT_WRITTEN = 10,  /* the line is answered; memory for the answer's text was refused, and the answer is kept */
+    CLEAR_NOT_WRITTEN = 10,  /* the line is answered; an allocation for the answer's text failed, and the answer is kept */
     CLEAR_NOTHING_KEPT = 11, /* clear_again: no answer is kept */
     CLEAR_NOT_REFUSED = 12   /* clear_cause: the last line was not refused, or no line was answered */
 };
 
-/* The functions of the library, for other languages too. No pointer may be NULL, also where its length is 0; what is read
-   and what is written must not overlap. The functions behind them are for C, and test for NULL. */
+/* The functions of the library, for other languages too. No pointer may be NULL, not even if its length is 0; what is read
+   and what is written must not overlap. The functions after them are for C, and test for NULL. */
 uint32_t clear_embedded_open(struct clear_house *house, const unsigned char *config, size_t config_length);
 uint32_t clear_embedded_answer(struct clear_house *house, const unsigned char *line, size_t line_length,
                                unsigned char *buffer, size_t capacity, size_t *length);
@@ -73,7 +73,7 @@ static inline enum clear_code clear_answer(struct clear_house *house, const unsi
     return (enum clear_code)clear_embedded_answer(house, line, line_length, buffer == NULL ? &none : buffer, capacity, length);
 }
 
-/* Gives the answer that is kept, which is kept no longer at CLEAR_DONE. Codes, buffer and length as with clear_answer. */
+/* Writes the answer that is kept, which is kept no longer at CLEAR_DONE. Codes, buffer and length as with clear_answer. */
 static inline enum clear_code clear_again(struct clear_house *house, unsigned char *buffer, size_t capacity, size_t *length)
 {
     unsigned char none;
@@ -83,7 +83,7 @@ static inline enum clear_code clear_again(struct clear_house *house, unsigned ch
     return (enum clear_code)clear_embedded_again(house, buffer == NULL ? &none : buffer, capacity, length);
 }
 
-/* Says why the last line that was answered was refused, or answered BLOCKED or NO_CREDIT: a JSON object (docs/FORMATS.md, section 7)
+/* Writes why the last line that was answered was refused, or answered BLOCKED or NO_CREDIT: a JSON object (docs/FORMATS.md, section 7)
    at the buffer's beginning, without a newline. The house stays as it is, and the call may be made again. It looks through all events
    of the house. *length is the length of the object at CLEAR_DONE and at CLEAR_TOO_SMALL, as it was at CLEAR_NULL, and else 0; no cause
    is longer than 1,024 bytes. A buffer of capacity 0 may be NULL. */

@@ -1,9 +1,10 @@
 /* Calls of the library for C that examples/embedded/answer_lines.c does not make. It takes no memory of its own.
 
-   embedded_calls codes CONFIG      makes calls that are answered by each code but want of memory, prints those that are answered
-                                    otherwise than is meant, and ends with status 0 where none is
-   embedded_calls WORD CONFIG       with another word: answers the lines of standard input into a buffer of 40 bytes, and asks again
-                                    for each answer that is kept; a call that is refused memory is made once more */
+   embedded_calls codes CONFIG      makes calls that return each code except CLEAR_NO_MEMORY and CLEAR_NOT_WRITTEN, prints those that
+                                    return another code than is meant, and ends with status 0 if none does
+   embedded_calls WORD CONFIG       with another word: answers the lines of standard input into a buffer of 40 bytes, asks again for
+                                    each answer that is kept, and asks for the cause of each line; a call in which an allocation
+                                    fails is made once more */
 #include "clear.h"
 
 #include <fcntl.h>
@@ -307,6 +308,17 @@ static size_t answered(struct clear_house *house, const unsigned char *line, siz
     return code == CLEAR_DONE ? length : 0;
 }
 
+/* Whether the last line has a cause, or was not refused. */
+static int is_explained(struct clear_house *house)
+{
+    size_t length;
+    enum clear_code code = clear_cause(house, small, sizeof small, &length);
+
+    if (code == CLEAR_NO_MEMORY)
+        code = clear_cause(house, small, sizeof small, &length);
+    return code == CLEAR_DONE || code == CLEAR_TOO_SMALL || code == CLEAR_NOT_REFUSED;
+}
+
 static int again(struct clear_house *house, size_t size)
 {
     size_t at, end, count = all_of(0, input, sizeof input);
@@ -320,7 +332,7 @@ static int again(struct clear_house *house, size_t size)
         for (end = at; end < count && input[end] != '\n'; end++)
             continue;
         size = answered(house, input + at, end - at);
-        if (size == 0 || write(1, buffer, size) != (ssize_t)size)
+        if (size == 0 || !is_explained(house) || write(1, buffer, size) != (ssize_t)size)
             return 1;
     }
     clear_close(house);

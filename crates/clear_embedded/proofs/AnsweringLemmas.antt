@@ -7,7 +7,7 @@ use Rattle.line_causes.specs.declared.line_cause.LineCause.{LineCause}
 use Rattle.line_streams.specs.State.{StreamState}
 use Rattle.line_streams.specs.declared.reply.StreamReply.{StreamReply}
 use Rattle.line_streams.specs.Stream as stream
-use Rattle.clear_embedded.specs.Answering.{Buffer, IsAnswered, IsCauseText, IsGivenAgain, IsLineDone, IsRefusedLine, IsTooLong, IsWritten, refused_with}
+use Rattle.clear_embedded.specs.Answering.{Buffer, IsAnswered, IsCauseText, IsCauseTold, IsGivenAgain, IsLineDone, IsPut, IsRefusedLine, IsTooLong, IsWritten, refused_with}
 use Rattle.clear_embedded.specs.Standing.{Refused, Standing}
 use Rattle.clear_embedded.specs.declared.code.Code.{Code}
 use Rattle.clear_embedded.specs.declared.code.Code.TheVariants.{Done, NoMemory, Closed, Open, NoJson, Member, NoLine, Kept, TooSmall, NotWritten, NothingKept, NotRefused}
@@ -64,3 +64,19 @@ answered_by Open house line text middle house' buffer done wrong = absurd wrong
 answered_by NoJson house line text middle house' buffer done wrong = absurd wrong
 answered_by Member house line text middle house' buffer done wrong = absurd wrong
 answered_by NotRefused house line text middle house' buffer done wrong = absurd wrong
+
+-- a cause that was put into the buffer
+pub told_by : (code : Code) (house : Standing) (text : List ℕ) (buffer : Buffer) → IsCauseText house text → IsPut code text buffer
+    → IsCauseTold code house buffer
+told_by Done house text buffer is put = (text, is, put)
+told_by TooSmall house text buffer is put = (text, is, put)
+told_by NoMemory house text buffer is put = absurd put
+told_by Closed house text buffer is put = absurd put
+told_by Open house text buffer is put = absurd put
+told_by NoJson house text buffer is put = absurd put
+told_by Member house text buffer is put = absurd put
+told_by NoLine house text buffer is put = absurd put
+told_by Kept house text buffer is put = absurd put
+told_by NotWritten house text buffer is put = absurd put
+told_by NothingKept house text buffer is put = absurd put
+told_by NotRefused house text buffer is put = absurd put

@@ -69,6 +69,21 @@ pub record IsUnwritten (buffer : Buffer) : Type 0 where
   pub after_is : buffer.after ≡ buffer.before
   pub told_is : buffer.told ≡ 0
 
+-- the text is written, or is too long for the buffer
+abbrev pub IsPut : Code → List ℕ → Buffer → Type 0
+IsPut Done text buffer = IsWritten text buffer
+IsPut TooSmall text buffer = IsTooLong text buffer
+IsPut NoMemory text buffer = ⊥
+IsPut Closed text buffer = ⊥
+IsPut Open text buffer = ⊥
+IsPut NoJson text buffer = ⊥
+IsPut Member text buffer = ⊥
+IsPut NoLine text buffer = ⊥
+IsPut Kept text buffer = ⊥
+IsPut NotWritten text buffer = ⊥
+IsPut NothingKept text buffer = ⊥
+IsPut NotRefused text buffer = ⊥
+
 -- ---- a line
 
 -- The stream answers the line, once, at `Done`, `TooSmall` and `NotWritten`; the answer is in the buffer or kept. At any other
@@ -77,9 +92,9 @@ abbrev pub IsAnswered : Code → Standing → List ℕ → Standing → Buffer �
 IsAnswered Done house line house' buffer = (text : List ℕ) × IsLineDone house line text None house' × IsWritten text buffer
 IsAnswered TooSmall house line house' buffer = (text : List ℕ) × IsLineDone house line text (Some text) house' × IsTooLong text buffer
 IsAnswered NotWritten house line house' buffer = (text : List ℕ) × IsLineDone house line text (Some text) house' × IsUnwritten buffer
-IsAnswered NoMemory house line house' buffer = (house' ≡ house) × IsUnwritten buffer
+IsAnswered NoMemory house line house' buffer = (house.kept ≡ None) × IsLine line × (house' ≡ house) × IsUnwritten buffer
 IsAnswered Kept house line house' buffer = IsSome house.kept × (house' ≡ house) × IsUnwritten buffer
-IsAnswered NoLine house line house' buffer = (IsLine line → ⊥) × (house' ≡ house) × IsUnwritten buffer
+IsAnswered NoLine house line house' buffer = (house.kept ≡ None) × (IsLine line → ⊥) × (house' ≡ house) × IsUnwritten buffer
 IsAnswered Closed house line house' buffer = ⊥
 IsAnswered Open house line house' buffer = ⊥
 IsAnswered NoJson house line house' buffer = ⊥
@@ -118,7 +133,7 @@ pub record IsCauseText (house : Standing) (text : List ℕ) : Type 0 where
 abbrev pub IsCauseTold : Code → Standing → Buffer → Type 0
 IsCauseTold Done house buffer = (text : List ℕ) × IsCauseText house text × IsWritten text buffer
 IsCauseTold TooSmall house buffer = (text : List ℕ) × IsCauseText house text × IsTooLong text buffer
-IsCauseTold NoMemory house buffer = IsUnwritten buffer
+IsCauseTold NoMemory house buffer = IsSome house.refused × IsUnwritten buffer
 IsCauseTold NotRefused house buffer = (house.refused ≡ None) × IsUnwritten buffer
 IsCauseTold NotWritten house buffer = ⊥
 IsCauseTold NothingKept house buffer = ⊥

@@ -7,7 +7,7 @@ use denote.RattleType.{RattleType}
 use denote.RawPtr.{Ptr}
 use mir.Syntax.{Ty}
 
--- what a box of the value owns, and the right to free its memory; nothing where there is no value
+-- what a box of the value owns, and the right to free its memory; nothing if there is no value
 abbrev pub owned : (Ty → Ptr → Fml) → (R : RattleType) → Ptr → Option R.Denot → Fml
 owned holds R at None = ftrue
 owned holds R at (Some value) = box_owns holds R at value

@@ -6,7 +6,7 @@ ghost use Rattle.ocpi_types.specs.declared.config.Config.{Config as ConfigValue}
 ghost use Rattle.ocpi_types.specs.declared.config.reading.ConfigFault.TheVariants.{NoMemory};
 ghost use Rattle.line_causes.specs.RefusalNames.{refused_in};
 ghost use Rattle.line_streams.specs.Given.{done_by};
-ghost use Rattle.clear_embedded.specs.Answering.{IsAnswered, IsCauseTold, IsGivenAgain, IsLine, IsLineDone, opened, refused_with};
+ghost use Rattle.clear_embedded.specs.Answering.{IsAnswered, IsCauseTold, IsGivenAgain, IsLine, IsLineDone, IsPut, opened, refused_with};
 ghost use Rattle.clear_embedded.specs.Standing.{shown_refused};
 
 use super::code::{Code, Told};
@@ -57,6 +57,24 @@ fn write_front(buffer: &mut [u8], text: &[u8])
 {
     let (front, _) = buffer.split_at_mut(text.len());
     front.copy_from_slice(text);
+}
+
+/// Writes the text at the buffer's beginning, or nothing if it is longer than the buffer.
+fn put_text(buffer: &mut [u8], text: &[u8]) -> Told
+    ensures { IsPut result.code text.now (record { before = buffer.old; after = buffer.new; told = result.length }) }
+{
+    let length = text.len();
+    if buffer.len() < length {
+        return Told {
+            code: Code::TooSmall,
+            length,
+        };
+    }
+    write_front(buffer, text);
+    Told {
+        code: Code::Done,
+        length,
+    }
 }
 
 /// Returns an empty house under a configuration.
@@ -138,19 +156,11 @@ impl AnsweringHouse {
         let Ok(text) = self.stream.line_of(alloc, reply) else {
             return Told::of(Code::NotWritten);
         };
-        let length = text.len();
-        if buffer.len() < length {
-            return Told {
-                code: Code::TooSmall,
-                length,
-            };
+        let told = put_text(buffer, text.as_slice());
+        if let Code::Done = told.code {
+            self.kept = None;
         }
-        write_front(buffer, text.as_slice());
-        self.kept = None;
-        Told {
-            code: Code::Done,
-            length,
-        }
+        told
     }
 
     /// Answers the line, and writes the answer or keeps it.
@@ -181,17 +191,6 @@ impl AnsweringHouse {
         let Ok(text) = cause_text(alloc, &self.stream, refused) else {
             return Told::of(Code::NoMemory);
         };
-        let size = text.len();
-        if buffer.len() < size {
-            return Told {
-                code: Code::TooSmall,
-                length: size,
-            };
-        }
-        write_front(buffer, text.as_bytes());
-        Told {
-            code: Code::Done,
-            length: size,
-        }
+        put_text(buffer, text.as_bytes())
     }
 }

@@ -45,7 +45,7 @@ impl ClearHouse {
         }
     }
 
-    /// Gives out the house, if there is one, and is closed then.
+    /// Returns the house, if there is one, and is closed then.
     pub(crate) fn take(&mut self, alloc: Global) -> Option<Box<AnsweringHouse>>
         ensures house { MatchOption result (self.old.pointer.standing ≡ None) (λ house. self.old.pointer.standing ≡ Some house.value) }
         ensures closed { self.new.pointer.standing ≡ None }
@@ -58,7 +58,7 @@ impl ClearHouse {
         }
     }
 
-    // Takes up a house where none is open.
+    // Takes up a house if none is open.
     fn put(&mut self, house: Box<AnsweringHouse>)
         requires { self.old.pointer.standing ≡ None }
         ensures { self.new.pointer.standing ≡ Some house.value }
@@ -97,7 +97,7 @@ impl ClearHouse {
         told
     }
 
-    /// Gives the answer that is kept.
+    /// Writes the answer that is kept.
     pub(crate) fn again(&mut self, alloc: Global, buffer: &mut [u8]) -> Told
         ensures { AgainIs result.code self.old.pointer.standing self.new.pointer.standing
             (record { before = buffer.old; after = buffer.new; told = result.length }) }
@@ -110,7 +110,7 @@ impl ClearHouse {
         told
     }
 
-    /// Says why the last line was refused.
+    /// Writes why the last line was refused.
     pub(crate) fn cause(&mut self, alloc: Global, buffer: &mut [u8]) -> Told
         ensures { CauseIs result.code self.old.pointer.standing self.new.pointer.standing
             (record { before = buffer.old; after = buffer.new; told = result.length }) }

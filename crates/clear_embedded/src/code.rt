@@ -7,7 +7,7 @@ ghost use Rattle.clear_embedded.specs.Codes.{code_number};
 #[derive(Clone, Copy)]
 pub enum Code {
     Done,
-    /// Memory was refused, and nothing is done.
+    /// An allocation failed, and nothing is done.
     NoMemory,
     /// No house is open.
     Closed,
@@ -23,7 +23,7 @@ pub enum Code {
     Kept,
     /// The line is answered, and its answer kept, since it is longer than the buffer.
     TooSmall,
-    /// The line is answered, and its answer kept, since memory for its text was refused.
+    /// The line is answered, and its answer kept, since an allocation for its text failed.
     NotWritten,
     /// No answer is kept.
     NothingKept,
@@ -32,7 +32,7 @@ pub enum Code {
 }
 
 impl Code {
-    /// The number by which C knows it. 2 is `CLEAR_NULL` of `clear.h`, which no function here gives.
+    /// The number by which C knows it. 2 is `CLEAR_NULL` of `clear.h`, which no function here returns.
     pub fn number(self) -> u32
         ensures { result ≡ code_number self }
     {
@@ -53,7 +53,7 @@ impl Code {
     }
 }
 
-/// A code, and how many bytes the answer has that it speaks of: 0 where it speaks of none.
+/// A code, and how many bytes the answer has that it speaks of: 0 if it speaks of none.
 #[derive(Clone, Copy)]
 pub struct Told {
     pub code: Code,

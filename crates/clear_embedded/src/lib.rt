@@ -43,7 +43,7 @@ pub extern "C" fn clear_embedded_answer(
     told.code.number()
 }
 
-/// Gives the answer that is kept.
+/// Writes the answer that is kept.
 #[unsafe(no_mangle)]
 pub extern "C" fn clear_embedded_again(
     alloc: Global,
@@ -60,7 +60,7 @@ pub extern "C" fn clear_embedded_again(
     told.code.number()
 }
 
-/// Says why the last line was refused, as JSON.
+/// Writes why the last line was refused, as JSON.
 #[unsafe(no_mangle)]
 pub extern "C" fn clear_embedded_cause(
     alloc: Global,

@@ -5,7 +5,7 @@ ghost use Rattle.line_causes.specs.JsonText.{json_text};
 ghost use Rattle.line_causes.specs.StreamCauses.{IsCauseOfStreamLine};
 ghost use Rattle.line_causes.specs.declared.line_cause.LineCause.{LineCause as Cause};
 ghost use Rattle.line_streams.specs.State.{state_of};
-ghost use Rattle.clear_embedded.specs.Refusals.{if_refused, if_turned_down};
+ghost use Rattle.clear_embedded.specs.Refusals.{if_refused, if_refusing};
 
 use known_events::KnownEvents;
 use line_causes::{cause_of_stream_line, json_of};
@@ -21,9 +21,9 @@ pub struct RefusedLine {
     pub done: Option<StreamReply>,
 }
 
-// A copy of an answer that turns a request down.
+// A copy of an answer that refuses a request.
 fn answer_copy(answer: &Answer) -> Option<Answer>
-    ensures { result ≡ if_turned_down answer.now }
+    ensures { result ≡ if_refusing answer.now }
 {
     match answer {
         Answer::Blocked => Some(Answer::Blocked),
