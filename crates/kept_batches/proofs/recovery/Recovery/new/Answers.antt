@@ -1,0 +1,6 @@
+use Rattle.std.proofs.lemmas.Grind.{merely}
+use Rattle.kept_batches.proofs.States.{start_state}
+use Rattle.kept_batches.proofs.recovery.Recovery.new.Goals as goal
+
+pub invariant_of-result-clause-state : goal.invariant_of-result-clause-state
+invariant_of-result-clause-state g c now = merely (start_state _ _ c.first_head-head.ensures)

@@ -1,0 +1,10 @@
+pub mod Text
+pub mod Heads
+pub mod File
+pub mod Verdict
+pub mod Laws
+pub mod Reading
+pub mod Batch
+pub mod Log
+pub mod Recovery
+pub mod Inner

@@ -1,0 +1,59 @@
+ghost use Rattle.std.specs.Prelude.{◌≡◌, ◌+◌, ◌<◌, ◌≤◌, ◌^◌, ℕ, [], length, take, drop, IsTrue, OnOk, OnErr, IfErr, IsErrOf};
+ghost use Rattle.sqlite_disk.specs.Disk.{MoreFaults};
+ghost use Rattle.kept_batches.specs.Log.{IsDiskError};
+ghost use Rattle.kept_batches.specs.Reading.{OnlyReads};
+
+use crate::KeepError;
+use sqlite_disk::Disk;
+
+/// Reads the bytes of a file from a place on, up to its end or `most` of them.
+pub(crate) fn read_window<D: Disk>(
+    disk: &mut D,
+    begin: usize,
+    most: usize,
+    window: &mut Vec<u8>,
+) -> Result<(), KeepError>
+    requires usable { IsTrue (D.Disk.is_usable disk.old) }
+    requires within { IsTrue (D.Disk.is_clean disk.old) → begin ≤ length (D.Disk.seen disk.old) }
+    ensures ok { OnOk result (IsTrue (D.Disk.is_clean disk.new) → window.new.items ≡ take most (drop begin (D.Disk.seen disk.old))) }
+    ensures err { OnErr result (window.new.items ≡ []) }
+    ensures fits { begin + length window.new.items < 2 ^ 64 }
+    ensures bounded { length window.new.items ≤ most }
+    ensures reads { OnlyReads D.Disk disk.old disk.new }
+    ensures calm { OnOk result (D.Disk.faults disk.new ≡ D.Disk.faults disk.old) }
+    ensures failed { IfErr result (λ e. IsDiskError e → MoreFaults (D.Disk.faults disk.old) (D.Disk.faults disk.new)) }
+    ensures full { IsErrOf result KeepError.Full → ⊥ }
+    ensures damaged { (at : ℕ) → IsErrOf result (KeepError.Damaged at) → ⊥ }
+{
+    let read = fill_window(disk, begin, most, window);
+    if read.is_err() {
+        window.clear();
+    }
+    read
+}
+
+/// Reads the same bytes over those of the window. At an error the window has any bytes.
+fn fill_window<D: Disk>(
+    disk: &mut D,
+    begin: usize,
+    most: usize,
+    window: &mut Vec<u8>,
+) -> Result<(), KeepError>
+    requires usable { IsTrue (D.Disk.is_usable disk.old) }
+    requires within { IsTrue (D.Disk.is_clean disk.old) → begin ≤ length (D.Disk.seen disk.old) }
+    ensures ok { OnOk result (IsTrue (D.Disk.is_clean disk.new) → window.new.items ≡ take most (drop begin (D.Disk.seen disk.old))) }
+    ensures fits { OnOk result (begin + length window.new.items < 2 ^ 64) }
+    ensures bounded { OnOk result (length window.new.items ≤ most) }
+    ensures reads { OnlyReads D.Disk disk.old disk.new }
+    ensures calm { OnOk result (D.Disk.faults disk.new ≡ D.Disk.faults disk.old) }
+    ensures failed { IfErr result (λ e. IsDiskError e → MoreFaults (D.Disk.faults disk.old) (D.Disk.faults disk.new)) }
+    ensures full { IsErrOf result KeepError.Full → ⊥ }
+    ensures damaged { (at : ℕ) → IsErrOf result (KeepError.Damaged at) → ⊥ }
+{
+    let length = disk.len()?.saturating_sub(begin).min(most);
+    window.resize(length, 0)?;
+    if let Err(error) = disk.read_at(begin, window) {
+        return Err(KeepError::Disk(error));
+    }
+    Ok(())
+}
