@@ -8,6 +8,7 @@ use Rattle.cdr_checks.specs.declared.request.Request.{Request}
 use Rattle.cdr_checks.specs.Admission.{IsAdmitted, admission, ask_admission, judged}
 use Rattle.cdr_checks.specs.Cause.{with_refusal}
 use Rattle.cdr_checks.specs.FirstRefusal.{◌>>=◌, ensure, or_refusal, unless}
+use Rattle.cdr_checks.specs.HandedBack.{handed_back}
 
 module _ {A : Type 0} where
   -- a test that holds, and what comes after it
@@ -34,6 +35,11 @@ module _ {A : Type 0} where
   pub accepted : (m : Result A Cause) (x : A) → with_refusal m ≡ Ok x → m ≡ Ok x
   accepted (Ok y) x h = let same : y ≡ x = cc in ap (λ (z : A). Ok z) same
   accepted (Err why) x h = absurd (cc)
+
+-- what is not handed back is admitted
+pub not_handed_back : {X A : Type 0} (x : X) (m : Result A Cause) (a : A) → Ok a ≡ handed_back x m → Ok a ≡ m
+not_handed_back x (Ok b) a h = let same : a ≡ b = cc in ap (λ z. Ok z) same
+not_handed_back x (Err cause) a h = absurd (cc)
 
 pub admission_is : (config : Config) (request : Request) (command : Command) → admission config request ≡ Ok command → ask_admission config request.platform request.ask ≡ Ok command
 unfolding admission judged

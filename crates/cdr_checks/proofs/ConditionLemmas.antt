@@ -95,6 +95,14 @@ bounded element = by element.restrictions
 pub supported : (tariff : Tariff) → is_none (unsupported tariff) ≡ is_supported tariff
 supported tariff = none_is (unsupported tariff) ∙ ap not (some_first bound_of has_electric_bound bounded 0 tariff.elements)
 
+not_not : (b : Bool) → not (not b) ≡ b
+not_not true = refl
+not_not false = refl
+
+-- by whether a bound is found
+pub told_supported : (tariff : Tariff) (found : Option (ℕ × Name)) (b : Bool) → found ≡ unsupported tariff → is_some found ≡ not b → b ≡ is_supported tariff
+told_supported tariff found b same told = sym (not_not b) ∙ (sym (ap not told) ∙ (sym (none_is found) ∙ (ap is_none same ∙ supported tariff)))
+
 pub all_supported : (cdr : Cdr) → is_none (unsupported_tariff cdr) ≡ has_supported_tariffs cdr
 all_supported cdr = none_first unsupported is_supported supported 0 cdr.tariffs
 

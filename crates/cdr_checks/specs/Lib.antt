@@ -6,6 +6,7 @@ pub mod CdrConditions
 pub mod Checked
 pub mod Conditions
 pub mod FirstRefusal
+pub mod HandedBack
 pub mod Law
 pub mod Parties
 pub mod Place

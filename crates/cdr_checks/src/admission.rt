@@ -1,4 +1,5 @@
 ghost use Rattle.std.specs.Prelude.{◌≡◌, MatchResult, Ok, Err, IfOk};
+ghost use Rattle.cdr_checks.specs.HandedBack.{handed_back};
 ghost use Rattle.cdr_checks.specs.Admission.{ask_admission, authorize_admission, close_admission, exposure_admission, find_admission, judged, post_admission, put_tariff_admission, put_token_admission, release_admission, settle_admission, statement_admission, tariff_with_bound, IsAdmitted};
 
 use super::asking::{
@@ -43,12 +44,12 @@ fn put_tariff(
     config: &Config,
     platform: &CiText<36>,
     tariff: Shared<Tariff>,
-) -> Result<Command, Cause>
-    ensures { result ≡ put_tariff_admission config.now platform.now tariff }
+) -> Result<Command, (Ask, Cause)>
+    ensures { result ≡ handed_back (Ask.PutTariff tariff) (put_tariff_admission config.now platform.now tariff) }
 {
     match ensure_tariff(config, platform, &tariff) {
         Ok(()) => Ok(Command::PutTariff(tariff)),
-        Err(cause) => Err(cause),
+        Err(cause) => Err((Ask::PutTariff(tariff), cause)),
     }
 }
 
@@ -97,11 +98,13 @@ fn exposure(config: &Config, platform: &CiText<36>, exposure: &ExposureOf) -> Re
 }
 
 #[inline(never)]
-fn post(config: &Config, platform: &CiText<36>, cdr: Shared<Cdr>) -> Result<Command, Cause>
-    ensures { result ≡ post_admission config.now platform.now cdr }
+fn post(config: &Config, platform: &CiText<36>, cdr: Shared<Cdr>) -> Result<Command, (Ask, Cause)>
+    ensures { result ≡ handed_back (Ask.Post cdr) (post_admission config.now platform.now cdr) }
 {
-    let checked = check(config, platform, cdr)?;
-    Ok(Command::Post(checked))
+    match check(config, platform, cdr) {
+        Ok(checked) => Ok(Command::Post(checked)),
+        Err((cdr, cause)) => Err((Ask::Post(cdr), cause)),
+    }
 }
 
 #[inline(never)]
@@ -144,20 +147,54 @@ fn statement(
     Ok(Command::Statement(*statement))
 }
 
-fn admit_ask(config: &Config, platform: &CiText<36>, ask: Ask) -> Result<Command, Cause>
-    ensures { result ≡ ask_admission config.now platform.now ask }
+// What was asked for beside the cause.
+fn handed_back(ask: Ask, admitted: Result<Command, Cause>) -> Result<Command, (Ask, Cause)>
+    ensures { result ≡ handed_back ask admitted }
+{
+    match admitted {
+        Ok(command) => Ok(command),
+        Err(cause) => Err((ask, cause)),
+    }
+}
+
+fn admit_ask(config: &Config, platform: &CiText<36>, ask: Ask) -> Result<Command, (Ask, Cause)>
+    ensures { result ≡ handed_back ask (ask_admission config.now platform.now ask) }
 {
     match ask {
         Ask::PutTariff(tariff) => put_tariff(config, platform, tariff),
-        Ask::PutToken(token) => put_token(config, platform, &token),
-        Ask::Authorize(asked) => authorize(config, platform, &asked),
-        Ask::Release(asked) => release(config, platform, &asked),
+        Ask::PutToken(token) => {
+            let admitted = put_token(config, platform, &token);
+            handed_back(Ask::PutToken(token), admitted)
+        }
+        Ask::Authorize(asked) => {
+            let admitted = authorize(config, platform, &asked);
+            handed_back(Ask::Authorize(asked), admitted)
+        }
+        Ask::Release(asked) => {
+            let admitted = release(config, platform, &asked);
+            handed_back(Ask::Release(asked), admitted)
+        }
         Ask::Post(cdr) => post(config, platform, cdr),
-        Ask::Close(asked) => close(config, platform, &asked),
-        Ask::Settle(asked) => settle(config, platform, &asked),
-        Ask::Exposure(asked) => exposure(config, platform, &asked),
-        Ask::Find(asked) => find(config, platform, &asked),
-        Ask::Statement(asked) => statement(config, platform, &asked),
+        Ask::Close(asked) => {
+            let admitted = close(config, platform, &asked);
+            handed_back(Ask::Close(asked), admitted)
+        }
+        Ask::Settle(asked) => {
+            let admitted = settle(config, platform, &asked);
+            handed_back(Ask::Settle(asked), admitted)
+        }
+        Ask::Exposure(asked) => {
+            let admitted = exposure(config, platform, &asked);
+            handed_back(Ask::Exposure(asked), admitted)
+        }
+        Ask::Find(asked) => {
+            let admitted = find(config, platform, &asked);
+            handed_back(Ask::Find(asked), admitted)
+        }
+        Ask::Statement(asked) => {
+            let admitted = statement(config, platform, &asked);
+            handed_back(Ask::Statement(asked), admitted)
+        }
     }
 }
 
@@ -165,12 +202,15 @@ fn admit_ask(config: &Config, platform: &CiText<36>, ask: Ask) -> Result<Command
 ///
 /// # Errors
 ///
-/// The cause of the first test that fails, and so the refusal.
+/// The request as it was, and the cause of the first test that fails, and so the refusal.
 #[tactic(auto, unfolding(crate::specs::Admission::judged, crate::specs::Admission::admission, crate::specs::Admission::IsAdmitted))]
-pub fn admit(config: &Config, request: Request) -> Result<Command, Cause>
-    ensures judged { result ≡ judged config.now request }
+pub fn admit(config: &Config, request: Request) -> Result<Command, (Request, Cause)>
+    ensures judged { result ≡ handed_back request (judged config.now request) }
     ensures admitted { IfOk result (λ command. IsAdmitted config.now command) }
 {
     let Request { platform, ask } = request;
-    admit_ask(config, &platform, ask)
+    match admit_ask(config, &platform, ask) {
+        Ok(command) => Ok(command),
+        Err((ask, cause)) => Err((Request { platform, ask }, cause)),
+    }
 }

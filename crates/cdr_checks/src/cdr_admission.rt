@@ -3,6 +3,7 @@ ghost use Rattle.ocpi_types.specs.Cdr.{is_credit};
 ghost use Rattle.cdr_rating.specs.Price.{price};
 ghost use Rattle.cdr_checks.specs.CdrAdmission.{checked_of, far_from, priced, rated_cost, session_cost, too_large};
 ghost use Rattle.cdr_checks.specs.Checked.{IsCostOf};
+ghost use Rattle.cdr_checks.specs.HandedBack.{handed_back};
 
 use super::asking::{known_currency, known_provider, may_act, no_operator};
 use super::cause::{Cause, Reason};
@@ -132,12 +133,16 @@ fn findings_of(config: &Config, platform: &CiText<36>, cdr: &Cdr) -> Result<Find
 ///
 /// # Errors
 ///
-/// The cause of the first test that fails.
-pub fn check(config: &Config, platform: &CiText<36>, cdr: Shared<Cdr>) -> Result<Checked, Cause>
-    ensures { result ≡ checked_of config.now platform.now cdr }
+/// The CDR as it was, and the cause of the first test that fails.
+pub fn check(
+    config: &Config,
+    platform: &CiText<36>,
+    cdr: Shared<Cdr>,
+) -> Result<Checked, (Shared<Cdr>, Cause)>
+    ensures { result ≡ handed_back cdr (checked_of config.now platform.now cdr) }
 {
     match findings_of(config, platform, &cdr) {
         Ok(found) => Ok(Checked::new(cdr, found.zone, found.cost)),
-        Err(cause) => Err(cause),
+        Err(cause) => Err((cdr, cause)),
     }
 }

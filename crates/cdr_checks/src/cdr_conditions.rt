@@ -3,6 +3,7 @@
 ghost use Rattle.std.specs.Prelude.{◌≡◌, ◌^◌, ◌*ℤ◌, ◌≤ℤ◌, neg_ℤ, pos};
 ghost use Rattle.cdr_checks.specs.CdrAdmission.{before_preceding, in_other_currency, of_no_tariff, of_other_energy, with_bound, with_reservation};
 ghost use Rattle.cdr_checks.specs.CdrConditions.{counts_reservation, has_energy_of_periods, id_not_given, is_within_tolerance, other_currency, out_of_order, reservation, reserved, reserved_in, tariff_not_given, unsupported_tariff};
+ghost use Rattle.cdr_checks.specs.Conditions.{is_supported};
 ghost use Rattle.cdr_checks.specs.FirstRefusal.{ensure, unless};
 
 use super::cause::{Cause, Reason};
@@ -13,7 +14,7 @@ use jiff::Timestamp;
 use ocpi_json::ci_text::CiText;
 use ocpi_json::name::Name;
 use ocpi_types::config::Tolerance;
-use ocpi_types::{Cdr, ChargingPeriod, Currency, Dimension, DimensionKind, KeptKind};
+use ocpi_types::{Cdr, ChargingPeriod, Currency, Dimension, DimensionKind, KeptKind, Tariff};
 use tariff_elements::unsupported;
 
 // ---- its tariffs
@@ -77,6 +78,13 @@ pub(crate) fn ensure_tariffs_given(cdr: &Cdr) -> Result<(), Cause>
         index += 1;
     }
     Ok(())
+}
+
+/// Returns whether no element of a tariff has a bound on current or power. `unsupported` names the first that has one.
+pub fn supported(tariff: &Tariff) -> bool
+    ensures { result ≡ is_supported tariff.now }
+{
+    unsupported(tariff).is_none()
 }
 
 fn with_bound(tariff: usize, element: usize, bound: Name) -> Cause

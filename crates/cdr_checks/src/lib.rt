@@ -17,7 +17,7 @@ pub use admission::admit;
 pub use asking::is_a_hub;
 pub use cause::{Cause, Reason};
 pub use cdr_admission::check;
-pub use cdr_conditions::{ensure_no_reservation, ensure_supported, is_within_tolerance};
+pub use cdr_conditions::{ensure_no_reservation, ensure_supported, is_within_tolerance, supported};
 pub use checked::Checked;
 pub use laws::{
     admitted_pass_their_tests, commands_have_parties, posts_are_checked, refused_by_the_first,
@@ -26,3 +26,4 @@ pub use place::Place;
 pub use request::{
     Ask, Authorize, Close, Command, ExposureOf, Find, Release, Request, Settlement, StatementOf,
 };
+pub use tariff_elements::unsupported;

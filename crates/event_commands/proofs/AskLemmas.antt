@@ -17,6 +17,7 @@ use Rattle.cdr_checks.specs.CdrAdmission.{checked_of, session_cost}
 use Rattle.cdr_checks.specs.Cause.{with_refusal}
 use Rattle.cdr_checks.specs.Checked.{Checked}
 use Rattle.cdr_checks.specs.FirstRefusal.{◌>>=◌, ensure, or_refusal}
+use Rattle.cdr_checks.specs.HandedBack.{handed_back}
 use Rattle.cdr_checks.specs.Place.{at, inside}
 use Rattle.cdr_checks.proofs.AdmissionLemmas.{admission_is, ensured, goes_on, there, unless_none}
 use Rattle.event_commands.specs.AskedAgain.{has_right}
@@ -159,6 +160,18 @@ none_admitted config asked none platform done h =
     let right : has_right config asked platform ≡ true = (of_asked config (record { platform = platform; ask = asked }) done h).1 in
     let lacks : has_right config asked platform ≡ false = none platform in
     cc
+
+-- what is handed back is not admitted
+abbrev without_request : {X A : Type 0} → Result A (X × Cause) → Result A Cause
+without_request (Ok a) = Ok a
+without_request (Err refused) = Err refused.1
+
+judged_so : {X A : Type 0} (x : X) (m : Result A Cause) → without_request (handed_back x m) ≡ m
+judged_so x (Ok a) = refl
+judged_so x (Err why) = refl
+
+pub not_admitted : {X A : Type 0} (x y : X) (m : Result A Cause) (why : Cause) → Err (y, why) ≡ handed_back x m → Err why ≡ m
+not_admitted x y m why h = ap without_request h ∙ judged_so x m
 
 pub refused_alike : (config : Config) (asked : Ask) (its : List ℕ) (why : Cause) → has_right config asked its ≡ true
     → Err why ≡ judged config (record { platform = its; ask = asked })

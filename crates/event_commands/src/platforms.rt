@@ -111,6 +111,6 @@ fn admitted_by(config: &Config, platform: CiText<36>, asked: Ask) -> Option<Comm
     };
     match admit(config, request) {
         Ok(command) => Some(command),
-        Err(_) => None,
+        Err((_request, _cause)) => None,
     }
 }

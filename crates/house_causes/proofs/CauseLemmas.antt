@@ -48,7 +48,7 @@ use Rattle.plain_house.specs.declared.over_limit.OverLimit.{OverLimit}
 use Rattle.plain_house.proofs.EntriesLemmas.{settled_in_events}
 use Rattle.house_causes.specs.Causes.{authorize_in, cause_of, refused}
 use Rattle.house_causes.specs.HouseCause.{is_by_event}
-use Rattle.house_causes.specs.Laws.{CausesNameTheirEvents, EachRefusalHasACause, said_by_house}
+use Rattle.house_causes.specs.Laws.{CausesHaveEvents, EachRefusalHasACause, said_by_house}
 use Rattle.house_causes.specs.Tokens.{blocked}
 use Rattle.house_causes.specs.declared.house_cause.HouseCause.{HouseCause}
 use Rattle.house_causes.specs.declared.house_cause.HouseReason.TheVariants as reason
@@ -305,8 +305,8 @@ module _ (posts : PostsAreChecked) (cdrs : CdrsWithoutDifferenceAreSame) (tariff
   pub each_has : EachRefusalHasACause
   each_has config events asked refused_so admitted said = is_caused_there (refused config events asked refused_so) (caused config events asked refused_so admitted said)
 
-  pub names_its_event : CausesNameTheirEvents
-  names_its_event config events asked cause admitted is = by (said_by_house config events asked) refl is
+  pub has_its_event : CausesHaveEvents
+  has_its_event config events asked cause admitted is = by (said_by_house config events asked) refl is
     where
       named : (o : Option HouseCause) → IsCaused o → o ≡ Some cause → is_some cause.event ≡ is_by_event cause.reason
       named o its same = subst IsCaused same its

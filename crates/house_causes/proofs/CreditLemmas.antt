@@ -1,5 +1,5 @@
 -- Why a Credit CDR that is refused takes nothing back.
-use Rattle.std.proofs.Common.{◌≡◌, ◌∙◌, ◌==◌, ℕ, List, Bool, true, false, ◌&&◌, Some, refl, sym, ap, ap₂, is_some}
+use Rattle.std.proofs.Common.{◌≡◌, ◌∙◌, ◌==◌, ℕ, List, Bool, true, false, ◌&&◌, Option, Some, refl, sym, ap, ap₂, find, is_some}
 use Rattle.std.specs.Cmp.Lexicographic.{pointwise, same_text}
 use Rattle.std.specs.List.{list_any, position}
 use Rattle.std.specs.Option.{option_map_or}
@@ -47,14 +47,23 @@ abbrev credited_by : FoldedParty → List ℕ → List BookEntry → Bool
 credited_by operator id books =
     list_any (λ credit. is_party_of operator credit.cdr.operator && option_map_or (λ other. pointwise ◌==◌ (folded other) id) credit.cdr.credit false) (booked books)
 
-credited_along : (a b : Party) (id another : List ℕ) (books : List BookEntry) → same_party a b ≡ true → same_folded id another ≡ true
+pub credited_along : (a b : Party) (id another : List ℕ) (books : List BookEntry) → same_party a b ≡ true → same_folded id another ≡ true
     → is_credited a id books ≡ is_credited b another books
 credited_along a b id another books h k =
     ap₂ (λ (operator : FoldedParty) (text : List ℕ). credited_by operator text books) (same_folded_party a b h) (same_text (folded id) (folded another) (sym k))
 
+-- so does what is booked under an id
+abbrev booked_by : FoldedParty → List ℕ → List BookEntry → Option Booked
+booked_by operator id books = find (λ found. is_party_of operator found.cdr.operator && pointwise ◌==◌ (folded found.cdr.id) id) (booked books)
+
+pub booked_along : (a b : Party) (id another : List ℕ) (books : List BookEntry) → same_party a b ≡ true → same_folded id another ≡ true
+    → booked_as a id books ≡ booked_as b another books
+booked_along a b id another books h k =
+    ap₂ (λ (operator : FoldedParty) (text : List ℕ). booked_by operator text books) (same_folded_party a b h) (same_text (folded id) (folded another) (sym k))
+
 module _ (config : Config) (events : List Event) (credit : Cdr) (id : List ℕ) (named : credit.credit ≡ Some id) where
   module _ (original : Booked) (stands : booked_as credit.operator id (book_entries events) ≡ Some original) where
-    is_taken_back : is_credited original.cdr.operator original.cdr.id (book_entries events) ≡ true → list_any (takes_back credit.operator id) events ≡ true
+    pub is_taken_back : is_credited original.cdr.operator original.cdr.id (book_entries events) ≡ true → list_any (takes_back credit.operator id) events ≡ true
     is_taken_back h =
         let keys = booked_has_id credit id events original stands in
         sym (credited_in_events credit.operator id events)

@@ -27,7 +27,7 @@ use Rattle.house_causes.specs.Versions.{stored_difference, tariff_of, version_co
 use Rattle.house_causes.proofs.EventLemmas.{IsCaused, booked_by_an_event, caused_then}
 use Rattle.house_causes.proofs.FirstLemmas.{first_at, found_then, is_there}
 
-find_passes : {A : Type 0} (test : A → Bool) (xs : List A) (x : A) → find test xs ≡ Some x → test x ≡ true
+pub find_passes : {A : Type 0} (test : A → Bool) (xs : List A) (x : A) → find test xs ≡ Some x → test x ≡ true
 find_passes test [] x h = absurd (cc)
 find_passes test (y ∷ xs) x h = by (test y) refl h (find_passes test xs x)
   where
@@ -81,10 +81,10 @@ version_fails tariff (event.Credit cdr amount) h = refl
 version_fails tariff (event.Settled settlement) h = refl
 version_fails tariff (event.Closed period) h = refl
 
-version_test : (tariff : Tariff) → IsTestOf version_of_event (λ version. same_version version tariff) (stores tariff)
+pub version_test : (tariff : Tariff) → IsTestOf version_of_event (λ version. same_version version tariff) (stores tariff)
 version_test tariff = record { passes = version_passes tariff; fails = version_fails tariff }
 
-only_version : (e : Event) (version : Tariff) → version_of_event e ≡ version ∷ [] → tariff_of e ≡ Some version
+pub only_version : (e : Event) (version : Tariff) → version_of_event e ≡ version ∷ [] → tariff_of e ≡ Some version
 only_version (event.Tariff tariff) version h = cc
 only_version (event.Token token) version h = absurd (cc)
 only_version (event.Authorised hold) version h = absurd (cc)
@@ -95,12 +95,12 @@ only_version (event.Settled settlement) version h = absurd (cc)
 only_version (event.Closed period) version h = absurd (cc)
 
 -- the first member in which the tariff differs from one that the event of this number stores
-abbrev difference_from : Tariff → ℕ → Tariff → Option (Name × ℕ)
+abbrev pub difference_from : Tariff → ℕ → Tariff → Option (Name × ℕ)
 difference_from tariff at stored = do
   differing ← difference_of_tariffs stored tariff
   Some (differing, at)
 
-abbrev difference_by : Tariff → Numbered → Option (Name × ℕ)
+abbrev pub difference_by : Tariff → Numbered → Option (Name × ℕ)
 difference_by tariff found = do
   stored ← tariff_of found.event
   difference_from tariff found.at stored

@@ -1,9 +1,10 @@
 -- The first item that passes a test is in the list and passes it, and there is one if any item passes.
-use Rattle.std.proofs.Common.{◌≡◌, ◌∙◌, ℕ, ◌+◌, suc, List, [], ◌∷◌, Bool, true, false, ◌||◌, cond, Option, Some, None, refl, sym, ap, subst, slice_get, is_some, rules, arith}
+use Rattle.std.proofs.Common.{◌≡◌, ◌∙◌, ℕ, ◌+◌, suc, List, [], ◌∷◌, Bool, true, false, ◌||◌, zero, cond, Option, Some, None, refl, sym, ap, subst, slice_get, is_some, drop, option_map, rules, arith}
 use Rattle.std.specs.List.{list_any, position, position_from}
 use Rattle.std.proofs.lemmas.Iterator.Adapters.{position_from-zero}
 use Rattle.plain_house.specs.declared.event.Event.{Event}
-use Rattle.house_causes.specs.First.{◌>>=◌, Numbered, first_that}
+use Rattle.known_events.specs.After.{position_after}
+use Rattle.house_causes.specs.First.{◌>>=◌, Numbered, first_after, first_that}
 
 -- what is found of what was found is there if both are
 pub found_then : {A B : Type 0} (o : Option A) (f : A → Option B) → is_some o ≡ true → ((x : A) → o ≡ Some x → is_some (f x) ≡ true) → is_some (o >>= f) ≡ true
@@ -57,6 +58,13 @@ module _ {E : Type 0} (test : E → Bool) where
   pub has_place : (xs : List E) → list_any test xs ≡ true → is_some (position test xs) ≡ true
   has_place xs h = ap is_some (position_from-zero test xs) ∙ some_from 0 xs h
 
+pub slice_get-drop : {E : Type 0} (n : ℕ) (xs : List E) (k : ℕ) → slice_get (drop n xs) k ≡ slice_get xs (n + k)
+slice_get-drop zero xs k = let same : k ≡ 0 + k = omega arith in ap (slice_get xs) same
+slice_get-drop (suc n) [] k = refl
+slice_get-drop (suc n) (x ∷ xs) k =
+    let further : suc (n + k) ≡ suc n + k = omega arith in
+    slice_get-drop n xs k ∙ sym (slice_get-suc x xs (n + k)) ∙ ap (slice_get (x ∷ xs)) further
+
 -- ---- events
 
 -- a found event is at its number and passes the test
@@ -90,3 +98,48 @@ module _ (test : Event → Bool) (events : List Event) where
   first_at at e is stands =
       ap (λ (o : Option ℕ). o >>= λ n. slice_get events n >>= λ event. Some (record { at = n; event = event })) is
       ∙ ap (λ (o : Option Event). o >>= λ event. Some (record { at = at; event = event })) stands
+
+  -- ---- events after one of a number
+
+  module _ (number : ℕ) where
+    later_passes : (m : ℕ) → position_after test number events ≡ Some m → PassesAt test events m
+    later_passes m h = by (position test (drop (number + 1) events)) refl h
+      where
+        by : (place : Option ℕ) → position test (drop (number + 1) events) ≡ place → option_map (λ k. number + 1 + k) place ≡ Some m → PassesAt test events m
+        by None is here = absurd (cc)
+        by (Some k) is here =
+            let there = passes_at test (drop (number + 1) events) k is in
+            let same : number + 1 + k ≡ m = cc in
+            subst (PassesAt test events) same (record {
+              item = there.item;
+              stands = sym (slice_get-drop (number + 1) events k) ∙ there.stands;
+              passes = there.passes;
+            })
+
+    pub is_found_after : (it : Numbered) → first_after number test events ≡ Some it → IsFound test events it
+    is_found_after it h = at_place (position_after test number events) refl h
+      where
+        at_place : (place : Option ℕ) → position_after test number events ≡ place
+            → (place >>= λ at. slice_get events at >>= λ event. Some (record { at = at; event = event })) ≡ Some it → IsFound test events it
+        at_place None is here = absurd (cc)
+        at_place (Some at) is here =
+            let there = later_passes at is in
+            let one : Numbered = record { at = at; event = there.item } in
+            let same : Some one ≡ Some it = sym (ap (λ (o : Option Event). o >>= λ event. Some (record { at = at; event = event })) there.stands) ∙ here in
+            let found : IsFound test events one = record { stands = there.stands; passes = there.passes } in
+            let equal : one ≡ it = cc in
+            subst (IsFound test events) equal found
+
+    has_later : list_any test (drop (number + 1) events) ≡ true → is_some (position_after test number events) ≡ true
+    has_later any = by (position test (drop (number + 1) events)) (has_place test (drop (number + 1) events) any)
+      where
+        by : (place : Option ℕ) → is_some place ≡ true → is_some (option_map (λ k. number + 1 + k) place) ≡ true
+        by None h = absurd (cc)
+        by (Some k) h = refl
+
+    pub has_first_after : list_any test (drop (number + 1) events) ≡ true → is_some (first_after number test events) ≡ true
+    has_first_after any =
+        found_then (position_after test number events) (λ at. slice_get events at >>= λ event. Some (record { at = at; event = event }))
+        (has_later any) (λ at is.
+        let there = later_passes at is in
+        found_then (slice_get events at) (λ event. Some (record { at = at; event = event })) (is_there (slice_get events at) there.item there.stands) (λ event is_event. refl))

@@ -23,7 +23,7 @@ use Rattle.plain_house.specs.declared.event.Event.TheVariants as event
 use Rattle.plain_house.specs.declared.event.Hold.{Hold}
 use Rattle.plain_house.specs.declared.posting.CreditDifference.{CreditDifference}
 use Rattle.plain_house.specs.declared.posting.CreditDifference.TheVariants.{Provider, Currency, AboveZero, Cost}
-use Rattle.house_causes.specs.First.{◌>>=◌, Numbered, first_that}
+use Rattle.house_causes.specs.First.{◌>>=◌, Numbered, first_after, first_that}
 use Rattle.house_causes.specs.Bookings.{booking_conflict}
 use Rattle.house_causes.specs.Causes.{authorize_in, cdr_in, conflict, find_in, period_in, refused, release_in, settlement_in}
 use Rattle.house_causes.specs.Credits.{cdr_of, credit_differs, credited_already, difference_cause, of_credit}
@@ -89,9 +89,9 @@ unknown_tokens events ask = by (first_that (puts ask) events)
     by None = refl
     by (Some put) = says_then refusal.UnknownToken (token_of put.event) _ (λ token. refl)
 
-ended_holds : (events : List Event) (release : Release) (hold : Hold) → Says refusal.UnknownHold (ended events release hold)
-ended_holds events release hold =
-    says_then refusal.UnknownHold (first_that (ends hold) events) _ (λ found. by found.at found.event)
+ended_holds : (events : List Event) (release : Release) (number : ℕ) (hold : Hold) → Says refusal.UnknownHold (ended events release number hold)
+ended_holds events release number hold =
+    says_then refusal.UnknownHold (first_after number (ends hold) events) _ (λ found. by found.at found.event)
   where
     by : (at : ℕ) (e : Event) → Says refusal.UnknownHold (why_ended release.reference e >>= λ why. Some (by_event why at))
     by at (event.Tariff tariff) = tt
@@ -108,8 +108,8 @@ unfolding unknown_hold
 unknown_holds events release = by (first_that (gives release) events)
   where
     not_open : (same : Bool) (at : ℕ) (hold : Hold)
-        → Says refusal.UnknownHold (if same then ended events release hold else Some (by_event (reason.GivenToAnother release.reference hold.operator) at))
-    not_open true at hold = ended_holds events release hold
+        → Says refusal.UnknownHold (if same then ended events release at hold else Some (by_event (reason.GivenToAnother release.reference hold.operator) at))
+    not_open true at hold = ended_holds events release at hold
     not_open false at hold = refl
 
     by : (found : Option Numbered) → Says refusal.UnknownHold (why_no_hold events release found)

@@ -1,5 +1,5 @@
 -- Why a token, a tariff of a CDR or a hold is not known.
-use Rattle.std.proofs.Common.{◌≡◌, ◌∙◌, ℕ, suc, zero, List, [], ◌∷◌, ◌++◌, Bool, true, false, not, ◌&&◌, ◌||◌, if◌then◌else◌, cond, Option, Some, None, refl, sym, ap, ap₂, subst, find, is_some, slice_get}
+use Rattle.std.proofs.Common.{◌≡◌, ◌∙◌, ℕ, ◌+◌, suc, zero, List, [], ◌∷◌, ◌++◌, Bool, true, false, not, ◌&&◌, ◌||◌, if◌then◌else◌, cond, Option, Some, None, refl, sym, ap, ap₂, subst, find, is_some, slice_get, drop, arith}
 use Rattle.std.specs.List.{list_any, position}
 use Rattle.std.specs.Option.{option_or}
 use Rattle.std.proofs.lemmas.Bool.{and_from}
@@ -24,15 +24,17 @@ use Rattle.plain_house.specs.declared.event.Event.TheVariants as event
 use Rattle.plain_house.specs.declared.event.Hold.{Hold}
 use Rattle.plain_house.proofs.EntriesLemmas.{open_in_events, registered_in_events}
 use Rattle.operator_book.proofs.KeyLemmas.{both_are, or_false}
-use Rattle.house_causes.specs.First.{◌>>=◌, Numbered, first_that}
+use Rattle.known_events.specs.After.{IsFirstGiven}
+use Rattle.house_causes.specs.First.{◌>>=◌, Numbered, first_after, first_that}
 use Rattle.house_causes.specs.Holds.{by_event, ended, hold_of, unknown_hold, why_ended, why_no_hold, why_not_open}
 use Rattle.house_causes.specs.Tokens.{token_of, unknown_token, why_unknown}
 use Rattle.house_causes.specs.HouseCause.{cause_at, is_by_event}
 use Rattle.house_causes.specs.Versions.{not_registered, not_stored, stored_difference, tariff_at, why_unregistered}
+use Rattle.house_causes.specs.declared.house_cause.HouseCause.{HouseCause}
 use Rattle.house_causes.specs.declared.house_cause.HouseReason.{HouseReason}
 use Rattle.house_causes.specs.declared.house_cause.HouseReason.TheVariants as reason
 use Rattle.house_causes.proofs.EventLemmas.{IsCaused, caused_then}
-use Rattle.house_causes.proofs.FirstLemmas.{has_first, has_place, is_found, is_there, passes_at, slice_get-suc}
+use Rattle.house_causes.proofs.FirstLemmas.{first_at, has_first_after, has_place, is_found, is_found_after, is_there, passes_at, slice_get-suc}
 
 -- ---- tokens
 
@@ -76,27 +78,24 @@ tariff_unregistered events cdr h =
 
 -- ---- holds
 
-neither : (a b : Bool) → (a || b) ≡ false → b ≡ false
-neither true b h = absurd (cc)
-neither false b h = h
-
 either : {A : Type 0} (one other : Option A) → is_some other ≡ true → is_some (option_or one other) ≡ true
 either None other h = h
 either (Some x) other h = refl
 
--- a hold that no event ends is open
-left_open : (test : Hold → Bool) (hold : Hold) (events : List Event) (at : ℕ) → slice_get events at ≡ Some (event.Authorised hold)
-    → list_any (ends hold) events ≡ false → test hold ≡ true → is_some (find test (event_open_holds events)) ≡ true
+-- a hold that no later event ends is open
+pub left_open : (test : Hold → Bool) (hold : Hold) (events : List Event) (at : ℕ) → slice_get events at ≡ Some (event.Authorised hold)
+    → list_any (ends hold) (drop (at + 1) events) ≡ false → test hold ≡ true → is_some (find test (event_open_holds events)) ≡ true
 left_open test hold [] at stands none good = absurd (cc)
 left_open test hold (e ∷ later) zero stands none good =
     let is : e ≡ event.Authorised hold = cc in
     ap (λ (it : Event). is_some (find test (event_open_hold it later ++ event_open_holds later))) is
-    ∙ ap (λ (b : Bool). is_some (find test ((if b then [] else hold ∷ []) ++ event_open_holds later))) (neither (ends hold e) (list_any (ends hold) later) none)
+    ∙ ap (λ (b : Bool). is_some (find test ((if b then [] else hold ∷ []) ++ event_open_holds later))) none
     ∙ ap (λ b. is_some (cond b (Some hold) (find test (event_open_holds later)))) good
 left_open test hold (e ∷ later) (suc at) stands none good =
+    let further : suc (at + 1) ≡ suc at + 1 = omega arith in
     ap is_some (find-append test (event_open_hold e later) (event_open_holds later))
     ∙ either (find test (event_open_hold e later)) (find test (event_open_holds later))
-    (left_open test hold later at (sym (slice_get-suc e later at) ∙ stands) (neither (ends hold e) (list_any (ends hold) later) none) good)
+    (left_open test hold later at (sym (slice_get-suc e later at) ∙ stands) (ap (λ n. list_any (ends hold) (drop n (e ∷ later))) further ∙ none) good)
 
 ends_a_hold : (reference : List ℕ) (hold : Hold) (e : Event) → ends hold e ≡ true → is_some (why_ended reference e) ≡ true
 ends_a_hold reference hold (event.Tariff tariff) h = absurd (cc)
@@ -119,13 +118,13 @@ ended_by_event reference (event.Settled settlement) why h = absurd (cc)
 ended_by_event reference (event.Closed period) why h = absurd (cc)
 
 -- the event gives the hold, of the release's provider and reference
-record Given (release : Release) (e : Event) : Type 0 where
-  hold : Hold
-  is : e ≡ event.Authorised hold
-  provider : same_party hold.provider release.provider ≡ true
-  reference : same_folded hold.reference release.reference ≡ true
+pub record Given (release : Release) (e : Event) : Type 0 where
+  pub hold : Hold
+  pub is : e ≡ event.Authorised hold
+  pub provider : same_party hold.provider release.provider ≡ true
+  pub reference : same_folded hold.reference release.reference ≡ true
 
-given : (release : Release) (e : Event) → gives release e ≡ true → Given release e
+pub given : (release : Release) (e : Event) → gives release e ≡ true → Given release e
 given release (event.Tariff tariff) h = absurd (cc)
 given release (event.Token token) h = absurd (cc)
 given release (event.Authorised hold) h =
@@ -138,11 +137,11 @@ given release (event.Credit cdr amount) h = absurd (cc)
 given release (event.Settled settlement) h = absurd (cc)
 given release (event.Closed period) h = absurd (cc)
 
-party_turned : (a b : Party) → same_party a b ≡ true → same_party b a ≡ true
+pub party_turned : (a b : Party) → same_party a b ≡ true → same_party b a ≡ true
 party_turned a b h =
     ap₂ (λ (x y : Bool). x && y) (nat_list_eq_equiv.symm (folded b.country_code) (folded a.country_code)) (nat_list_eq_equiv.symm (folded b.party_id) (folded a.party_id)) ∙ h
 
-folded_turned : (a b : List ℕ) → same_folded a b ≡ true → same_folded b a ≡ true
+pub folded_turned : (a b : List ℕ) → same_folded a b ≡ true → same_folded b a ≡ true
 folded_turned a b h = nat_list_eq_equiv.symm (folded b) (folded a) ∙ h
 
 module _ (events : List Event) (release : Release) (unknown : released_hold (account_entries events) release ≡ None) where
@@ -154,10 +153,10 @@ module _ (events : List Event) (release : Release) (unknown : released_hold (acc
         (and_from (same_party release.operator hold.operator) (same_party release.provider hold.provider) (party_turned hold.operator release.operator operator) (party_turned hold.provider release.provider provider))
         (folded_turned hold.reference release.reference reference)
 
-    is_ended : same_party hold.operator release.operator ≡ true → list_any (ends hold) events ≡ true
-    is_ended operator = by (list_any (ends hold) events) refl
+    is_ended : same_party hold.operator release.operator ≡ true → list_any (ends hold) (drop (at + 1) events) ≡ true
+    is_ended operator = by (list_any (ends hold) (drop (at + 1) events)) refl
       where
-        by : (b : Bool) → list_any (ends hold) events ≡ b → b ≡ true
+        by : (b : Bool) → list_any (ends hold) (drop (at + 1) events) ≡ b → b ≡ true
         by true is = refl
         by false is =
             let is_open : is_some (find (λ held. ends_hold held (account.Release release)) (event_open_holds events)) ≡ true =
@@ -170,10 +169,10 @@ module _ (events : List Event) (release : Release) (unknown : released_hold (acc
     why_given = by (same_party hold.operator release.operator) refl
       where
         by : (same : Bool) → same_party hold.operator release.operator ≡ same
-            → IsCaused (if same then ended events release hold else Some (by_event (reason.GivenToAnother release.reference hold.operator) at))
+            → IsCaused (if same then ended events release at hold else Some (by_event (reason.GivenToAnother release.reference hold.operator) at))
         by true is =
-            caused_then (first_that (ends hold) events) _ (has_first (ends hold) events (is_ended is))
-            (λ it which. caused_then (why_ended release.reference it.event) _ (ends_a_hold release.reference hold it.event (is_found (ends hold) events it which).passes) (λ why what. sym (ended_by_event release.reference it.event why what)))
+            caused_then (first_after at (ends hold) events) _ (has_first_after (ends hold) events at (is_ended is))
+            (λ it which. caused_then (why_ended release.reference it.event) _ (ends_a_hold release.reference hold it.event (is_found_after (ends hold) events at it which).passes) (λ why what. sym (ended_by_event release.reference it.event why what)))
         by false is = refl
 
   pub hold_unknown : IsCaused (unknown_hold events release)
@@ -187,3 +186,15 @@ module _ (events : List Event) (release : Release) (unknown : released_hold (acc
           let it = given release first.event there.passes in
           subst (λ (e : Event). IsCaused (hold_of e >>= λ hold. why_not_open events release first.at hold)) (sym it.is)
           (why_given first.at it.hold (there.stands ∙ ap (λ (e : Event). Some e) it.is) it.provider it.reference)
+
+-- the cause of a release by the hold that the first event of its provider and reference gives
+pub told_by : (events : List Event) (release : Release) (at : ℕ) (hold : Hold) → position (gives release) events ≡ Some at
+    → slice_get events at ≡ Some (event.Authorised hold) → (told : Option HouseCause) → (IsFirstGiven events release at hold → told ≡ why_not_open events release at hold)
+    → told ≡ unknown_hold events release
+unfolding unknown_hold
+told_by events release at hold first stands told is =
+    let it = passes_at (gives release) events at first in
+    let item : Some it.item ≡ Some (event.Authorised hold) = sym it.stands ∙ stands in
+    let same : it.item ≡ event.Authorised hold = cc in
+    is (record { keys = ap (gives release) (sym same) ∙ it.passes; first = first })
+    ∙ sym (ap (why_no_hold events release) (first_at (gives release) events at (event.Authorised hold) first stands))

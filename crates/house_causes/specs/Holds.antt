@@ -8,7 +8,7 @@ use Rattle.plain_house.specs.Happened.{ends, gives}
 use Rattle.plain_house.specs.declared.event.Event.{Event}
 use Rattle.plain_house.specs.declared.event.Event.TheVariants as event
 use Rattle.plain_house.specs.declared.event.Hold.{Hold}
-use Rattle.house_causes.specs.First.{◌>>=◌, Numbered, first_that}
+use Rattle.house_causes.specs.First.{◌>>=◌, Numbered, first_after, first_that}
 use Rattle.house_causes.specs.HouseCause.{cause_at}
 use Rattle.house_causes.specs.declared.house_cause.HouseCause.{HouseCause}
 use Rattle.house_causes.specs.declared.house_cause.HouseReason.{HouseReason}
@@ -39,9 +39,10 @@ why_ended reference (event.Credit cdr amount) = None
 why_ended reference (event.Settled settlement) = None
 why_ended reference (event.Closed period) = None
 
-abbrev pub ended : List Event → Release → Hold → Option HouseCause
-ended events release hold = do
-  found ← first_that (ends hold) events
+-- by the first event after the hold's that ended it
+abbrev pub ended : List Event → Release → ℕ → Hold → Option HouseCause
+ended events release number hold = do
+  found ← first_after number (ends hold) events
   why ← why_ended release.reference found.event
   Some (by_event why found.at)
 
@@ -49,7 +50,7 @@ ended events release hold = do
 abbrev pub why_not_open : List Event → Release → ℕ → Hold → Option HouseCause
 why_not_open events release number hold =
     if same_party hold.operator release.operator
-    then ended events release hold
+    then ended events release number hold
     else Some (by_event (reason.GivenToAnother release.reference hold.operator) number)
 
 abbrev pub never_given : Release → HouseCause

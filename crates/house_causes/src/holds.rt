@@ -1,6 +1,7 @@
 //! Why a release ends no hold.
 
 ghost use Rattle.std.specs.Prelude.{◌≡◌};
+ghost use Rattle.known_events.specs.After.{IsFirstGiven};
 ghost use Rattle.house_causes.specs.Holds.{by_event, ended, never_given, unknown_hold, why_ended, why_not_open};
 
 use crate::house_cause::{HouseCause, HouseReason};
@@ -35,32 +36,32 @@ fn why_ended(reference: CiText<36>, event: &Event) -> Option<HouseReason>
     }
 }
 
-// The event that ended the hold.
-fn ended(events: &KnownEvents, release: &Release, hold: &Hold) -> Option<HouseCause>
-    ensures { result ≡ ended events.now release.now hold.now }
+// The event that ended the hold, which the event at `given` was the first to give.
+fn ended(events: &KnownEvents, release: &Release, given: usize, hold: &Hold) -> Option<HouseCause>
+    ensures { IsFirstGiven events.now release.now given hold.now → result ≡ ended events.now release.now given hold.now }
 {
     let at = events.ended_at(hold)?;
     let reason = why_ended(release.reference, events.get(at)?)?;
     Some(by_event(reason, at))
 }
 
-// Why a hold, which the event of that number gave, is not open for the release.
+// Why a hold, which the event at `given` was the first to give, is not open for the release.
 fn why_not_open(
     events: &KnownEvents,
     release: &Release,
-    at: usize,
+    given: usize,
     hold: &Hold,
 ) -> Option<HouseCause>
-    ensures { result ≡ why_not_open events.now release.now at hold.now }
+    ensures { IsFirstGiven events.now release.now given hold.now → result ≡ why_not_open events.now release.now given hold.now }
 {
     if hold.operator.is(&release.operator) {
-        return ended(events, release, hold);
+        return ended(events, release, given, hold);
     }
     let reason = HouseReason::GivenToAnother {
         reference: release.reference,
         operator: hold.operator,
     };
-    Some(by_event(reason, at))
+    Some(by_event(reason, given))
 }
 
 // The provider never got a hold of this reference.

@@ -43,6 +43,6 @@ pub fn cause_of_request(
 {
     match admit(config, request) {
         Ok(command) => Some(RequestCause::ByHouse(cause_of(config, events, &command, reply)?)),
-        Err(cause) => Some(RequestCause::NotAdmitted(cause)),
+        Err((_request, cause)) => Some(RequestCause::NotAdmitted(cause)),
     }
 }

@@ -11,6 +11,7 @@ pub mod EndingLemmas
 pub mod EventLemmas
 pub mod ExclusionLemmas
 pub mod Folds
+pub mod FreedLemmas
 pub mod HeldEvents
 pub mod HoldingLemmas
 pub mod Keeping
@@ -32,4 +33,5 @@ pub mod SoundLemmas
 pub mod StepLemmas
 pub mod TakenLemmas
 pub mod TimeLemmas
+pub mod TimedLemmas
 pub mod Wholes

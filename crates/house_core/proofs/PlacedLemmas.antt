@@ -15,12 +15,12 @@ use Rattle.house_core.specs.declared.stage.Stage.{Stage}
 use Rattle.house_core.specs.declared.stage.Stage.TheVariants as stage
 use Rattle.house_core.specs.declared.step.Action.TheVariants as action
 use Rattle.house_core.specs.declared.step.Step.{Step}
-use Rattle.house_core.specs.Calls.{begun}
+use Rattle.house_core.specs.Calls.{begun, waiting}
 use Rattle.house_core.specs.Events.{events_of}
 use Rattle.house_core.specs.Inner.HouseLaws.{HouseLaws}
 use Rattle.house_core.specs.Inner.Sound.{Holds, IsAt}
 use Rattle.period_order.specs.Kept.{IsConfiguration}
-use Rattle.house_core.specs.OneHouse.{AnsweredAsOne, ArePlaced, HasPlace, HoldsEvents, IsFinished, Ordered, after, events_behind, finished, in_order, ordered_at}
+use Rattle.house_core.specs.OneHouse.{AnsweredAsOne, ArePlaced, HasPlace, HoldsEvents, IsFinished, IsTimed, Ordered, after, events_behind, finished, in_order, ordered_at}
 use Rattle.house_core.specs.Start.{start}
 use Rattle.house_core.specs.Steps.{orders, step}
 use Rattle.house_core.specs.World.{PlainWorld}
@@ -30,9 +30,10 @@ use Rattle.house_core.proofs.HeldEvents.{holds_events}
 use Rattle.house_core.proofs.OneHouseLemmas.{at_point, finishes_well, found, holds_after, keeps, starts, waiting_at}
 use Rattle.house_core.proofs.OwnPlaces.{AllStand, StandsAt, StandsDone, each_stands, ended_once, placed_once}
 use Rattle.house_core.proofs.PutLemmas.{met}
+use Rattle.house_core.proofs.TimedLemmas.{AllBegun, TimedAt, each_timed}
 use Rattle.house_core.proofs.TimeLemmas.{each_then}
 
-begun_at : (config : Config) (events : List Event) (command : Command) (begin : ℕ) (s : Stage) (own : Command) → begun s ≡ Some own → IsAt config events command begin s → own ≡ command
+pub begun_at : (config : Config) (events : List Event) (command : Command) (begin : ℕ) (s : Stage) (own : Command) → begun s ≡ Some own → IsAt config events command begin s → own ≡ command
 begun_at config events command begin (stage.Waiting c) own h at = absurd (none-some own h)
 begun_at config events command begin (stage.Begun c) own h at = sym (same_Some c own h) ∙ at.0
 begun_at config events command begin (stage.Ordered c) own h at = absurd (none-some own h)
@@ -70,6 +71,13 @@ module _ (config : Config) (commands : List Command) (laws : HouseLaws) (is_conf
         let one = waiting_at config commands laws is_config empty admitted commands n call is in
         subst (λ (c : RunningCall). StandsAt first [] n c.stage) one.2 tt
 
+    -- the order has an entry for each event
+    counted : (steps : List Step) → length (after first steps).order ≡ length (events_of (after first steps))
+    counted steps =
+        let last = holds_after config commands laws is_config empty admitted steps in
+        let events : List Event = events_behind config [] (ordered_commands first steps) in
+        at_point config commands laws is_config events (after first steps) last ∙ ap length (found config commands laws is_config events (after first steps) last)
+
     place_of : (steps : List Step) (n : ℕ) (d : Done) → StandsDone first steps n d → HasPlace config commands steps n d
     place_of steps n (done.Answered point reply) is =
         let last = holds_after config commands laws is_config empty admitted is.earlier in
@@ -82,7 +90,7 @@ module _ (config : Config) (commands : List Command) (laws : HouseLaws) (is_conf
           split = is.split;
           of_call = named_by events world (record { call = n; action = action.Order }) is.command last is.placed;
           placed = is.placed;
-          at = is.at ∙ at_point config commands laws is_config events world last ∙ ap length (found config commands laws is_config events world last);
+          at = is.at ∙ counted is.earlier;
         }
     place_of steps n done.Abandoned is = is
 
@@ -115,3 +123,31 @@ module _ (config : Config) (commands : List Command) (laws : HouseLaws) (is_conf
           placed = placed steps;
           legal = subst (IsLegal config) same last.kept.legal;
         }
+
+    -- ---- the steps at which calls begin and end
+
+    begun_first : AllBegun first []
+    begun_first n call there begun =
+        let one = waiting_at config commands laws is_config empty admitted commands n call there in
+        absurd (none-some one.0 (sym begun ∙ ap (λ (c : RunningCall). waiting c.stage) (sym one.2)))
+
+    timed_of : (steps : List Step) (f : Finished) → TimedAt first steps f → IsTimed config commands steps f
+    timed_of steps f is = record {
+      earlier = is.earlier;
+      last = is.last;
+      later = is.later;
+      split = is.split;
+      taken = is.taken;
+      begun = record {
+        earlier = is.begun.earlier;
+        later = is.begun.later;
+        command = is.begun.command;
+        split = is.begun.split;
+        taken = is.begun.taken;
+        at = is.begun.at ∙ counted is.begun.earlier;
+      };
+      at = is.at ∙ counted is.earlier;
+    }
+
+    pub are_timed : (steps : List Step) → AllByRecursion (IsTimed config commands steps) (finished first steps)
+    are_timed steps = each_then (TimedAt first steps) (IsTimed config commands steps) (finished first steps) (timed_of steps) (each_timed first steps begun_first)

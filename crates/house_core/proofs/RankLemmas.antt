@@ -173,7 +173,7 @@ module _ (world : PlainWorld) (number : ℕ) (call : RunningCall) where
 abbrev pub rank_at : PlainWorld → ℕ → ℕ
 rank_at world number = option_map_or (λ (call : RunningCall). rank call.stage) (slice_get world.calls number) 3
 
-rank_is : (world : PlainWorld) (number : ℕ) (call : RunningCall) → slice_get world.calls number ≡ Some call → rank_at world number ≡ rank call.stage
+pub rank_is : (world : PlainWorld) (number : ℕ) (call : RunningCall) → slice_get world.calls number ≡ Some call → rank_at world number ≡ rank call.stage
 rank_is world number call is = ap (λ (o : Option RunningCall). option_map_or (λ (c : RunningCall). rank c.stage) o 3) is
 
 -- the call of a step is changed, and no other

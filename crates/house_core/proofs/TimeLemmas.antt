@@ -42,11 +42,15 @@ after_longer world (one ∷ later) =
     let rest : length (step world one).order ≤ length (after (step world one) later).order = after_longer (step world one) later in
     omega (arith, here, rest)
 
--- ---- what has begun behind a number of events
+-- ---- when a call has begun
 
--- where the call has begun, so many events were there
+-- where the call has begun, this is so of its begin
+abbrev pub BeganAs : (ℕ → Type 0) → RunningCall → Type 0
+BeganAs P call = waiting call.stage ≡ None → P call.begin
+
+-- so many events were there
 abbrev pub Late : ℕ → RunningCall → Type 0
-Late n call = waiting call.stage ≡ None → n ≤ call.begin
+Late n call = BeganAs (λ begin. n ≤ begin) call
 
 -- what is so of what is made of what is given
 pub made : {X : Type 0} (f : X → Change) (o : Option X) (change : Change) (P : Change → Type 0) → ((x : X) → o ≡ Some x → P (f x)) → option_map f o ≡ Some change → P change
@@ -65,11 +69,12 @@ pub only_if : {X : Type 0} (b : Bool) (o : Option X) (x : X) → (if b then o el
 only_if true o x h = h
 only_if false o x h = absurd (none-some x h)
 
-made_end : {X : Type 0} {n number point : ℕ} (f : X → Finished) (o : Option X) (g : Finished) → ((x : X) → o ≡ Some x → ((f x).call ≡ number) × (n ≤ (f x).begin) × ((f x).end ≡ point))
-    → option_map f o ≡ Some g → (g.call ≡ number) × (n ≤ g.begin) × (g.end ≡ point)
-made_end f None g all h = absurd (none-some g h)
-made_end {n = n} {number = number} {point = point} f (Some x) g all h =
-    subst (λ (y : Finished). (y.call ≡ number) × (n ≤ y.begin) × (y.end ≡ point)) (same_Some (f x) g h) (all x refl)
+made_end : {X : Type 0} {number point : ℕ} (P : ℕ → Type 0) (f : X → Finished) (o : Option X) (g : Finished)
+    → ((x : X) → o ≡ Some x → ((f x).call ≡ number) × P (f x).begin × ((f x).end ≡ point))
+    → option_map f o ≡ Some g → (g.call ≡ number) × P g.begin × (g.end ≡ point)
+made_end P f None g all h = absurd (none-some g h)
+made_end {number = number} {point = point} P f (Some x) g all h =
+    subst (λ (y : Finished). (y.call ≡ number) × P y.begin × (y.end ≡ point)) (same_Some (f x) g h) (all x refl)
 
 begun_waits : (s : Stage) (own : Command) → begun s ≡ Some own → waiting s ≡ None
 begun_waits (stage.Waiting c) own h = absurd (none-some own h)
@@ -103,98 +108,110 @@ collected_waits config n operator entries (stage.Netting c) next h = refl
 collected_waits config n operator entries (stage.Stating c) next h = refl
 collected_waits config n operator entries stage.Ended next h = refl
 
-module _ (n : ℕ) (world : PlainWorld) (within : n ≤ length world.order) (number : ℕ) (call : RunningCall) (late : Late n call) where
-  abbrev LateChange : Change → Type 0
-  LateChange change = Late n change.call
+module _ (P : ℕ → Type 0) (world : PlainWorld) (number : ℕ) (call : RunningCall) (began : BeganAs P call) where
+  abbrev AsChanged : Change → Type 0
+  AsChanged change = BeganAs P change.call
 
-  change_late : (a : Action) (change : Change) → change_by world number call a ≡ Some change → LateChange change
-  change_late action.Begin change h =
-      made (λ (own : Command). of_call (record call { begin = length world.order; stage = stage.Begun own })) (waiting call.stage) change LateChange (λ x e. λ w. within) h
-  change_late action.TakeBook change h =
-      made_then (take_book number call) (lock_at world.books (wanted_book call)) change LateChange
-      (λ lock e g. where_free (is_none lock.holder) (of_book (record call { has_book = true }) (held number lock)) change LateChange late g) h
-  change_late action.TakeAccount change h =
-      made_then (take_account number call) (lock_at world.accounts (wanted_account call)) change LateChange
-      (λ lock e g. where_free (is_none lock.holder) (of_account (record call { has_account = true }) (held number lock)) change LateChange late g) h
-  change_late action.Order change h =
-      made (order world.config (known_to world call) call) (ready call) change LateChange
-      (λ own e. λ w. late (begun_waits call.stage own (only_if _ (begun call.stage) own e))) h
-  change_late action.PutAccount change h =
-      made_then (λ (c : Carried). option_map (put_account call c) (lock_at world.accounts call.account)) (for_account call) change LateChange
-      (λ c e g. made (put_account call c) (lock_at world.accounts call.account) change LateChange (λ lock e. late) g) h
-  change_late action.PutBook change h =
-      made_then (λ (c : Carried). option_map (put_book call c) (lock_at world.books call.book)) (for_book call) change LateChange
-      (λ c e g. made (put_book call c) (lock_at world.books call.book) change LateChange (λ lock f. λ w. late (ordered_waits call.stage c (only_if _ (ordered call.stage) c e))) g) h
-  change_late (action.Collect operator) change h = by (slice_get world.config.operators operator) (slice_get world.books operator) h
+  change_began : (a : Action) → (a ≡ action.Begin → (own : Command) → waiting call.stage ≡ Some own → P (length world.order))
+      → (change : Change) → change_by world number call a ≡ Some change → AsChanged change
+  change_began action.Begin here change h =
+      made (λ (own : Command). of_call (record call { begin = length world.order; stage = stage.Begun own })) (waiting call.stage) change AsChanged (λ own e. λ w. here refl own e) h
+  change_began action.TakeBook here change h =
+      made_then (take_book number call) (lock_at world.books (wanted_book call)) change AsChanged
+      (λ lock e g. where_free (is_none lock.holder) (of_book (record call { has_book = true }) (held number lock)) change AsChanged began g) h
+  change_began action.TakeAccount here change h =
+      made_then (take_account number call) (lock_at world.accounts (wanted_account call)) change AsChanged
+      (λ lock e g. where_free (is_none lock.holder) (of_account (record call { has_account = true }) (held number lock)) change AsChanged began g) h
+  change_began action.Order here change h =
+      made (order world.config (known_to world call) call) (ready call) change AsChanged
+      (λ own e. λ w. began (begun_waits call.stage own (only_if _ (begun call.stage) own e))) h
+  change_began action.PutAccount here change h =
+      made_then (λ (c : Carried). option_map (put_account call c) (lock_at world.accounts call.account)) (for_account call) change AsChanged
+      (λ c e g. made (put_account call c) (lock_at world.accounts call.account) change AsChanged (λ lock e. began) g) h
+  change_began action.PutBook here change h =
+      made_then (λ (c : Carried). option_map (put_book call c) (lock_at world.books call.book)) (for_book call) change AsChanged
+      (λ c e g. made (put_book call c) (lock_at world.books call.book) change AsChanged (λ lock f. λ w. began (ordered_waits call.stage c (only_if _ (ordered call.stage) c e))) g) h
+  change_began (action.Collect operator) here change h = by (slice_get world.config.operators operator) (slice_get world.books operator) h
     where
       free : (b : Bool) (party : Operator) (entries : List BookEntry)
-          → (if b then option_map (λ (s : Stage). of_call (record call { stage = s })) (collected world.config operator party entries call.stage) else None) ≡ Some change → Late n change.call
+          → (if b then option_map (λ (s : Stage). of_call (record call { stage = s })) (collected world.config operator party entries call.stage) else None) ≡ Some change → AsChanged change
       free true party entries g =
-          made (λ (s : Stage). of_call (record call { stage = s })) (collected world.config operator party entries call.stage) change (λ c. Late n c.call)
-          (λ s e. λ w. late (collected_waits world.config operator party entries call.stage s e)) g
+          made (λ (s : Stage). of_call (record call { stage = s })) (collected world.config operator party entries call.stage) change AsChanged
+          (λ s e. λ w. began (collected_waits world.config operator party entries call.stage s e)) g
       free false party entries g = absurd (none-some change g)
 
-      by : (party : Option Operator) (lock : Option (Lock BookEntry)) → collect_at world.config operator call party lock ≡ Some change → Late n change.call
+      by : (party : Option Operator) (lock : Option (Lock BookEntry)) → collect_at world.config operator call party lock ≡ Some change → AsChanged change
       by None lock g = absurd (none-some change g)
       by (Some party) None g = absurd (none-some change g)
       by (Some party) (Some lock) g = free (is_none lock.holder) party lock.entries g
-  change_late action.Abandon change h =
-      made (λ (own : Command). abandon call (lock_at world.books (held_book call)) (lock_at world.accounts (held_account call))) (begun call.stage) change LateChange
-      (λ own e. λ w. late (begun_waits call.stage own e)) h
-  change_late action.End change h =
-      made (λ (t : ReplyDue). end call) (reply_due call) change LateChange (λ t e. λ w. late (told_waits _ call.stage t e)) h
+  change_began action.Abandon here change h =
+      made (λ (own : Command). abandon call (lock_at world.books (held_book call)) (lock_at world.accounts (held_account call))) (begun call.stage) change AsChanged
+      (λ own e. λ w. began (begun_waits call.stage own e)) h
+  change_began action.End here change h =
+      made (λ (t : ReplyDue). end call) (reply_due call) change AsChanged (λ t e. λ w. began (told_waits _ call.stage t e)) h
 
 -- the call of that number, if it is there
-abbrev pub LateAt : ℕ → ℕ → PlainWorld → Type 0
-LateAt n c world = (call : RunningCall) → slice_get world.calls c ≡ Some call → Late n call
+abbrev pub BeganAt : (ℕ → Type 0) → ℕ → PlainWorld → Type 0
+BeganAt P c world = (call : RunningCall) → slice_get world.calls c ≡ Some call → BeganAs P call
 
-step_late : (n c : ℕ) (world : PlainWorld) (one : Step) → n ≤ length world.order → LateAt n c world → LateAt n c (step world one)
-step_late n c world one within late = by (slice_get world.calls one.call) refl
+abbrev pub LateAt : ℕ → ℕ → PlainWorld → Type 0
+LateAt n c world = BeganAt (λ begin. n ≤ begin) c world
+
+-- a step leaves it so, if it is so of the number of events where the step begins the call
+pub step_began : (P : ℕ → Type 0) (c : ℕ) (world : PlainWorld) (one : Step)
+    → (c ≡ one.call → one.action ≡ action.Begin → (call : RunningCall) → slice_get world.calls one.call ≡ Some call → (own : Command) → waiting call.stage ≡ Some own → P (length world.order))
+    → BeganAt P c world → BeganAt P c (step world one)
+step_began P c world one here began = by (slice_get world.calls one.call) refl
   where
-    put : (call : RunningCall) → slice_get world.calls one.call ≡ Some call → (o : Option Change) → change_by world one.call call one.action ≡ o → LateAt n c (changed world one.call o)
-    put call is None e other there = late other there
+    put : (call : RunningCall) → slice_get world.calls one.call ≡ Some call → (o : Option Change) → change_by world one.call call one.action ≡ o → BeganAt P c (changed world one.call o)
+    put call is None e other there = began other there
     put call is (Some change) e other there = ⊎_elim
         (λ (same : c ≡ one.call).
-        subst (Late n) (same_Some change.call other (sym (get-set_same world.calls one.call change.call call is) ∙ ap (slice_get (slice_set world.calls one.call change.call)) (sym same) ∙ there))
-        (change_late n world within one.call call (late call (ap (slice_get world.calls) same ∙ is)) one.action change e))
-        (λ (apart : c ≢ one.call). late other (sym (get-set_other world.calls one.call c change.call apart) ∙ there))
+        subst (BeganAs P) (same_Some change.call other (sym (get-set_same world.calls one.call change.call call is) ∙ ap (slice_get (slice_set world.calls one.call change.call)) (sym same) ∙ there))
+        (change_began P world one.call call (began call (ap (slice_get world.calls) same ∙ is)) one.action (λ begins own w. here same begins call is own w) change e))
+        (λ (apart : c ≢ one.call). began other (sym (get-set_other world.calls one.call c change.call apart) ∙ there))
         (cases_eq c one.call)
 
-    by : (o : Option RunningCall) → slice_get world.calls one.call ≡ o → LateAt n c (changed world one.call (option_and_then (λ (call : RunningCall). change_by world one.call call one.action) o))
-    by None e other there = late other there
+    by : (o : Option RunningCall) → slice_get world.calls one.call ≡ o → BeganAt P c (changed world one.call (option_and_then (λ (call : RunningCall). change_by world one.call call one.action) o))
+    by None e other there = began other there
     by (Some call) e other there = put call e (change_by world one.call call one.action) refl other there
+
+step_late : (n c : ℕ) (world : PlainWorld) (one : Step) → n ≤ length world.order → LateAt n c world → LateAt n c (step world one)
+step_late n c world one within late = step_began (λ begin. n ≤ begin) c world one (λ same begins call is own w. within) late
 
 -- ---- calls that end
 
-ended_late : (n : ℕ) (world : PlainWorld) (number : ℕ) (call : RunningCall) → Late n call → (a : Action) (f : Finished) → ended_by world number call a ≡ Some f → (f.call ≡ number) × (n ≤ f.begin) × (f.end ≡ length world.order)
-ended_late n world number call late action.Begin f h = absurd (none-some f h)
-ended_late n world number call late action.TakeBook f h = absurd (none-some f h)
-ended_late n world number call late action.TakeAccount f h = absurd (none-some f h)
-ended_late n world number call late action.Order f h = absurd (none-some f h)
-ended_late n world number call late action.PutAccount f h = absurd (none-some f h)
-ended_late n world number call late action.PutBook f h = absurd (none-some f h)
-ended_late n world number call late (action.Collect operator) f h = absurd (none-some f h)
-ended_late n world number call late action.Abandon f h =
-    made_end (λ (own : Command). ended world number call done.Abandoned) (begun call.stage) f (λ own e. (refl, late (begun_waits call.stage own e), refl)) h
-ended_late n world number call late action.End f h =
-    made_end (λ (t : ReplyDue). ended world number call (done.Answered t.point (stamped t.point t.reply))) (reply_due call) f (λ t e. (refl, late (told_waits _ call.stage t e), refl)) h
+ended_began : (P : ℕ → Type 0) (world : PlainWorld) (number : ℕ) (call : RunningCall) → BeganAs P call → (a : Action) (f : Finished) → ended_by world number call a ≡ Some f
+    → (f.call ≡ number) × P f.begin × (f.end ≡ length world.order)
+ended_began P world number call began action.Begin f h = absurd (none-some f h)
+ended_began P world number call began action.TakeBook f h = absurd (none-some f h)
+ended_began P world number call began action.TakeAccount f h = absurd (none-some f h)
+ended_began P world number call began action.Order f h = absurd (none-some f h)
+ended_began P world number call began action.PutAccount f h = absurd (none-some f h)
+ended_began P world number call began action.PutBook f h = absurd (none-some f h)
+ended_began P world number call began (action.Collect operator) f h = absurd (none-some f h)
+ended_began P world number call began action.Abandon f h =
+    made_end P (λ (own : Command). ended world number call done.Abandoned) (begun call.stage) f (λ own e. (refl, began (begun_waits call.stage own e), refl)) h
+ended_began P world number call began action.End f h =
+    made_end P (λ (t : ReplyDue). ended world number call (done.Answered t.point (stamped t.point t.reply))) (reply_due call) f (λ t e. (refl, began (told_waits _ call.stage t e), refl)) h
 
--- a step ends a call that has begun so late, at the number of events
-finishes_late : (n : ℕ) (world : PlainWorld) (one : Step) (f : Finished) → finishes world one ≡ Some f → (LateAt n f.call world → n ≤ f.begin) × (f.end ≡ length world.order)
-finishes_late n world one f h = by (slice_get world.calls one.call) refl h
+-- the call that a step ends has its begin, and the number of events as its end
+pub finishes_began : (P : ℕ → Type 0) (world : PlainWorld) (one : Step) (f : Finished) → finishes world one ≡ Some f → (BeganAt P f.call world → P f.begin) × (f.end ≡ length world.order)
+finishes_began P world one f h = by (slice_get world.calls one.call) refl h
   where
     by : (o : Option RunningCall) → slice_get world.calls one.call ≡ o → option_and_then (λ (call : RunningCall). ended_by world one.call call one.action) o ≡ Some f
-        → (LateAt n f.call world → n ≤ f.begin) × (f.end ≡ length world.order)
+        → (BeganAt P f.call world → P f.begin) × (f.end ≡ length world.order)
     by None e g = absurd (none-some f g)
-    by (Some call) e g = (
-      (λ late. let found = ended_late n world one.call call (late call (ap (slice_get world.calls) (ended_late 0 world one.call call (λ w. omega arith) one.action f g).0 ∙ e)) one.action f g in found.1),
-      (ended_late 0 world one.call call (λ w. omega arith) one.action f g).2,
-    )
+    by (Some call) e g =
+        let of_step = ended_began (λ begin. Unit {0}) world one.call call (λ w. tt) one.action f g in (
+          (λ began. (ended_began P world one.call call (began call (ap (slice_get world.calls) of_step.0 ∙ e)) one.action f g).1),
+          of_step.2,
+        )
 
 module _ (n : ℕ) (Meant : ℕ → Type 0) where
   one_late : (world : PlainWorld) → ((c : ℕ) → Meant c → LateAt n c world) → (one : Step) (o : Option Finished) → finishes world one ≡ o → AllByRecursion (λ f. Meant f.call → n ≤ f.begin) (option_to_list o)
   one_late world late one None e = tt
-  one_late world late one (Some f) e = ((λ meant. (finishes_late n world one f e).0 (late f.call meant)), tt)
+  one_late world late one (Some f) e = ((λ meant. (finishes_began (λ begin. n ≤ begin) world one f e).0 (late f.call meant)), tt)
 
   all_late : (world : PlainWorld) (steps : List Step) → n ≤ length world.order → ((c : ℕ) → Meant c → LateAt n c world) → AllByRecursion (λ f. Meant f.call → n ≤ f.begin) (finished world steps)
   all_late world [] within late = tt
@@ -214,7 +231,7 @@ all_ended world (one ∷ later) =
     first : (o : Option Finished) → finishes world one ≡ o → AllByRecursion (λ f. f.end ≤ length (after (step world one) later).order) (option_to_list o)
     first None e = tt
     first (Some f) e =
-        let at : f.end ≡ length world.order = (finishes_late 0 world one f e).1 in
+        let at : f.end ≡ length world.order = (finishes_began (λ begin. Unit {0}) world one f e).1 in
         let here : length world.order ≤ length (step world one).order = step_longer world one in
         let rest : length (step world one).order ≤ length (after (step world one) later).order = after_longer (step world one) later in
         (omega (arith, at, here, rest), tt)

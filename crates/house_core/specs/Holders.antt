@@ -1,5 +1,5 @@
 -- Who holds the locks.
-use Rattle.std.specs.Prelude.{◌≡◌, ℕ, List, Option, Some, option_and_then, slice_get}
+use Rattle.std.specs.Prelude.{◌≡◌, ◌≢◌, ℕ, List, Option, Some, option_and_then, slice_get}
 use Rattle.house_core.specs.declared.running_call.RunningCall.{RunningCall}
 use Rattle.house_core.specs.Calls.{held_account, held_book}
 use Rattle.house_core.specs.Locks.{Lock}
@@ -26,3 +26,8 @@ pub record AreExclusive (world : PlainWorld) : Type 0 where
   pub accounts : Agree held_account world.accounts world.calls
   pub one_to_a_book : NoTwoHave held_book world.calls
   pub one_to_an_account : NoTwoHave held_account world.calls
+
+-- the call holds no lock
+pub record HasNoLock (world : PlainWorld) (call : ℕ) : Type 0 where
+  pub book : (number : ℕ) → holder_at world.books number ≢ Some call
+  pub account : (number : ℕ) → holder_at world.accounts number ≢ Some call

@@ -25,8 +25,9 @@ use Rattle.house_core.specs.declared.step.Action.TheVariants as action
 use Rattle.house_core.specs.declared.step.Step.{Step}
 use Rattle.house_core.specs.Calls.{due_in_account, due_in_book, waiting}
 use Rattle.house_core.specs.Events.{events_of, whole_account, whole_book}
+use Rattle.house_core.specs.Holders.{HasNoLock}
 use Rattle.house_core.specs.Start.{start}
-use Rattle.house_core.specs.Steps.{finishes, orders, step}
+use Rattle.house_core.specs.Steps.{begins, finishes, orders, step}
 use Rattle.house_core.specs.World.{PlainWorld}
 
 -- ---- a list of steps
@@ -124,6 +125,26 @@ KeepTime world steps =
     (earlier later : List Step) → steps ≡ earlier ++ later →
     AllByRecursion (λ one. AllByRecursion (λ another. IsWaiting (slice_get (after world earlier).calls another.call) → one.end ≤ another.begin) (finished (after world earlier) later)) (finished world earlier)
 
+-- the steps split at the call's Begin step, by which the call begins; `begin` is the number of events before it
+pub record HasBegun (config : Config) (commands : List Command) (steps : List Step) (call begin : ℕ) : Type 0 where
+  pub earlier : List Step
+  pub later : List Step
+  pub command : Command
+  pub split : steps ≡ earlier ++ record { call = call; action = action.Begin } ∷ later
+  pub taken : begins (after (start config commands) earlier) (record { call = call; action = action.Begin }) ≡ Some command
+  pub at : begin ≡ length (events_of (after (start config commands) earlier))
+
+-- the steps split at the step that ends the call, and the call has begun before it; the call's `end` is the number of events before
+-- that step
+pub record IsTimed (config : Config) (commands : List Command) (steps : List Step) (call : Finished) : Type 0 where
+  pub earlier : List Step
+  pub last : Step
+  pub later : List Step
+  pub split : steps ≡ earlier ++ last ∷ later
+  pub taken : finishes (after (start config commands) earlier) last ≡ Some call
+  pub begun : HasBegun config commands earlier call.call call.begin
+  pub at : call.end ≡ length (events_of (after (start config commands) earlier))
+
 -- ---- books, accounts and the order
 
 -- no call has entries that it still has to put
@@ -152,10 +173,12 @@ pub record AnsweredAsOne (config : Config) (commands : List Command) (steps : Li
   pub placed : ArePlaced config commands steps ended
   pub legal : IsLegal config events
 
--- and time is kept
+-- and time is kept; each call that ended has the numbers of events of its first and its last step, and holds no lock any more
 pub record OneHouse (config : Config) (commands : List Command) (steps : List Step) (ended : List Finished) (events : List Event) : Type 0 where
   pub answered : AnsweredAsOne config commands steps ended events
   pub time : KeepTime (start config commands) steps
+  pub timed : AllByRecursion (IsTimed config commands steps) ended
+  pub freed : AllByRecursion (λ call. HasNoLock (after (start config commands) steps) call.call) ended
 
 -- ---- and beside it
 

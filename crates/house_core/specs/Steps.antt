@@ -205,6 +205,21 @@ ended_by world number call action.End =
 abbrev pub finishes : PlainWorld → Step → Option Finished
 finishes world step = option_and_then (λ call. ended_by world step.call call step.action) (slice_get world.calls step.call)
 
+-- the command of the call that a step begins
+abbrev pub begun_by : RunningCall → Action → Option Command
+begun_by call action.Begin = waiting call.stage
+begun_by call action.TakeBook = None
+begun_by call action.TakeAccount = None
+begun_by call action.Order = None
+begun_by call action.PutAccount = None
+begun_by call action.PutBook = None
+begun_by call (action.Collect operator) = None
+begun_by call action.Abandon = None
+begun_by call action.End = None
+
+abbrev pub begins : PlainWorld → Step → Option Command
+begins world step = option_and_then (λ call. begun_by call step.action) (slice_get world.calls step.call)
+
 -- the command that a step gives its place in the order
 abbrev pub ordered_by : RunningCall → Action → Option Command
 ordered_by call action.Begin = None

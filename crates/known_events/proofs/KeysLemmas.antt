@@ -1,5 +1,5 @@
 -- An event has a key if it is what the rule of that key says.
-use Rattle.std.proofs.Common.{◌≡◌, ◌∙◌, ℕ, List, Bool, true, false, ◌&&◌, ◌||◌, ◌==◌, Option, Some, None, refl, sym, option_map}
+use Rattle.std.proofs.Common.{◌≡◌, ◌∙◌, ℕ, List, Bool, true, false, ◌&&◌, ◌||◌, ◌==◌, Option, Some, None, refl, sym, ap, option_map}
 use Rattle.std.specs.Ordering.{int_eq}
 use Rattle.std.proofs.Math.Bool.{and_assoc}
 use Rattle.ocpi_json.specs.Folded.{same_folded}
@@ -15,9 +15,10 @@ use Rattle.plain_house.specs.declared.event.Event.TheVariants as event
 use Rattle.plain_house.specs.declared.event.Hold.{Hold}
 use Rattle.plain_house.specs.Exposure.{names}
 use Rattle.plain_house.specs.Happened.{books, ends, gives, puts, settles, stores, takes_back}
-use Rattle.known_events.specs.Inner.Firsts.{adds, credits, is_key, same_credited, same_use, uses}
+use Rattle.known_events.specs.Inner.Firsts.{adds, credits, ends_by, is_key, same_credited, same_end}
+use Rattle.known_events.specs.declared.keys.EndKey.{EndKey}
+use Rattle.known_events.specs.declared.keys.EndKey.TheVariants as end
 use Rattle.known_events.specs.declared.keys.OwnKey.TheVariants as own
-use Rattle.known_events.specs.declared.keys.UseKey.{UseKey}
 use Rattle.operator_book.proofs.KeyLemmas.{or_false}
 
 -- ---- tests of one entry
@@ -110,30 +111,39 @@ credits_cdr operator id (event.Closed period) = refl
 
 -- ---- which hold it ends
 
-abbrev pub use_of : Hold → UseKey
-use_of hold = record { operator = hold.operator; provider = hold.provider; currency = hold.currency; reference = hold.reference }
+abbrev pub release_key : Hold → EndKey
+release_key hold = end.Release hold.operator hold.provider hold.reference
+
+abbrev pub use_key : Hold → EndKey
+use_key hold = end.Use hold.operator hold.provider hold.currency hold.reference
 
 none_of_four : (a b c : Bool) → false ≡ ((a && b && c && false) || false)
 none_of_four a b c = none (a && b && c)
 
 uses_one : (hold : Hold) (operator provider : Party) (currency : List ℕ) (reference : Option (List ℕ))
-    → is_key same_use (use_of hold) (option_map (λ other. record { operator = operator; provider = provider; currency = currency; reference = other }) reference)
+    → is_key same_end (use_key hold) (option_map (λ other. end.Use operator provider currency other) reference)
     ≡ ((same_party operator hold.operator && same_party provider hold.provider && same_currency currency hold.currency && names hold.reference reference) || false)
 uses_one hold operator provider currency None =
     none_of_four (same_party operator hold.operator) (same_party provider hold.provider) (same_currency currency hold.currency)
 uses_one hold operator provider currency (Some other) =
     one_of_four (same_party operator hold.operator) (same_party provider hold.provider) (same_currency currency hold.currency) (same_folded other hold.reference)
 
+no_release : (hold : Hold) (operator provider : Party) (currency : List ℕ) (reference : Option (List ℕ))
+    → is_key same_end (release_key hold) (option_map (λ other. end.Use operator provider currency other) reference) ≡ false
+no_release hold operator provider currency None = refl
+no_release hold operator provider currency (Some other) = refl
+
 -- a release of it, or its use
-pub ends_hold : (hold : Hold) (e : Event)
-    → (adds (own.Release hold.operator hold.provider hold.reference) e || uses (use_of hold) e) ≡ ends hold e
+pub ends_hold : (hold : Hold) (e : Event) → (ends_by (release_key hold) e || ends_by (use_key hold) e) ≡ ends hold e
 ends_hold hold (event.Tariff tariff) = refl
 ends_hold hold (event.Token token) = refl
 ends_hold hold (event.Authorised other) = refl
 ends_hold hold (event.Released release) =
     or_false (same_party release.operator hold.operator && (same_party release.provider hold.provider && same_folded release.reference hold.reference))
     ∙ one_of_three (same_party release.operator hold.operator) (same_party release.provider hold.provider) (same_folded release.reference hold.reference)
-ends_hold hold (event.Cdr cdr cost) = uses_one hold cdr.operator cdr.cdr_token.provider cdr.currency cdr.authorization_reference
+ends_hold hold (event.Cdr cdr cost) =
+    ap (λ b. b || ends_by (use_key hold) (event.Cdr cdr cost)) (no_release hold cdr.operator cdr.cdr_token.provider cdr.currency cdr.authorization_reference)
+    ∙ uses_one hold cdr.operator cdr.cdr_token.provider cdr.currency cdr.authorization_reference
 ends_hold hold (event.Credit cdr amount) = refl
 ends_hold hold (event.Settled settlement) = refl
 ends_hold hold (event.Closed period) = refl

@@ -32,7 +32,7 @@ other_first n (Some m) later =
     let less : n < m = omega arith in
     ap (λ b. cond b (Some n) (Some m)) (sym (lt-ltb n m less))
 
-lesser_from : {E : Type 0} (p q : E → Bool) (n : ℕ) (xs : List E)
+pub lesser_from : {E : Type 0} (p q : E → Bool) (n : ℕ) (xs : List E)
     → position_from (λ e. p e || q e) n xs ≡ lesser (position_from p n xs) (position_from q n xs)
 lesser_from p q n [] = refl
 lesser_from p q n (x ∷ xs) = by (p x) (q x) (lesser_from p q (n + 1) xs)

@@ -1,7 +1,7 @@
 //! By what events are found.
 
 ghost use Rattle.std.specs.Prelude.{◌≡◌};
-ghost use Rattle.known_events.specs.Inner.Keys.{credited_by, credited_key, own_key, use_key, used_by};
+ghost use Rattle.known_events.specs.Inner.Keys.{credited_by, credited_key, end_key, hold_key, own_key, used_by};
 
 use jiff::Timestamp;
 use ocpi_json::ci_text::CiText;
@@ -27,12 +27,6 @@ pub enum OwnKey {
         provider: Party,
         reference: CiText<36>,
     },
-    /// The release of a hold.
-    Release {
-        operator: Party,
-        provider: Party,
-        reference: CiText<36>,
-    },
     /// A CDR or Credit CDR.
     Cdr {
         operator: Party,
@@ -53,16 +47,25 @@ pub struct CreditedKey {
     pub id: CiText<39>,
 }
 
-/// The hold that a CDR uses up.
+/// The hold that an event ends.
 #[derive(Clone, Copy, PartialEq, Eq, Hash)]
-pub struct UseKey {
-    pub operator: Party,
-    pub provider: Party,
-    pub currency: Currency,
-    pub reference: CiText<36>,
+pub enum EndKey {
+    /// By its release.
+    Release {
+        operator: Party,
+        provider: Party,
+        reference: CiText<36>,
+    },
+    /// By a CDR that uses it up.
+    Use {
+        operator: Party,
+        provider: Party,
+        currency: Currency,
+        reference: CiText<36>,
+    },
 }
 
-/// Returns the key of what an event adds. A close adds nothing.
+/// Returns the key of what an event adds. A release and a close add nothing.
 pub fn own_key(event: &Event) -> Option<OwnKey>
     ensures { result ≡ own_key event.now }
 {
@@ -80,11 +83,7 @@ pub fn own_key(event: &Event) -> Option<OwnKey>
             provider: hold.provider,
             reference: hold.reference,
         }),
-        Event::Released(release) => Some(OwnKey::Release {
-            operator: release.operator,
-            provider: release.provider,
-            reference: release.reference,
-        }),
+        Event::Released(_) => None,
         Event::Cdr { cdr, .. } => Some(OwnKey::Cdr {
             operator: cdr.operator,
             id: cdr.id,
@@ -122,10 +121,10 @@ pub fn credited_key(event: &Event) -> Option<CreditedKey>
     }
 }
 
-fn used_by(cdr: &Cdr) -> Option<UseKey>
+fn used_by(cdr: &Cdr) -> Option<EndKey>
     ensures { result ≡ used_by cdr.now }
 {
-    Some(UseKey {
+    Some(EndKey::Use {
         operator: cdr.operator,
         provider: cdr.cdr_token.provider,
         currency: cdr.currency,
@@ -133,12 +132,41 @@ fn used_by(cdr: &Cdr) -> Option<UseKey>
     })
 }
 
-/// Returns the key of the hold that a CDR uses up, if it names one. A Credit CDR uses up none.
-pub fn use_key(event: &Event) -> Option<UseKey>
-    ensures { result ≡ use_key event.now }
+/// Returns the key of the hold that an event ends, if it names one. A Credit CDR ends none.
+pub fn end_key(event: &Event) -> Option<EndKey>
+    ensures { result ≡ end_key event.now }
 {
     match event {
+        Event::Released(release) => Some(EndKey::Release {
+            operator: release.operator,
+            provider: release.provider,
+            reference: release.reference,
+        }),
         Event::Cdr { cdr, .. } => used_by(cdr),
         _ => None,
+    }
+}
+
+/// Returns the key under which the hold is given.
+pub fn hold_key(key: &EndKey) -> OwnKey
+    ensures { result ≡ hold_key key.now }
+{
+    match key {
+        EndKey::Release {
+            provider,
+            reference,
+            ..
+        } => OwnKey::Hold {
+            provider: *provider,
+            reference: *reference,
+        },
+        EndKey::Use {
+            provider,
+            reference,
+            ..
+        } => OwnKey::Hold {
+            provider: *provider,
+            reference: *reference,
+        },
     }
 }

@@ -1,4 +1,4 @@
-use crate::keys::{CreditedKey, OwnKey, UseKey, credited_key, own_key, use_key};
+use crate::keys::{CreditedKey, EndKey, OwnKey, credited_key, end_key, hold_key, own_key};
 use crate::places::{lesser, put};
 use cdr_checks::{Authorize, Release, Settlement};
 use ocpi_json::ci_text::CiText;
@@ -16,8 +16,8 @@ pub struct KnownEvents {
     own: Places<OwnKey>,
     /// By the CDRs that events credit.
     credited: Places<CreditedKey>,
-    /// By the holds that events use up.
-    used: Places<UseKey>,
+    /// By the holds that events end, of the events after the hold.
+    ended: Places<EndKey>,
     /// The period of each event.
     periods: Vec<u64>,
     /// The current period.
@@ -31,7 +31,7 @@ impl Drop for KnownEvents {
             list: _,
             own: _,
             credited: _,
-            used: _,
+            ended: _,
             periods: _,
             period: _,
         } = self;
@@ -42,7 +42,7 @@ impl Model for KnownEvents {
     ghost use Rattle.std.specs.Prelude.{◌≡◌, List};
     ghost use Rattle.plain_house.specs.Entries.{period_of};
     ghost use Rattle.plain_house.specs.declared.event.Event.{Event as AnEvent};
-    ghost use Rattle.known_events.specs.Inner.Firsts.{FindsFirst, adds, credits, same_credited, same_own, same_use, uses};
+    ghost use Rattle.known_events.specs.Inner.Firsts.{FindsFirst, FindsFirstAfter, adds, credits, ends_by, gives_for, same_credited, same_end, same_own};
     ghost use Rattle.known_events.specs.Inner.Periods.{periods_of};
 
     ghost Value = { List AnEvent };
@@ -51,17 +51,20 @@ impl Model for KnownEvents {
 
     ghost invariant = { λ known. FindsFirst same_own adds known.own.firsts known.list.items
         × FindsFirst same_credited credits known.credited.firsts known.list.items
-        × FindsFirst same_use uses known.used.firsts known.list.items
+        × FindsFirstAfter same_end gives_for ends_by known.ended.firsts known.list.items
         × (known.periods.items ≡ periods_of known.list.items)
         × (known.period ≡ period_of known.list.items) };
 }
 
 impl KnownEvents {
-    ghost use Rattle.std.specs.Prelude.{◌≡◌, [], ◌∷◌, ◌++◌, not, position, option_copied, option_map, slice_get, OnOk, OnErr};
+    ghost use Rattle.std.specs.Prelude.{◌≡◌, ℕ, [], ◌∷◌, ◌++◌, not, position, option_copied, option_map, slice_get, OnOk, OnErr};
     ghost use Rattle.std.specs.List.{list_any};
     ghost use Rattle.plain_house.specs.Booked.{booked_as, shown_booked};
     ghost use Rattle.plain_house.specs.Entries.{book_entries, period_of};
     ghost use Rattle.plain_house.specs.Happened.{books, ends, gives, puts, registers, settles, stores, takes_back};
+    ghost use Rattle.cdr_checks.specs.declared.request.Release.{Release};
+    ghost use Rattle.known_events.specs.After.{IsFirstGiven, position_after};
+    ghost use Rattle.known_events.specs.Inner.Firsts.{key_if_given};
 
     /// Returns an empty list.
     pub fn new(alloc: Global) -> KnownEvents
@@ -71,7 +74,7 @@ impl KnownEvents {
             list: Vec::new(alloc),
             own: Places::new(alloc),
             credited: Places::new(alloc),
-            used: Places::new(alloc),
+            ended: Places::new(alloc),
             periods: Vec::new(alloc),
             period: 0,
         }
@@ -86,19 +89,29 @@ impl KnownEvents {
         ensures ok { OnOk result (self.new ≡ self.old ++ event ∷ []) }
         ensures err { OnErr result (self.new ≡ self.old) }
     {
+        let ended = self.key_if_given(&event);
         self.own.reserve(1)?;
         self.credited.reserve(1)?;
-        self.used.reserve(1)?;
+        self.ended.reserve(1)?;
         self.periods.reserve(1)?;
         self.list.reserve(1)?;
         let place = self.list.len();
         put(&mut self.own, own_key(&event), place);
         put(&mut self.credited, credited_key(&event), place);
-        put(&mut self.used, use_key(&event), place);
+        put(&mut self.ended, ended, place);
         self.periods.push(self.period).unwrap();
         self.period = period_after(self.period, &event);
         self.list.push(event).unwrap();
         Ok(())
+    }
+
+    // The key of the hold that the event ends, if one of the events gives a hold of that provider and reference.
+    fn key_if_given(&self, event: &Event) -> Option<EndKey>
+        ensures { result ≡ key_if_given self.now event.now }
+    {
+        let key = end_key(event)?;
+        let given = self.own.get(&hold_key(&key));
+        if given.is_some() { Some(key) } else { None }
     }
 
     /// Returns the events, in the order in which they were added.
@@ -162,16 +175,17 @@ impl KnownEvents {
         })
     }
 
-    /// Returns the first event that ends the hold: its release, or the CDR that uses it up.
+    /// Returns the first event that ends the hold: its release, or the CDR that uses it up. Only events after the first hold of the
+    /// provider and reference count.
     pub fn ended_at(&self, hold: &Hold) -> Option<usize>
-        ensures { result ≡ position (ends hold.now) self.now }
+        ensures { (release : Release) (at : ℕ) → IsFirstGiven self.now release at hold.now → result ≡ position_after (ends hold.now) at self.now }
     {
-        let released = self.own.get(&OwnKey::Release {
+        let released = self.ended.get(&EndKey::Release {
             operator: hold.operator,
             provider: hold.provider,
             reference: hold.reference,
         });
-        let used = self.used.get(&UseKey {
+        let used = self.ended.get(&EndKey::Use {
             operator: hold.operator,
             provider: hold.provider,
             currency: hold.currency,

@@ -1,8 +1,10 @@
 pub mod AddedLemmas
 pub mod AttemptLemmas
 pub mod EventLemmas
+pub mod GivenLemmas
 pub mod LooseAdmission
 pub mod LooseJudges
 pub mod LooseLemmas
 pub mod LooseVerdict
+pub mod OutcomeLemmas
 pub mod ValidLemmas

@@ -16,6 +16,6 @@ judges_wider config = record {
       let request : Request = given.1.0 in
       (told, (record { platform = hub_name; ask = request.ask }, admitted_wider config request told given.1.1), adds_wider config now told e given.2);
   operators = refl;
-  providers = sym (same_names config.providers);
+  providers = sym (same_names config.currencies config.providers);
   currencies = refl;
 }

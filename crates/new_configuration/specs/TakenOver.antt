@@ -1,5 +1,5 @@
 -- A house that takes over the events of another under its own configuration.
-use Rattle.std.specs.Prelude.{◌≡◌, ℕ, List, ◌∷◌, ◌++◌, length}
+use Rattle.std.specs.Prelude.{◌≡◌, ◌⊎◌, ℕ, List, ◌∷◌, ◌++◌, length}
 use Rattle.ocpi_types.specs.declared.config.Config.{Config}
 use Rattle.plain_house.specs.declared.event.Event.{Event}
 use Rattle.plain_house.specs.Legal.{IsGiven, IsLegal}
@@ -30,3 +30,7 @@ TakenOverIsWhole =
 abbrev pub FirstOtherwiseIsUnique : Type 0
 FirstOtherwiseIsUnique =
     (config : Config) (events : List Event) (one other : ℕ) → IsFirstOtherwise config events one → IsFirstOtherwise config events other → one ≡ other
+
+-- each list is taken over, or has such a number: a house of the list is made or refused, unless memory runs out
+abbrev pub TakenOverOrRefused : Type 0
+TakenOverOrRefused = (config : Config) (events : List Event) → IsLegal config events ⊎ ((number : ℕ) × IsFirstOtherwise config events number)

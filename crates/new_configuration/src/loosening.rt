@@ -1,13 +1,13 @@
 //! The loosest configuration beside a given one.
 
 ghost use Rattle.std.specs.Prelude.{◌≡◌, ◌++◌, ◌∷◌, [], map, max, IfOk, OnOk};
-ghost use Rattle.new_configuration.specs.Loosened.{hub_for_all, largest, loosened, with_highest_limit, with_highest_limits};
+ghost use Rattle.new_configuration.specs.Loosened.{hub_for_all, largest, loosened, missing_rows, with_highest_limit, with_highest_limits};
 
 use ocpi_json::ci_text::CiText;
 use ocpi_json::name::Name;
 use ocpi_json::sequence::Sequence;
 use ocpi_types::config::{Limits, Operator, Platform, Provider, ProviderLimit};
-use ocpi_types::{AtMost, Config, Distinct, Party, TryCopy};
+use ocpi_types::{AtMost, Config, Currency, Distinct, Party, TryCopy};
 use std::alloc::{AllocError, Global};
 
 // The bound of a number, which is the greater of both.
@@ -28,14 +28,45 @@ fn with_highest_limit(row: &ProviderLimit) -> ProviderLimit
     }
 }
 
-fn with_highest_limits(alloc: Global, provider: &Provider) -> Result<Provider, AllocError>
-    ensures { IfOk result (λ loose. loose ≡ with_highest_limits provider.now) }
+fn add_rows(limits: &mut Sequence<ProviderLimit>, rows: &[ProviderLimit]) -> Result<(), AllocError>
+    ensures { OnOk result (limits.new ≡ limits.old ++ map with_highest_limit rows.now) }
 {
-    let rows = provider.limits.as_slice();
-    let mut limits = Sequence::with_capacity(alloc, rows.len())?;
     for row in rows {
         limits.push(with_highest_limit(row))?;
     }
+    Ok(())
+}
+
+// Adds a row for each of the currencies in which the provider has none.
+fn add_missing_rows(
+    limits: &mut Sequence<ProviderLimit>,
+    provider: &Provider,
+    currencies: &[Currency],
+) -> Result<(), AllocError>
+    ensures { OnOk result (limits.new ≡ limits.old ++ missing_rows provider.now currencies.now) }
+{
+    for currency in currencies {
+        if provider.row(currency).is_none() {
+            limits.push(ProviderLimit {
+                currency: *currency,
+                limit: AtMost::most(),
+                hold: AtMost::new(1).unwrap(),
+            })?;
+        }
+    }
+    Ok(())
+}
+
+fn with_highest_limits(
+    alloc: Global,
+    currencies: &[Currency],
+    provider: &Provider,
+) -> Result<Provider, AllocError>
+    ensures { IfOk result (λ loose. loose ≡ with_highest_limits currencies.now provider.now) }
+{
+    let mut limits = Sequence::with_capacity(alloc, currencies.len())?;
+    add_rows(&mut limits, provider.limits.as_slice())?;
+    add_missing_rows(&mut limits, provider, currencies)?;
     Ok(Provider {
         party: provider.party,
         limits,
@@ -43,12 +74,13 @@ fn with_highest_limits(alloc: Global, provider: &Provider) -> Result<Provider, A
 }
 
 fn providers(alloc: Global, config: &Config) -> Result<Distinct<Provider, 64>, AllocError>
-    ensures { IfOk result (λ loose. loose ≡ map with_highest_limits config.now.providers) }
+    ensures { IfOk result (λ loose. loose ≡ map (with_highest_limits config.now.currencies) config.now.providers) }
 {
     let given = config.providers.as_slice();
+    let currencies = config.currencies.as_slice();
     let mut providers = Sequence::with_capacity(alloc, given.len())?;
     for provider in given {
-        providers.push(with_highest_limits(alloc, provider)?)?;
+        providers.push(with_highest_limits(alloc, currencies, provider)?)?;
     }
     let Ok(distinct) = Distinct::new(providers, Name::Providers) else {
         unreachable!()
@@ -111,8 +143,9 @@ fn largest(limits: &Limits) -> Limits
     }
 }
 
-/// Returns the loosest configuration beside the given one: the highest tolerance and limits, the largest sizes, no pair limits, no
-/// credit window, and one platform that may ask for all. Parties, currencies, zones and holds are as given.
+/// Returns the loosest configuration beside the given one: the highest tolerance, the highest limit of each provider in each currency,
+/// the largest sizes, no pair limits, no credit window, and one platform that may ask for all. Parties, currencies, zones and holds are
+/// as given.
 ///
 /// # Errors
 ///

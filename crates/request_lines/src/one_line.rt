@@ -26,7 +26,7 @@ pub fn admitted(config: &Config, request: Request) -> Result<Command, Refusal>
 {
     match admit(config, request) {
         Ok(command) => Ok(command),
-        Err(cause) => Err(cause.refusal()),
+        Err((_request, cause)) => Err(cause.refusal()),
     }
 }
 

@@ -41,7 +41,7 @@ fn is_event_copied(alloc: Global, event: &Event) -> bool {
 fn is_command_copied(alloc: Global, config: &Config, request: Request) -> bool {
     match admit(config, request) {
         Ok(command) => command.copy(alloc).is_ok(),
-        Err(_) => true,
+        Err((_request, _cause)) => true,
     }
 }
 
@@ -148,7 +148,7 @@ impl Copying {
     fn reply_to(&mut self, alloc: Global, request: Request) -> Option<Result<Replied, Refused>> {
         match admit(&self.config, request) {
             Ok(command) => self.reply_of_both(alloc, command),
-            Err(cause) => Some(Err(Refused {
+            Err((_request, cause)) => Some(Err(Refused {
                 at: None,
                 refusal: cause.refusal(),
             })),

@@ -6,14 +6,15 @@ use Rattle.plain_house.specs.declared.event.Event.TheVariants as event
 use Rattle.known_events.specs.declared.keys.CreditedKey.{CreditedKey}
 use Rattle.known_events.specs.declared.keys.OwnKey.{OwnKey}
 use Rattle.known_events.specs.declared.keys.OwnKey.TheVariants as own
-use Rattle.known_events.specs.declared.keys.UseKey.{UseKey}
+use Rattle.known_events.specs.declared.keys.EndKey.{EndKey}
+use Rattle.known_events.specs.declared.keys.EndKey.TheVariants as end
 
--- what an event adds; a close adds nothing
+-- what an event adds; a release and a close add nothing
 abbrev pub own_key : Event → Option OwnKey
 own_key (event.Tariff tariff) = Some (own.Version tariff.operator tariff.id tariff.last_updated)
 own_key (event.Token token) = Some (own.Token token.provider token.uid)
 own_key (event.Authorised hold) = Some (own.Hold hold.provider hold.reference)
-own_key (event.Released release) = Some (own.Release release.operator release.provider release.reference)
+own_key (event.Released release) = None
 own_key (event.Cdr cdr cost) = Some (own.Cdr cdr.operator cdr.id)
 own_key (event.Credit cdr amount) = Some (own.Cdr cdr.operator cdr.id)
 own_key (event.Settled settlement) = Some (own.Settlement settlement.provider settlement.currency settlement.period)
@@ -33,21 +34,21 @@ credited_key (event.Credit cdr amount) = credited_by cdr
 credited_key (event.Settled settlement) = None
 credited_key (event.Closed period) = None
 
-abbrev pub used_by : Cdr → Option UseKey
-used_by cdr = option_map (λ reference. record {
-  operator = cdr.operator;
-  provider = cdr.cdr_token.provider;
-  currency = cdr.currency;
-  reference = reference;
-}) cdr.authorization_reference
+abbrev pub used_by : Cdr → Option EndKey
+used_by cdr = option_map (λ reference. end.Use cdr.operator cdr.cdr_token.provider cdr.currency reference) cdr.authorization_reference
 
--- the hold that a CDR uses up; a Credit CDR uses up none
-abbrev pub use_key : Event → Option UseKey
-use_key (event.Tariff tariff) = None
-use_key (event.Token token) = None
-use_key (event.Authorised hold) = None
-use_key (event.Released release) = None
-use_key (event.Cdr cdr cost) = used_by cdr
-use_key (event.Credit cdr amount) = None
-use_key (event.Settled settlement) = None
-use_key (event.Closed period) = None
+-- the hold that an event ends; a Credit CDR ends none
+abbrev pub end_key : Event → Option EndKey
+end_key (event.Tariff tariff) = None
+end_key (event.Token token) = None
+end_key (event.Authorised hold) = None
+end_key (event.Released release) = Some (end.Release release.operator release.provider release.reference)
+end_key (event.Cdr cdr cost) = used_by cdr
+end_key (event.Credit cdr amount) = None
+end_key (event.Settled settlement) = None
+end_key (event.Closed period) = None
+
+-- what gives the hold
+abbrev pub hold_key : EndKey → OwnKey
+hold_key (end.Release operator provider reference) = own.Hold provider reference
+hold_key (end.Use operator provider currency reference) = own.Hold provider reference

@@ -1,5 +1,7 @@
-use Rattle.cdr_checks.proofs.AdmissionLemmas.{admitted}
+use Rattle.std.proofs.Common.{Ok}
+use Rattle.cdr_checks.proofs.AdmissionLemmas.{admitted, not_handed_back}
 use Rattle.cdr_checks.proofs.admission.admit.Goals as goal
 
-pub returns-clause-admitted : goal.returns-clause-admitted
-returns-clause-admitted c = admitted c.args.config.now c.args.request c.admit_ask.result c.admit_ask.ensures
+pub returns-in-Ok-clause-admitted : goal.returns-in-Ok-clause-admitted
+returns-in-Ok-clause-admitted c =
+    admitted c.args.config.now c.args.request (Ok c.in-Ok.command) (not_handed_back c.args.request.ask _ c.in-Ok.command c.in-Ok.ensures)

@@ -10,8 +10,9 @@ use Rattle.new_configuration.proofs.loosening.providers.Goals as goal
 pub unreachable-requires : goal.unreachable-requires
 unreachable-requires c =
     let given = c.as_slice-given.result.now in
-    let whole : c.loop-provider.providers ≡ map with_highest_limits given =
-    c.loop-provider.invariant ∙ ap (map with_highest_limits) (take_all c.loop-provider.provider-index given c.loop-provider-test.false) in
+    let loose = with_highest_limits c.as_slice-currencies.result.now in
+    let whole : c.loop-provider.providers ≡ map loose given =
+    c.loop-provider.invariant ∙ ap (map loose) (take_all c.loop-provider.provider-index given c.loop-provider-test.false) in
     let different : all_different alike_providers c.loop-provider.providers ≡ true =
-    ap (all_different alike_providers) whole ∙ still_different given ∙ c.as_slice-given.ensures.different in
+    ap (all_different alike_providers) whole ∙ still_different c.as_slice-currencies.result.now given ∙ c.as_slice-given.ensures.different in
     c.in_default.not-Ok c.loop-provider.providers (c.new.ensures ∙ ap (λ (b : Bool). if b then Ok c.loop-provider.providers else Err (doubled Providers)) different)

@@ -1,9 +1,10 @@
 use Rattle.std.proofs.Common.{◌≡◌, ◌∙◌, List, [], ◌∷◌, ◌++◌, ap, sym, cond, is_ok, length}
 use Rattle.plain_house.specs.Entries.{period_after, period_of}
 use Rattle.plain_house.specs.declared.event.Event.{Event}
-use Rattle.known_events.specs.Inner.Firsts.{same_credited, same_own, same_use}
-use Rattle.known_events.specs.Inner.Keys.{credited_key, own_key, use_key}
+use Rattle.known_events.specs.Inner.Firsts.{key_if_given, same_credited, same_own}
+use Rattle.known_events.specs.Inner.Keys.{credited_key, own_key}
 use Rattle.known_events.proofs.FirstsLemmas.{kept, put_adds}
+use Rattle.known_events.proofs.GivenLemmas.{kept_after, put_after}
 use Rattle.known_events.proofs.PeriodsLemmas.{periods_added}
 use Rattle.plain_house.proofs.DatedLemmas.{period_of-push}
 use Rattle.known_events.specs.Inner.Periods.{periods_of}
@@ -23,8 +24,9 @@ invariant_of-self-2 c =
           c.own_key.ensures place all c.put.ensures (kept same_own own_key known.own.firsts c.reserve.new.self.firsts events c.reserve.ensures.firsts c.self.invariant.0),
       put_adds same_credited credited_key c.reserve-2.new.self.firsts c.put-2.new.places.firsts events added event c.credited_key.result c.len-place.result
           c.credited_key.ensures place all c.put-2.ensures (kept same_credited credited_key known.credited.firsts c.reserve-2.new.self.firsts events c.reserve-2.ensures.firsts c.self.invariant.1),
-      put_adds same_use use_key c.reserve-3.new.self.firsts c.put-3.new.places.firsts events added event c.use_key.result c.len-place.result
-          c.use_key.ensures place all c.put-3.ensures (kept same_use use_key known.used.firsts c.reserve-3.new.self.firsts events c.reserve-3.ensures.firsts c.self.invariant.2),
+      put_after c.reserve-3.new.self.firsts c.put-3.new.places.firsts events added event c.key_if_given-ended.result c.len-place.result
+          (c.key_if_given-ended.ensures ∙ ap (λ (l : List Event). key_if_given l event) (sym c.self.view_is)) place all c.put-3.ensures
+          (kept_after known.ended.firsts c.reserve-3.new.self.firsts events c.reserve-3.ensures.firsts c.self.invariant.2),
       c.push.ensures.items
           ∙ ap (λ r. cond (is_ok r) (c.reserve-4.new.self.items ++ known.period ∷ []) c.reserve-4.new.self.items) c.unwrap.ensures
           ∙ ap (λ l. l ++ known.period ∷ []) (c.reserve-4.ensures.items ∙ c.self.invariant.3)
