@@ -1,2 +1,4 @@
+pub mod Arguments
 pub mod Fault
 pub mod Inner
+pub mod JsonStop

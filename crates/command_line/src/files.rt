@@ -1,7 +1,8 @@
 //! Files by their paths.
 
-ghost use Rattle.std.specs.Prelude.{◌≡◌, ◌≢◌, ◌↔◌, take, IfErr, IfOk, IfSome};
+ghost use Rattle.std.specs.Prelude.{◌≡◌, ◌≢◌, ◌↔◌, codes, if◌then◌else◌, take, IfErr, IfOk, IfSome};
 ghost use Rattle.std.specs.IoError.{error_kind};
+ghost use Rattle.std.specs.Str.{bytes_eq};
 
 use crate::fault::Fault;
 use std::alloc::Global;
@@ -32,6 +33,16 @@ pub fn open_file<'a, R: Files>(rt: &R, path: &'a str) -> Result<R::File, Fault<'
     }
 }
 
+/// The file of this path, or standard input for `-`, to be read.
+pub fn open_given<'a, R: Files>(rt: &R, path: &'a str) -> Result<R::File, Fault<'a>>
+    ensures { IfErr result (λ fault. fault ≢ Fault.NoMemory → fault ≡ Fault.CannotRead path.entry) }
+{
+    match fs::open(rt, file_path(path)) {
+        Ok(file) => Ok(file),
+        Err(error) => Err(unread(&error, path)),
+    }
+}
+
 /// The bytes of a configuration, of a longer one only one byte more than a configuration has at most. The path is that of the
 /// reader's file.
 pub fn read_start<'a, R: Read + Drop>(
@@ -55,4 +66,22 @@ pub fn read_config<'a, R: Files + AllocGlobal>(rt: &R, path: &'a str) -> Result<
     ensures { IfErr result (λ fault. fault ≢ Fault.NoMemory → fault ≡ Fault.CannotRead path.entry) }
 {
     read_start(rt.alloc(), open_file(rt, path)?, path)
+}
+
+/// Returns the path of standard input for `-`, and else the path itself.
+pub fn file_path<'a>(path: &'a str) -> &'a str
+    ensures { result.now ≡ (if bytes_eq path.now (codes "-") then codes "/dev/stdin" else path.now) }
+{
+    if path == "-" { "/dev/stdin" } else { path }
+}
+
+/// Reads the bytes of the file of this path, of a longer one only one byte more than a configuration has at most.
+///
+/// # Errors
+///
+/// Why the system does not read it.
+pub fn read_file_start<R: Files + AllocGlobal>(rt: &R, path: &str) -> Result<Vec<u8>, Error> {
+    let mut bytes = Vec::new(rt.alloc());
+    fs::open(rt, path)?.take(MOST_READ).read_to_end(&mut bytes)?;
+    Ok(bytes)
 }

@@ -1,17 +1,23 @@
-//! What commands share: the words of the command line, the files that these name, the streams for what is written, what ends a command
-//! early with the line that tells it, and the text of a value that is not as expected.
+//! What commands share: the words of the command line and the options among them, the files that these name, the streams, what ends a
+//! command early with the line that tells it, the text of a value that is not as expected, and where a text stops being JSON.
 #![tactic(auto)]
 
+mod arguments;
 mod fault;
 mod files;
 mod found_text;
+mod json_stop;
+mod progress;
 mod streams;
 mod telling;
 mod words;
 
+pub use arguments::{Arguments, CommandOption};
 pub use fault::Fault;
-pub use files::{open_file, read_config, read_start};
+pub use files::{file_path, open_file, open_given, read_config, read_file_start, read_start};
 pub use found_text::text_of_found;
-pub use streams::{Errors, Output};
-pub use telling::{tell, tell_as, tell_of_file};
-pub use words::{given_words, only_word};
+pub use json_stop::find_json_stop;
+pub use progress::{Progress, Watched, Work};
+pub use streams::{Errors, Input, Output};
+pub use telling::{tell, tell_as, tell_of_file, tell_unread_file};
+pub use words::given_words;

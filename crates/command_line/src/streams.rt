@@ -1,7 +1,53 @@
-//! Standard output and standard error of a program that ends quietly when the reader of its output has gone.
+//! Standard output and standard error of a program that ends quietly when the reader of its output has gone, and standard input whose
+//! errors are reported with their cause.
 
+use crate::progress::Progress;
 use std::cell::Cell;
-use std::io::{self, ErrorKind, Write};
+use std::io::{self, ErrorKind, Read, Write};
+
+/// Standard input. It notes in `cause` why a read failed, and can show how far it has been read.
+#[derive(Drop)]
+pub struct Input<'a, R> {
+    inner: R,
+    cause: &'a Cell<Option<io::Error>>,
+    progress: Option<Progress<'a>>,
+}
+
+impl<'a, R> Input<'a, R> {
+    pub fn new(inner: R, cause: &'a Cell<Option<io::Error>>) -> Self {
+        Input {
+            inner,
+            cause,
+            progress: None,
+        }
+    }
+
+    /// An input that shows how far it has been read.
+    pub fn watched(inner: R, cause: &'a Cell<Option<io::Error>>, progress: Progress<'a>) -> Self {
+        Input {
+            inner,
+            cause,
+            progress: Some(progress),
+        }
+    }
+}
+
+impl<R: Read> Read for Input<'_, R> {
+    fn read(&mut self, buffer: &mut [u8]) -> io::Result<usize> {
+        match self.inner.read(buffer) {
+            Ok(count) => {
+                if let Some(progress) = &mut self.progress {
+                    progress.add_text(&buffer[..count.min(buffer.len())]);
+                }
+                Ok(count)
+            }
+            Err(error) => {
+                self.cause.set(Some(error));
+                Err(error)
+            }
+        }
+    }
+}
 
 /// Standard output. It notes in `is_gone` that its reader has gone.
 #[derive(Drop)]

@@ -7,6 +7,7 @@ ghost use Rattle.command_line.specs.Inner.Parts.{text_of};
 use crate::fault::Fault;
 use itoa::Buffer;
 use request_lines::{Sink, write_all};
+use std::io::{self, Eprint, ErrorKind};
 
 /// A fault's text in five parts.
 struct FaultText<'a> {
@@ -116,4 +117,16 @@ pub fn tell_of_file<F: Sink>(faults: &mut F, number: u64, fault: &Fault<'_>)
         digits.format(number),
         text_in(fault, &mut first, &mut second),
     );
+}
+
+/// Prints on standard error that the system does not read the file of this path, or standard input for `-`, and why. Returns the exit
+/// status.
+pub fn tell_unread_file<R: Eprint>(rt: &R, path: &str, cause: io::Error) -> u8
+    ensures { result ≡ 1 }
+{
+    let _ = match cause.kind() {
+        ErrorKind::OutOfMemory => eprintln!(rt; "clear: no memory"),
+        _ => eprintln!(rt; "clear: cannot read {path}: {cause}"),
+    };
+    1
 }

@@ -1,6 +1,6 @@
 //! The words of the command line.
 
-ghost use Rattle.std.specs.Prelude.{◌≡◌, ◌≢◌, ◌↔◌, length, slice_get, string_bytes, IfErr, IfOk, IfSome, IsOk};
+ghost use Rattle.std.specs.Prelude.{◌≡◌, ◌≢◌, IfErr};
 
 use crate::fault::Fault;
 use std::env::{self, Env};
@@ -16,16 +16,4 @@ pub fn given_words<R: Env + AllocGlobal>(rt: &R) -> Result<Vec<String>, Fault<'s
         Err(_) => return Err(Fault::Usage),
     };
     Ok(args.collect::<Vec<String>>(rt.alloc())?)
-}
-
-/// The one word behind the program's name.
-pub fn only_word(words: &[String]) -> Result<&str, Fault<'static>>
-    ensures one { IsOk result ↔ (length words.now ≡ 2) }
-    ensures word { IfOk result (λ word. IfSome (slice_get words.now 1) (λ given. word.now ≡ string_bytes given)) }
-    ensures fault { IfErr result (λ fault. fault ≡ Fault.Usage) }
-{
-    match words {
-        [_, word] => Ok(word.as_str()),
-        _ => Err(Fault::Usage),
-    }
 }

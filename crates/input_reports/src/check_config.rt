@@ -15,7 +15,7 @@ mod spelled;
 mod warning;
 mod warnings;
 
-use command_line::{Fault, only_word, read_config};
+use command_line::Fault;
 use report::{Report, report_of};
 use std::io::{self, ErrorKind};
 use std::process::ExitCode;
@@ -50,9 +50,8 @@ fn print(rt: &HostRuntime, report: &Report) -> io::Result<u8> {
     }
 }
 
-fn print_report<'a>(rt: &HostRuntime, words: &'a [String]) -> Result<u8, Fault<'a>> {
-    let bytes = read_config(rt, only_word(words)?)?;
-    let report = report_of(rt.alloc(), bytes.as_slice())?;
+fn print_report(rt: &HostRuntime, bytes: &[u8]) -> Result<u8, Fault<'static>> {
+    let report = report_of(rt.alloc(), bytes)?;
     match print(rt, &report) {
         Ok(status) => Ok(status),
         // the reader of the output has gone
@@ -61,12 +60,12 @@ fn print_report<'a>(rt: &HostRuntime, words: &'a [String]) -> Result<u8, Fault<'
     }
 }
 
-/// Tells of the configuration at the path that is the one word behind the command, and gives the exit status: 3 if
-/// members are passed over or there is a warning, and 1 if a member is at fault, which is told on standard error.
+/// Tells of the configuration in these bytes, and gives the exit status: 3 if members are passed over or there is a warning, and 1 if a
+/// member is at fault, which is told on standard error.
 ///
 /// # Errors
 ///
 /// `CannotWrite`, or the fault that ends the command before it writes anything on standard output.
-pub fn tell_config<'a>(rt: &HostRuntime, words: &'a [String]) -> Result<ExitCode, Fault<'a>> {
-    Ok(ExitCode::from(print_report(rt, words)?))
+pub fn tell_config(rt: &HostRuntime, bytes: &[u8]) -> Result<ExitCode, Fault<'static>> {
+    Ok(ExitCode::from(print_report(rt, bytes)?))
 }

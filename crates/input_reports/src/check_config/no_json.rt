@@ -1,11 +1,8 @@
 //! Where a text stops being JSON.
 
-use json::{Reader, Scratch};
+use command_line::find_json_stop;
 use std::alloc::{AllocError, Global};
 use std::str;
-
-/// How deep arrays and objects may nest.
-const MAX_DEPTH: usize = 127;
 
 /// A line and a column of a text, each from 1.
 #[derive(Clone, Copy)]
@@ -32,19 +29,11 @@ fn spot_behind(text: &[u8]) -> Spot {
     spot
 }
 
-// How many bytes are read when the reader stops: it stands at what is no JSON, or behind a mark that cannot stand there.
-fn read_bytes(alloc: Global, text: &str) -> Result<usize, AllocError> {
-    let mut scratch = Scratch::new(alloc);
-    let mut reader = Reader::new(text, &mut scratch)?;
-    let _ = reader.skip_value(MAX_DEPTH);
-    Ok(reader.offset())
-}
-
-/// Where in these bytes, which are no JSON, reading stops.
+/// Returns where these bytes, which are no JSON, stop being text, or the first character that no JSON text can have there.
 pub fn spot_of(alloc: Global, bytes: &[u8]) -> Result<Spot, AllocError> {
-    let read = match str::from_utf8(bytes) {
-        Ok(text) => read_bytes(alloc, text)?,
+    let count = match str::from_utf8(bytes) {
+        Ok(_) => find_json_stop(alloc, bytes)?,
         Err(error) => error.valid_up_to(),
     };
-    Ok(spot_behind(&bytes[..read.min(bytes.len())]))
+    Ok(spot_behind(&bytes[..count.min(bytes.len())]))
 }
