@@ -7,7 +7,7 @@ use Rattle.line_causes.specs.declared.line_cause.LineCause.{LineCause}
 use Rattle.line_streams.specs.State.{StreamState}
 use Rattle.line_streams.specs.declared.reply.StreamReply.{StreamReply}
 use Rattle.line_streams.specs.Stream as stream
-use Rattle.clear_embedded.specs.Answering.{Buffer, IsAnswered, IsCauseText, IsCauseTold, IsGivenAgain, IsLineDone, IsPut, IsRefusedLine, IsTooLong, IsWritten, refused_with}
+use Rattle.clear_embedded.specs.Answering.{Buffer, IsAnswered, IsCauseText, IsExplained, IsGivenAgain, IsLineDone, IsPut, IsRefusedLine, IsTooLong, IsWritten, refused_with}
 use Rattle.clear_embedded.specs.Standing.{Refused, Standing}
 use Rattle.clear_embedded.specs.declared.code.Code.{Code}
 use Rattle.clear_embedded.specs.declared.code.Code.TheVariants.{Done, NoMemory, Closed, Open, NoJson, Member, NoLine, Kept, TooSmall, NotWritten, NothingKept, NotRefused}
@@ -38,7 +38,7 @@ kept_by house line text now refused done name nothing_kept answered is refused_i
 
 pub answered_by : (code : Code) (house : Standing) (line text : List ℕ) (middle house' : Standing) (buffer : Buffer)
     → IsLineDone house line text (Some text) middle → IsGivenAgain code middle house' buffer → IsAnswered code house line house' buffer
-answered_by Done house line text middle house' buffer done (told, same, is, written) = (
+answered_by Done house line text middle house' buffer done (found, same, is, written) = (
   text,
   record {
     nothing_kept = done.nothing_kept;
@@ -48,7 +48,7 @@ answered_by Done house line text middle house' buffer done (told, same, is, writ
   },
   subst (λ (it : List ℕ). IsWritten it buffer) (same_Some _ _ (sym same ∙ done.kept_is)) written,
 )
-answered_by TooSmall house line text middle house' buffer done (told, same, is, long) = (
+answered_by TooSmall house line text middle house' buffer done (found, same, is, long) = (
   text,
   subst (λ (it : Standing). IsLineDone house line text (Some text) it) (sym is) done,
   subst (λ (it : List ℕ). IsTooLong it buffer) (same_Some _ _ (sym same ∙ done.kept_is)) long,
@@ -66,17 +66,17 @@ answered_by Member house line text middle house' buffer done wrong = absurd wron
 answered_by NotRefused house line text middle house' buffer done wrong = absurd wrong
 
 -- a cause that was put into the buffer
-pub told_by : (code : Code) (house : Standing) (text : List ℕ) (buffer : Buffer) → IsCauseText house text → IsPut code text buffer
-    → IsCauseTold code house buffer
-told_by Done house text buffer is put = (text, is, put)
-told_by TooSmall house text buffer is put = (text, is, put)
-told_by NoMemory house text buffer is put = absurd put
-told_by Closed house text buffer is put = absurd put
-told_by Open house text buffer is put = absurd put
-told_by NoJson house text buffer is put = absurd put
-told_by Member house text buffer is put = absurd put
-told_by NoLine house text buffer is put = absurd put
-told_by Kept house text buffer is put = absurd put
-told_by NotWritten house text buffer is put = absurd put
-told_by NothingKept house text buffer is put = absurd put
-told_by NotRefused house text buffer is put = absurd put
+pub explained_by : (code : Code) (house : Standing) (text : List ℕ) (buffer : Buffer) → IsCauseText house text → IsPut code text buffer
+    → IsExplained code house buffer
+explained_by Done house text buffer is put = (text, is, put)
+explained_by TooSmall house text buffer is put = (text, is, put)
+explained_by NoMemory house text buffer is put = absurd put
+explained_by Closed house text buffer is put = absurd put
+explained_by Open house text buffer is put = absurd put
+explained_by NoJson house text buffer is put = absurd put
+explained_by Member house text buffer is put = absurd put
+explained_by NoLine house text buffer is put = absurd put
+explained_by Kept house text buffer is put = absurd put
+explained_by NotWritten house text buffer is put = absurd put
+explained_by NothingKept house text buffer is put = absurd put
+explained_by NotRefused house text buffer is put = absurd put

@@ -46,28 +46,28 @@ pub record IsLineDone (house : Standing) (line text : List ℕ) (kept : Option (
 
 -- ---- the caller's buffer
 
--- the buffer before the call and after it, and the length that was told
+-- the buffer before the call and after it, and the length that was reported
 pub record Buffer : Type 0 where
   pub before : List ℕ
   pub after : List ℕ
-  pub told : ℕ
+  pub reported : ℕ
 
 -- the text stands at the buffer's beginning, and what was behind it is as it was
 pub record IsWritten (text : List ℕ) (buffer : Buffer) : Type 0 where
   pub fits : length text ≤ length buffer.before
   pub after_is : buffer.after ≡ text ++ drop (length text) buffer.before
-  pub told_is : buffer.told ≡ length text
+  pub reported_is : buffer.reported ≡ length text
 
--- the text is longer than the buffer, which is as it was, and its length is told
+-- the text is longer than the buffer, which is as it was, and its length is reported
 pub record IsTooLong (text : List ℕ) (buffer : Buffer) : Type 0 where
   pub too_long : length buffer.before < length text
   pub after_is : buffer.after ≡ buffer.before
-  pub told_is : buffer.told ≡ length text
+  pub reported_is : buffer.reported ≡ length text
 
--- no answer is told, and the buffer is as it was
+-- no length is reported, and the buffer is as it was
 pub record IsUnwritten (buffer : Buffer) : Type 0 where
   pub after_is : buffer.after ≡ buffer.before
-  pub told_is : buffer.told ≡ 0
+  pub reported_is : buffer.reported ≡ 0
 
 -- the text is written, or is too long for the buffer
 abbrev pub IsPut : Code → List ℕ → Buffer → Type 0
@@ -130,16 +130,16 @@ pub record IsCauseText (house : Standing) (text : List ℕ) : Type 0 where
   pub text_is : text ≡ json_text cause
 
 -- at `Done` the cause of the last line, which was refused, is in the buffer; the house does not change
-abbrev pub IsCauseTold : Code → Standing → Buffer → Type 0
-IsCauseTold Done house buffer = (text : List ℕ) × IsCauseText house text × IsWritten text buffer
-IsCauseTold TooSmall house buffer = (text : List ℕ) × IsCauseText house text × IsTooLong text buffer
-IsCauseTold NoMemory house buffer = IsSome house.refused × IsUnwritten buffer
-IsCauseTold NotRefused house buffer = (house.refused ≡ None) × IsUnwritten buffer
-IsCauseTold NotWritten house buffer = ⊥
-IsCauseTold NothingKept house buffer = ⊥
-IsCauseTold Kept house buffer = ⊥
-IsCauseTold NoLine house buffer = ⊥
-IsCauseTold Closed house buffer = ⊥
-IsCauseTold Open house buffer = ⊥
-IsCauseTold NoJson house buffer = ⊥
-IsCauseTold Member house buffer = ⊥
+abbrev pub IsExplained : Code → Standing → Buffer → Type 0
+IsExplained Done house buffer = (text : List ℕ) × IsCauseText house text × IsWritten text buffer
+IsExplained TooSmall house buffer = (text : List ℕ) × IsCauseText house text × IsTooLong text buffer
+IsExplained NoMemory house buffer = IsSome house.refused × IsUnwritten buffer
+IsExplained NotRefused house buffer = (house.refused ≡ None) × IsUnwritten buffer
+IsExplained NotWritten house buffer = ⊥
+IsExplained NothingKept house buffer = ⊥
+IsExplained Kept house buffer = ⊥
+IsExplained NoLine house buffer = ⊥
+IsExplained Closed house buffer = ⊥
+IsExplained Open house buffer = ⊥
+IsExplained NoJson house buffer = ⊥
+IsExplained Member house buffer = ⊥

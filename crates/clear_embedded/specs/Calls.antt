@@ -5,7 +5,7 @@ use Rattle.ocpi_types.specs.declared.config.Config.{Config}
 use Rattle.ocpi_types.specs.declared.config.reading.ConfigFault.TheVariants as fault
 use Rattle.ocpi_types.specs.declared.config.reading.ConfigFault.TheVariants.{Syntax}
 use Rattle.ocpi_types.specs.ConfigText.{config_of}
-use Rattle.clear_embedded.specs.Answering.{Buffer, IsAnswered, IsCauseTold, IsGivenAgain, IsUnwritten, opened}
+use Rattle.clear_embedded.specs.Answering.{Buffer, IsAnswered, IsExplained, IsGivenAgain, IsUnwritten, opened}
 use Rattle.clear_embedded.specs.Standing.{Standing}
 use Rattle.clear_embedded.specs.declared.code.Code.{Code}
 use Rattle.clear_embedded.specs.declared.code.Code.TheVariants.{Done, NoMemory, Closed, Open, NoJson, Member, NoLine, Kept, TooSmall, NotWritten, NothingKept, NotRefused}
@@ -43,4 +43,4 @@ AgainIs code (Some house) pointer' buffer = (house' : Standing) × (pointer' ≡
 -- the open house, if there is one, writes why it refused the last line, and stays as it is
 abbrev pub CauseIs : Code → Option Standing → Option Standing → Buffer → Type 0
 CauseIs code None pointer' buffer = (code ≡ Closed) × (pointer' ≡ None) × IsUnwritten buffer
-CauseIs code (Some house) pointer' buffer = (pointer' ≡ Some house) × IsCauseTold code house buffer
+CauseIs code (Some house) pointer' buffer = (pointer' ≡ Some house) × IsExplained code house buffer

@@ -6,10 +6,10 @@ ghost use Rattle.ocpi_types.specs.declared.config.Config.{Config as ConfigValue}
 ghost use Rattle.ocpi_types.specs.declared.config.reading.ConfigFault.TheVariants.{NoMemory};
 ghost use Rattle.line_causes.specs.RefusalNames.{refused_in};
 ghost use Rattle.line_streams.specs.Given.{done_by};
-ghost use Rattle.clear_embedded.specs.Answering.{IsAnswered, IsCauseTold, IsGivenAgain, IsLine, IsLineDone, IsPut, opened, refused_with};
+ghost use Rattle.clear_embedded.specs.Answering.{IsAnswered, IsExplained, IsGivenAgain, IsLine, IsLineDone, IsPut, opened, refused_with};
 ghost use Rattle.clear_embedded.specs.Standing.{shown_refused};
 
-use super::code::{Code, Told};
+use super::code::{Code, Outcome};
 use super::refused_line::{RefusedLine, cause_text, refusal_copy};
 use line_causes::laws::replies_name_refusals;
 use line_causes::refused;
@@ -60,18 +60,18 @@ fn write_front(buffer: &mut [u8], text: &[u8])
 }
 
 /// Writes the text at the buffer's beginning, or nothing if it is longer than the buffer.
-fn put_text(buffer: &mut [u8], text: &[u8]) -> Told
-    ensures { IsPut result.code text.now (record { before = buffer.old; after = buffer.new; told = result.length }) }
+fn put_text(buffer: &mut [u8], text: &[u8]) -> Outcome
+    ensures { IsPut result.code text.now (record { before = buffer.old; after = buffer.new; reported = result.length }) }
 {
     let length = text.len();
     if buffer.len() < length {
-        return Told {
+        return Outcome {
             code: Code::TooSmall,
             length,
         };
     }
     write_front(buffer, text);
-    Told {
+    Outcome {
         code: Code::Done,
         length,
     }
@@ -146,50 +146,50 @@ impl AnsweringHouse {
     }
 
     /// Writes the answer of the kept reply.
-    pub(crate) fn again(&mut self, alloc: Global, buffer: &mut [u8]) -> Told
+    pub(crate) fn again(&mut self, alloc: Global, buffer: &mut [u8]) -> Outcome
         ensures { IsGivenAgain result.code self.old self.new
-            (record { before = buffer.old; after = buffer.new; told = result.length }) }
+            (record { before = buffer.old; after = buffer.new; reported = result.length }) }
     {
         let Some(reply) = &self.kept else {
-            return Told::of(Code::NothingKept);
+            return Outcome::of(Code::NothingKept);
         };
         let Ok(text) = self.stream.line_of(alloc, reply) else {
-            return Told::of(Code::NotWritten);
+            return Outcome::of(Code::NotWritten);
         };
-        let told = put_text(buffer, text.as_slice());
-        if let Code::Done = told.code {
+        let outcome = put_text(buffer, text.as_slice());
+        if let Code::Done = outcome.code {
             self.kept = None;
         }
-        told
+        outcome
     }
 
     /// Answers the line, and writes the answer or keeps it.
     #[tactic(auto, using(crate::proofs::AnsweringLemmas::answered_by))]
-    pub(crate) fn answer(&mut self, alloc: Global, line: &[u8], buffer: &mut [u8]) -> Told
+    pub(crate) fn answer(&mut self, alloc: Global, line: &[u8], buffer: &mut [u8]) -> Outcome
         ensures { IsAnswered result.code self.old line.now self.new
-            (record { before = buffer.old; after = buffer.new; told = result.length }) }
+            (record { before = buffer.old; after = buffer.new; reported = result.length }) }
     {
         if self.kept.is_some() {
-            return Told::of(Code::Kept);
+            return Outcome::of(Code::Kept);
         }
         if !is_line(line) {
-            return Told::of(Code::NoLine);
+            return Outcome::of(Code::NoLine);
         }
         if self.keep_reply(alloc, line).is_err() {
-            return Told::of(Code::NoMemory);
+            return Outcome::of(Code::NoMemory);
         }
         self.again(alloc, buffer)
     }
 
     /// Writes why the last line was refused. The house does not change.
-    pub(crate) fn cause(&self, alloc: Global, buffer: &mut [u8]) -> Told
-        ensures { IsCauseTold result.code self.now (record { before = buffer.old; after = buffer.new; told = result.length }) }
+    pub(crate) fn cause(&self, alloc: Global, buffer: &mut [u8]) -> Outcome
+        ensures { IsExplained result.code self.now (record { before = buffer.old; after = buffer.new; reported = result.length }) }
     {
         let Some(refused) = &self.refused else {
-            return Told::of(Code::NotRefused);
+            return Outcome::of(Code::NotRefused);
         };
         let Ok(text) = cause_text(alloc, &self.stream, refused) else {
-            return Told::of(Code::NoMemory);
+            return Outcome::of(Code::NoMemory);
         };
         put_text(buffer, text.as_bytes())
     }

@@ -4,7 +4,7 @@ ghost use Rattle.std.specs.Prelude.{◌≡◌, Some, None, true, false, IsSome, 
 ghost use Rattle.clear_embedded.specs.Calls.{AgainIs, AnswerIs, CauseIs, OpenIs};
 
 use super::answering_house::AnsweringHouse;
-use super::code::{Code, Told};
+use super::code::{Code, Outcome};
 use super::house_pointer::HousePointer;
 use super::loose::Loose;
 use ocpi_types::ConfigFault;
@@ -85,41 +85,41 @@ impl ClearHouse {
     }
 
     /// Answers one line.
-    pub(crate) fn answer(&mut self, alloc: Global, line: &[u8], buffer: &mut [u8]) -> Told
+    pub(crate) fn answer(&mut self, alloc: Global, line: &[u8], buffer: &mut [u8]) -> Outcome
         ensures { AnswerIs result.code self.old.pointer.standing line.now self.new.pointer.standing
-            (record { before = buffer.old; after = buffer.new; told = result.length }) }
+            (record { before = buffer.old; after = buffer.new; reported = result.length }) }
     {
         let Some(mut house) = self.take(alloc) else {
-            return Told::of(Code::Closed);
+            return Outcome::of(Code::Closed);
         };
-        let told = house.answer(alloc, line, buffer);
+        let outcome = house.answer(alloc, line, buffer);
         self.put(house);
-        told
+        outcome
     }
 
     /// Writes the answer that is kept.
-    pub(crate) fn again(&mut self, alloc: Global, buffer: &mut [u8]) -> Told
+    pub(crate) fn again(&mut self, alloc: Global, buffer: &mut [u8]) -> Outcome
         ensures { AgainIs result.code self.old.pointer.standing self.new.pointer.standing
-            (record { before = buffer.old; after = buffer.new; told = result.length }) }
+            (record { before = buffer.old; after = buffer.new; reported = result.length }) }
     {
         let Some(mut house) = self.take(alloc) else {
-            return Told::of(Code::Closed);
+            return Outcome::of(Code::Closed);
         };
-        let told = house.again(alloc, buffer);
+        let outcome = house.again(alloc, buffer);
         self.put(house);
-        told
+        outcome
     }
 
     /// Writes why the last line was refused.
-    pub(crate) fn cause(&mut self, alloc: Global, buffer: &mut [u8]) -> Told
+    pub(crate) fn cause(&mut self, alloc: Global, buffer: &mut [u8]) -> Outcome
         ensures { CauseIs result.code self.old.pointer.standing self.new.pointer.standing
-            (record { before = buffer.old; after = buffer.new; told = result.length }) }
+            (record { before = buffer.old; after = buffer.new; reported = result.length }) }
     {
         let Some(house) = self.take(alloc) else {
-            return Told::of(Code::Closed);
+            return Outcome::of(Code::Closed);
         };
-        let told = house.cause(alloc, buffer);
+        let outcome = house.cause(alloc, buffer);
         self.put(house);
-        told
+        outcome
     }
 }

@@ -53,18 +53,18 @@ impl Code {
     }
 }
 
-/// A code, and how many bytes the answer has that it speaks of: 0 if it speaks of none.
+/// A code, and the length of the text that it is about; 0 if it is about none.
 #[derive(Clone, Copy)]
-pub struct Told {
+pub struct Outcome {
     pub code: Code,
     pub length: usize,
 }
 
-impl Told {
-    /// A code that speaks of no answer.
-    pub(crate) fn of(code: Code) -> Told
+impl Outcome {
+    /// A code that is about no text.
+    pub(crate) fn of(code: Code) -> Outcome
         ensures { result ≡ record { code = code; length = 0 } }
     {
-        Told { code, length: 0 }
+        Outcome { code, length: 0 }
     }
 }

@@ -36,11 +36,11 @@ pub extern "C" fn clear_embedded_answer(
 ) -> u32
     ensures { (code : CodeValue) × (result ≡ code_number code)
         × AnswerIs code house.old.pointer.standing line.now house.new.pointer.standing
-        (record { before = buffer.old; after = buffer.new; told = length.new }) }
+        (record { before = buffer.old; after = buffer.new; reported = length.new }) }
 {
-    let told = house.answer(alloc, line, buffer);
-    *length = told.length;
-    told.code.number()
+    let outcome = house.answer(alloc, line, buffer);
+    *length = outcome.length;
+    outcome.code.number()
 }
 
 /// Writes the answer that is kept.
@@ -53,11 +53,11 @@ pub extern "C" fn clear_embedded_again(
 ) -> u32
     ensures { (code : CodeValue) × (result ≡ code_number code)
         × AgainIs code house.old.pointer.standing house.new.pointer.standing
-        (record { before = buffer.old; after = buffer.new; told = length.new }) }
+        (record { before = buffer.old; after = buffer.new; reported = length.new }) }
 {
-    let told = house.again(alloc, buffer);
-    *length = told.length;
-    told.code.number()
+    let outcome = house.again(alloc, buffer);
+    *length = outcome.length;
+    outcome.code.number()
 }
 
 /// Writes why the last line was refused, as JSON.
@@ -70,11 +70,11 @@ pub extern "C" fn clear_embedded_cause(
 ) -> u32
     ensures { (code : CodeValue) × (result ≡ code_number code)
         × CauseIs code house.old.pointer.standing house.new.pointer.standing
-        (record { before = buffer.old; after = buffer.new; told = length.new }) }
+        (record { before = buffer.old; after = buffer.new; reported = length.new }) }
 {
-    let told = house.cause(alloc, buffer);
-    *length = told.length;
-    told.code.number()
+    let outcome = house.cause(alloc, buffer);
+    *length = outcome.length;
+    outcome.code.number()
 }
 
 /// Ends the house, if there is one, with all that it has and keeps.

@@ -1,4 +1,7 @@
+pub mod CauseLemmas
+pub mod ExplainedLemmas
 pub mod NotJsonLemmas
+pub mod OwnCauseLemmas
 pub mod RefusedLemmas
 pub mod RefusedLinesLemmas
 pub mod RefusedStreamLemmas

@@ -25,7 +25,7 @@ abbrev pub house_words : HouseReason → List ℕ
 house_words house.StoredOtherwise = codes "stored with another one"
 house_words (house.BookedOtherwise amount) = codes "booked with another one"
 house_words (house.OfAnotherOperator found operator) = codes "of another operator"
-house_words house.RegisteredOtherwise = codes "stored with another one"
+house_words house.RegisteredOtherwise = codes "stored with another one; {} and no restrictions differ"
 house_words (house.NotRegistered last_updated) = codes "version that is not stored"
 house_words (house.NotPut uid) = codes "token that is not put"
 house_words (house.OfAnotherType found put) = codes "put as of another type"

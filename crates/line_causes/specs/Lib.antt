@@ -1,10 +1,13 @@
 pub mod Adding
 pub mod Against
+pub mod AnswersWithCauses
+pub mod CauseLaws
 pub mod Columns
 pub mod Decimals
 pub mod Event
 pub mod Found
 pub mod HouseColumns
+pub mod Inner
 pub mod JsonText
 pub mod Laws
 pub mod LineCauses
@@ -12,6 +15,7 @@ pub mod LinePlace
 pub mod Members
 pub mod MomentText
 pub mod NotJson
+pub mod OwnCauses
 pub mod ReasonColumns
 pub mod RefusalNames
 pub mod Refused

@@ -1,6 +1,7 @@
 -- The column at which a line stops being text or JSON.
-use Rattle.std.specs.Prelude.{◌≡◌, ℕ, ◌+◌, ◌≤◌, Bool, true, false, ◌||◌, List, count_by, length, nat_le, nat_lt, take}
+use Rattle.std.specs.Prelude.{◌≡◌, ℕ, ◌+◌, Bool, true, false, ◌||◌, List, count_by, nat_le, nat_lt, take}
 use Rattle.std.specs.Str.Lossy.{utf8_valid_len}
+use Rattle.command_line.specs.JsonStop.{IsStop}
 use Rattle.line_causes.specs.declared.line_cause.LineCause.{LineCause}
 use Rattle.line_causes.specs.declared.line_cause.LineCause.TheVariants.{NotJson, NotUtf8}
 
@@ -12,7 +13,7 @@ begins_character byte = nat_lt byte 128 || nat_le 192 byte
 abbrev pub column_after : List ℕ → ℕ → ℕ
 column_after line count = count_by begins_character (take count line) + 1
 
--- by whether the line is UTF-8: after the longest part of it that is, or after some part of the line
+-- by whether the line is UTF-8: after the longest part of it that is, or after bytes with which some JSON text begins
 abbrev pub IsNotJson : Bool → List ℕ → LineCause → Type 0
 IsNotJson false line cause = cause ≡ NotUtf8 (column_after line (utf8_valid_len line))
-IsNotJson true line cause = (count : ℕ) × (count ≤ length line) × (cause ≡ NotJson (column_after line count))
+IsNotJson true line cause = (count : ℕ) × IsStop line count × (cause ≡ NotJson (column_after line count))

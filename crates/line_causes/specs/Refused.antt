@@ -1,12 +1,11 @@
 -- Whether a line of a stream is refused, and the reply to what is done for it.
 use Rattle.std.specs.Prelude.{◌≡◌, ℕ, Bool, true, false, List, Option, Some, None, Result, Ok, Err}
-use Rattle.std.specs.Str.{bytes_eq}
 use Rattle.ocpi_types.specs.declared.refusal.Refusal.{Refusal}
 use Rattle.ocpi_types.specs.Refusal.{refusal_name}
 use Rattle.line_streams.specs.Asked.{asked_of}
 use Rattle.line_streams.specs.Change.{StreamHouse}
 use Rattle.line_streams.specs.Given.{IsReplyTo}
-use Rattle.line_streams.specs.State.{Remembered, StreamState}
+use Rattle.line_streams.specs.State.{Remembered, StreamState, is_same_line}
 use Rattle.line_streams.specs.Stream.{found_under, key_of}
 use Rattle.line_streams.specs.declared.asked.Asked.{Asked}
 use Rattle.line_streams.specs.declared.asked.AskedLine.{AskedLine}
@@ -29,7 +28,7 @@ refused_again false = refused_undone given.IdUsed
 
 abbrev pub IsRefusedOnce : StreamHouse → Asked → Option Remembered → List ℕ → Option StreamReply → Option (List ℕ) → Type 0
 IsRefusedOnce house asks None line done name = IsRefusedBy house asks done name
-IsRefusedOnce house asks (Some found) line done name = (done ≡ None) × (name ≡ refused_again (bytes_eq found.line line))
+IsRefusedOnce house asks (Some found) line done name = (done ≡ None) × (name ≡ refused_again (is_same_line found line))
 
 -- the reply to a line that cannot be read
 abbrev pub unread : Refusal → StreamReply

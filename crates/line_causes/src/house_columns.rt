@@ -34,8 +34,9 @@ pub(crate) fn house_words(reason: &HouseReason) -> &'static str
     ensures { result.now ≡ house_words reason.now }
 {
     match reason {
-        HouseReason::StoredOtherwise | HouseReason::RegisteredOtherwise => {
-            "stored with another one"
+        HouseReason::StoredOtherwise => "stored with another one",
+        HouseReason::RegisteredOtherwise => {
+            "stored with another one; {} and no restrictions differ"
         }
         HouseReason::BookedOtherwise { .. } => "booked with another one",
         HouseReason::OfAnotherOperator { .. } => "of another operator",

@@ -5,12 +5,9 @@ ghost use Rattle.std.specs.Str.{is_utf8};
 ghost use Rattle.line_causes.specs.NotJson.{IsNotJson, begins_character, column_after};
 
 use crate::line_cause::LineCause;
-use json::{Reader, Scratch};
+use command_line::find_json_stop;
 use std::alloc::{AllocError, Global};
 use std::str;
-
-/// The greatest depth of nested arrays and objects.
-const MAX_DEPTH: usize = 127;
 
 fn begins_character(byte: &u8) -> bool
     ensures { result ≡ begins_character byte.now }
@@ -27,15 +24,7 @@ fn column_after(line: &[u8], count: usize) -> usize
     before.iter().filter(|byte| begins_character(byte)).count() + 1
 }
 
-// The number of bytes that are read when the reader stops: at text that is no JSON, or after a mark that cannot be there.
-fn read_bytes(alloc: Global, text: &str) -> Result<usize, AllocError> {
-    let mut scratch = Scratch::new(alloc);
-    let mut reader = Reader::new(text, &mut scratch)?;
-    let _ = reader.skip_value(MAX_DEPTH);
-    Ok(reader.offset())
-}
-
-/// Returns where a line that is no JSON stops being text or JSON.
+/// Returns where a line that is no JSON stops being text, or the first character that no JSON text can have there.
 ///
 /// # Errors
 ///
@@ -44,9 +33,8 @@ pub fn cause_of_text(alloc: Global, line: &[u8]) -> Result<LineCause, AllocError
     ensures { IfOk result (λ cause. IsNotJson (is_utf8 line.now) line.now cause) }
 {
     match str::from_utf8(line) {
-        Ok(text) => {
-            let read = read_bytes(alloc, text)?;
-            let count = read.min(line.len());
+        Ok(_) => {
+            let count = find_json_stop(alloc, line)?;
             let column = column_after(line, count);
             Ok(LineCause::NotJson { column })
         }

@@ -36,7 +36,7 @@ use Rattle.line_streams.specs.declared.asked.AskedLine.{AskedLine}
 
 -- ---- states
 
-same_stream : (a b : StreamState) → a.house ≡ b.house → a.remembered ≡ b.remembered → a ≡ b
+pub same_stream : (a b : StreamState) → a.house ≡ b.house → a.remembered ≡ b.remembered → a ≡ b
 same_stream a b houses lines = ap₂ (λ (h : StreamHouse) (l : RememberedLines). record { house = h; remembered = l }) houses lines
 
 -- ---- lines of a script
@@ -89,7 +89,7 @@ script state (line ∷ lines) text now none answered =
 
 -- ---- legal lists
 
-is_admitted : (config : Config) (request : Request) (told : Command) → admission config request ≡ Ok told → IsAdmitted config told
+pub is_admitted : (config : Config) (request : Request) (told : Command) → admission config request ≡ Ok told → IsAdmitted config told
 unfolding IsAdmitted
 is_admitted config request told admits = (request, admits)
 
@@ -222,7 +222,7 @@ module _ (wider : LoosenedJudgesWider) (whole : TakenOverIsWhole) (unique : Firs
       let done = one_done state.house now.house then.house asks one other first.done second.done in (
         done.0,
         same_stream now then done.1
-            (first.remembered_is ∙ ap (λ (text : List ℕ). state.remembered ++ remembered_under state.house.config key line text) done.0 ∙ sym second.remembered_is),
+            (first.remembered_is ∙ ap (λ (text : List ℕ). state.remembered ++ remembered_under state.house.config key asks line text) done.0 ∙ sym second.remembered_is),
       )
   one_once state now then key asks (Some found) line one other first second = (first.0 ∙ sym second.0, first.1 ∙ sym second.1)
 

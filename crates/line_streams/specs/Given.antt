@@ -1,7 +1,6 @@
 -- What a stream replies to a line, before the reply is written.
 use Rattle.std.specs.Prelude.{◌≡◌, ℕ, Bool, true, false, List, Option, Some, None, Result, Ok, Err, length, option_map}
 use Rattle.std.specs.Map.{lookup}
-use Rattle.std.specs.Str.{bytes_eq}
 use Rattle.ocpi_types.specs.declared.config.Config.{Config}
 use Rattle.ocpi_types.specs.declared.refusal.Refusal.{Refusal}
 use Rattle.ocpi_types.specs.declared.refusal.Refusal.TheVariants as refusal
@@ -15,7 +14,7 @@ use Rattle.new_configuration.specs.Loosened.{loosened}
 use Rattle.new_configuration.specs.TakenOver.{IsFirstOtherwise}
 use Rattle.line_streams.specs.Asked.{asked_of}
 use Rattle.line_streams.specs.Change.{StreamHouse}
-use Rattle.line_streams.specs.State.{Remembered, StreamState, same_key}
+use Rattle.line_streams.specs.State.{Remembered, RememberedLines, StreamState, is_same_line, same_key, same_request, shown_key}
 use Rattle.line_streams.specs.Stream.{found_under, key_of}
 use Rattle.line_streams.specs.declared.answered.AnsweredLines.{AnsweredLines}
 use Rattle.line_streams.specs.declared.asked.Asked.{Asked}
@@ -64,9 +63,10 @@ done_in answered (given.Repeated key) = None
 done_in answered given.IdUsed = None
 
 -- a line under whose request id a line was done: it is repeated, or its id is used
-abbrev pub IsGivenAgain : Bool → LineReply → Type 0
-IsGivenAgain true line = (key : IdKey) × (line ≡ given.Repeated key)
-IsGivenAgain false line = line ≡ given.IdUsed
+abbrev pub IsGivenAgain : Bool → RememberedLines → Remembered → LineReply → Type 0
+IsGivenAgain true remembered found line =
+    (key : IdKey) × (line ≡ given.Repeated key) × (lookup (same_request (shown_key key)) remembered ≡ Some found)
+IsGivenAgain false remembered found line = line ≡ given.IdUsed
 
 -- the reply to what is asked for, which is done now
 pub record IsDoneNow (house : StreamHouse) (asks : Asked) (done : Option StreamReply) : Type 0 where
@@ -74,14 +74,14 @@ pub record IsDoneNow (house : StreamHouse) (asks : Asked) (done : Option StreamR
   pub done_is : done ≡ Some answer
   pub replied : IsReplyTo house asks answer
 
-abbrev pub IsGivenOnce : StreamHouse → Asked → Option Remembered → List ℕ → Option StreamReply → LineReply → Type 0
-IsGivenOnce house asks None text did line = IsDoneNow house asks did
-IsGivenOnce house asks (Some found) text did line = IsGivenAgain (bytes_eq found.line text) line
+abbrev pub IsGivenOnce : StreamHouse → RememberedLines → Asked → Option Remembered → List ℕ → Option StreamReply → LineReply → Type 0
+IsGivenOnce house remembered asks None text did line = IsDoneNow house asks did
+IsGivenOnce house remembered asks (Some found) text did line = IsGivenAgain (is_same_line found text) remembered found line
 
 abbrev pub IsGivenAs : StreamState → Result AskedLine Refusal → List ℕ → Option StreamReply → LineReply → Type 0
 IsGivenAs state (Err why) text did line = line ≡ given.Done (reply.House (Err (record { at = None; refusal = why })))
 IsGivenAs state (Ok asks) text did line =
-    IsGivenOnce state.house asks.asked (found_under state.remembered (key_of asks)) text did line
+    IsGivenOnce state.house state.remembered asks.asked (found_under state.remembered (key_of asks)) text did line
 
 -- the reply to a line in a state, and the reply to what is done for it
 abbrev pub IsGiven : StreamState → List ℕ → Option StreamReply → LineReply → Type 0

@@ -1,5 +1,7 @@
 pub mod Asked
+pub mod Bounds
 pub mod Change
+pub mod DoneLines
 pub mod Given
 pub mod Inner
 pub mod Law

@@ -1,5 +1,5 @@
 -- The state of a stream: a house under the configuration in force, and the lines that it remembers.
-use Rattle.std.specs.Prelude.{ℕ, Bool, ◌&&◌, List, [], map, Option, Some, None}
+use Rattle.std.specs.Prelude.{ℕ, Bool, ◌&&◌, List, [], map, Option, Some, None, option_map}
 use Rattle.indexmap.specs.IndexMap.{IndexMap}
 use Rattle.line_streams.specs.Change.{StreamHouse, configured_text, lowered_text, otherwise_text, under, used_text}
 use Rattle.line_streams.specs.declared.answered.Answered.{Answered}
@@ -14,6 +14,7 @@ use Rattle.ocpi_json.specs.Folded.{same_folded}
 use Rattle.ocpi_types.specs.declared.config.Config.{Config}
 use Rattle.plain_house.specs.State.{State}
 use Rattle.request_lines.specs.AnswerText.{answer_text}
+use Rattle.sha2.specs.Sha256.{sha256}
 use Rattle.std.specs.Map.{lookup}
 use Rattle.std.specs.Str.{bytes_eq}
 
@@ -26,10 +27,15 @@ pub record RequestKey : Type 0 where
 abbrev pub same_request : RequestKey → RequestKey → Bool
 same_request one other = same_folded one.platform other.platform && bytes_eq one.id other.id
 
--- a line that was done under a request id, and its answer
+-- a line that was done under a request id: the SHA-256 of its bytes, the configuration that was in force then, and its answer
 pub record Remembered : Type 0 where
-  pub line : List ℕ
+  pub digest : List ℕ
+  pub config : Config
   pub answer : List ℕ
+
+-- a line counts as the one that was done if its SHA-256 is the same
+abbrev pub is_same_line : Remembered → List ℕ → Bool
+is_same_line found line = bytes_eq found.digest (sha256 line)
 
 -- the lines that were done under request ids, the first one first
 abbrev pub RememberedLines : Type 0
@@ -63,7 +69,7 @@ abbrev pub same_key : IdKey → IdKey → Bool
 same_key one other = same_folded one.platform other.platform && bytes_eq one.id.bytes other.id.bytes
 
 abbrev pub shown_answered : Answered → Remembered
-shown_answered answered = record { line = answered.line.items; answer = reply_text answered.config answered.reply }
+shown_answered answered = record { digest = answered.digest; config = answered.config; answer = reply_text answered.config answered.reply }
 
 abbrev pub shown_entry : IdKey × Answered → RequestKey × Remembered
 shown_entry entry = (shown_key entry.0, shown_answered entry.1)
@@ -82,6 +88,13 @@ line_text config lines (given.Done reply) = reply_text config reply
 line_text config lines (given.Remembered key) = remembered_text (lookup (same_request (shown_key key)) lines)
 line_text config lines (given.Repeated key) = remembered_text (lookup (same_request (shown_key key)) lines)
 line_text config lines given.IdUsed = used_text
+
+-- the configuration that was in force when a repeated line was done; for another line the one in force
+abbrev pub config_at : StreamState → LineReply → Option Config
+config_at state (given.Done reply) = Some state.house.config
+config_at state (given.Remembered key) = Some state.house.config
+config_at state (given.Repeated key) = option_map (λ one. one.config) (lookup (same_request (shown_key key)) state.remembered)
+config_at state given.IdUsed = None
 
 -- the house of a stream: its list is legal under the house's own configuration
 abbrev pub shown_house : Config → State → StreamHouse

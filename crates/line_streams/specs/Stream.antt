@@ -1,14 +1,15 @@
 -- The answers to the lines of a stream: each line is done once, under the configuration in force.
-use Rattle.std.specs.Prelude.{◌≡◌, ◌⊎◌, ℕ, Bool, true, false, List, [], ◌∷◌, ◌++◌, Option, Some, None, option_map, Result, Ok, Err, is_some, if◌then◌else◌}
+use Rattle.std.specs.Prelude.{◌≡◌, ◌⊎◌, ℕ, Bool, true, false, List, [], ◌∷◌, ◌++◌, Option, Some, None, option_map, Result, Ok, Err, is_ok, if◌then◌else◌}
 use Rattle.std.specs.Map.{lookup}
-use Rattle.std.specs.Str.{bytes_eq}
 use Rattle.ocpi_types.specs.declared.config.Config.{Config}
 use Rattle.ocpi_types.specs.declared.refusal.Refusal.{Refusal}
-use Rattle.ocpi_types.specs.Config.{platform_of}
+use Rattle.ocpi_types.specs.Config.{is_hub}
+use Rattle.cdr_checks.specs.Admission.{admission}
 use Rattle.request_lines.specs.Answering.{Rule}
+use Rattle.sha2.specs.Sha256.{sha256}
 use Rattle.line_streams.specs.Asked.{asked_of}
 use Rattle.line_streams.specs.Change.{IsDone, refused_text, used_text}
-use Rattle.line_streams.specs.State.{Remembered, RememberedLines, RequestKey, StreamState, same_request}
+use Rattle.line_streams.specs.State.{Remembered, RememberedLines, RequestKey, StreamState, is_same_line, same_request}
 use Rattle.line_streams.specs.declared.asked.Asked.{Asked}
 use Rattle.line_streams.specs.declared.asked.Asked.TheVariants as asked
 use Rattle.line_streams.specs.declared.asked.AskedLine.{AskedLine}
@@ -29,25 +30,31 @@ abbrev pub found_under : RememberedLines → Option RequestKey → Option Rememb
 found_under remembered None = None
 found_under remembered (Some key) = lookup (same_request key) remembered
 
--- a line is remembered under its request id if its platform is configured
-abbrev pub remembered_if : Bool → RequestKey → List ℕ → List ℕ → RememberedLines
-remembered_if true key line answer = (key, record { line = line; answer = answer }) ∷ []
-remembered_if false key line answer = []
+-- the configuration allows what is asked for: it admits the request, or the platform that asks for the change is a hub
+abbrev pub is_allowed : Config → Asked → Bool
+is_allowed config (asked.Request request) = is_ok (admission config request)
+is_allowed config (asked.Change change) = is_hub config change.platform
 
-abbrev pub remembered_under : Config → Option RequestKey → List ℕ → List ℕ → RememberedLines
-remembered_under config None line answer = []
-remembered_under config (Some key) line answer = remembered_if (is_some (platform_of config key.platform)) key line answer
+-- a line is remembered under its request id if what it asks for is allowed
+abbrev pub remembered_if : Bool → RequestKey → Remembered → RememberedLines
+remembered_if true key done = (key, done) ∷ []
+remembered_if false key done = []
+
+abbrev pub remembered_under : Config → Option RequestKey → Asked → List ℕ → List ℕ → RememberedLines
+remembered_under config None asks line answer = []
+remembered_under config (Some key) asks line answer =
+    remembered_if (is_allowed config asks) key (record { digest = sha256 line; config = config; answer = answer })
 
 -- the answer to a line under whose request id a line was done: the same bytes if it is the same line
 abbrev pub again_text : Remembered → List ℕ → List ℕ
-again_text found line = if bytes_eq found.line line then found.answer else used_text
+again_text found line = if is_same_line found line then found.answer else used_text
 
 -- ---- one line
 
 -- a line is done, and remembered under its request id
 pub record IsDoneLine (state : StreamState) (key : Option RequestKey) (asks : Asked) (line text : List ℕ) (now : StreamState) : Type 0 where
   pub done : IsDone state.house asks text now.house
-  pub remembered_is : now.remembered ≡ state.remembered ++ remembered_under state.house.config key line text
+  pub remembered_is : now.remembered ≡ state.remembered ++ remembered_under state.house.config key asks line text
 
 -- nothing is done for a line under whose request id a line was done
 abbrev pub IsDoneOnce : StreamState → Option RequestKey → Asked → Option Remembered → List ℕ → List ℕ → StreamState → Type 0

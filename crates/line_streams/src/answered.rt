@@ -1,23 +1,33 @@
 //! The lines that were done under request ids.
 
+ghost use Rattle.std.specs.Prelude.{◌≡◌};
+ghost use Rattle.sha2.specs.Sha256.{sha256};
+
 use crate::reply::StreamReply;
 use crate::request_id::IdKey;
 use indexmap::IndexMap;
 use ocpi_types::{Config, Shared};
+use sha2::{Digest, Sha256};
 use std::alloc::{AllocError, Global};
 
-/// A line that was done, and its reply under the configuration that was in force.
+/// Returns the SHA-256 of a line.
+fn digest_of(line: &[u8]) -> [u8; 32]
+    ensures { result ≡ sha256 line.now }
+{
+    Sha256::digest(line)
+}
+
+/// A line that was done, by its SHA-256, and its reply under the configuration that was in force.
 #[derive(Drop)]
 pub struct Answered {
-    pub line: Vec<u8>,
+    pub digest: [u8; 32],
     pub config: Shared<Config>,
     pub reply: StreamReply,
 }
 
 impl Answered {
     ghost use Rattle.std.specs.Prelude.{◌≡◌, IfOk};
-    ghost use Rattle.std.specs.Str.{bytes_eq};
-    ghost use Rattle.line_streams.specs.State.{shown_answered};
+    ghost use Rattle.line_streams.specs.State.{is_same_line, shown_answered};
 
     /// Returns the answer to the line.
     pub fn answer(&self, alloc: Global) -> Result<Vec<u8>, AllocError>
@@ -26,50 +36,47 @@ impl Answered {
         self.reply.line(alloc, &self.config)
     }
 
-    /// Whether a line is the one that was done.
+    /// Whether a line has the digest of the one that was done.
     pub fn is_line(&self, line: &[u8]) -> bool
-        ensures { result ≡ bytes_eq (shown_answered self.now).line line.now }
+        ensures { result ≡ is_same_line (shown_answered self.now) line.now }
     {
-        self.line.as_slice() == line
+        self.digest == digest_of(line)
     }
 }
 
 /// A line that is to be done, and the configuration in force before it.
 #[derive(Drop)]
 pub struct Unanswered {
-    line: Vec<u8>,
+    digest: [u8; 32],
     config: Shared<Config>,
 }
 
 impl Unanswered {
     ghost use Rattle.std.specs.Prelude.{◌≡◌, IfOk};
+    ghost use Rattle.sha2.specs.Sha256.{sha256};
 
-    /// Copies the line.
+    /// Takes the digest of the line.
     ///
     /// # Errors
     ///
-    /// `AllocError` if an allocation fails.
-    pub fn new(
-        alloc: Global,
-        config: &Shared<Config>,
-        line: &[u8],
-    ) -> Result<Unanswered, AllocError>
-        ensures line { IfOk result (λ unanswered. unanswered.line.items ≡ line.now) }
+    /// `AllocError` if the configuration cannot be shared once more.
+    pub fn new(config: &Shared<Config>, line: &[u8]) -> Result<Unanswered, AllocError>
+        ensures digest { IfOk result (λ unanswered. unanswered.digest ≡ sha256 line.now) }
         ensures config { IfOk result (λ unanswered. unanswered.config ≡ config.now) }
     {
         Ok(Unanswered {
-            line: Vec::from_slice(alloc, line)?,
+            digest: digest_of(line),
             config: config.share()?,
         })
     }
 
     /// Adds the reply, without an allocation.
     pub fn with_reply(self, reply: StreamReply) -> Answered
-        ensures { result ≡ record { line = self.line; config = self.config; reply = reply } }
+        ensures { result ≡ record { digest = self.digest; config = self.config; reply = reply } }
     {
-        let Unanswered { line, config } = self;
+        let Unanswered { digest, config } = self;
         Answered {
-            line,
+            digest,
             config,
             reply,
         }

@@ -1,64 +1,46 @@
-//! A request or a change of the configuration, done.
+//! What a line asks for, done if the configuration in force allows it.
 
 ghost use Rattle.std.specs.Prelude.{◌≡◌, ◌<◌, length, slice_get, Some, true, false, IfOk, OnErr};
-ghost use Rattle.ocpi_types.specs.Config.{is_hub};
-ghost use Rattle.cdr_checks.specs.Admission.{admission};
+ghost use Rattle.cdr_checks.specs.Admission.{IsAdmitted};
 ghost use Rattle.house_statements.specs.Order.{event_name};
 ghost use Rattle.plain_house.specs.declared.event.Event.{Event as EventValue};
-ghost use Rattle.plain_house.specs.Replies.{is_no_memory};
-ghost use Rattle.request_lines.specs.Script.{list_with, reply_to};
+ghost use Rattle.plain_house.specs.House.{reply_of};
 ghost use Rattle.new_configuration.specs.TakenOver.{IsFirstOtherwise};
-ghost use Rattle.line_streams.specs.Change.{ByHub, IsChanged, IsDone, IsReplied};
-ghost use Rattle.line_streams.specs.Given.{IsReplyByHub, IsReplyTo, IsReplyToChange};
+ghost use Rattle.line_streams.specs.Change.{IsChanged, IsDone};
+ghost use Rattle.line_streams.specs.Given.{IsReplyTo, IsReplyToChange};
 ghost use Rattle.line_streams.specs.State.{reply_text, shown_house};
 ghost use Rattle.line_streams.specs.declared.reply.StreamReply.TheVariants.{House};
+ghost use Rattle.line_streams.specs.Inner.Allowed.{IsAllowed, IsAllowedDone, IsCommandDone, IsReplyToAllowed};
 ghost use Rattle.line_streams.specs.Inner.Base.{base_of};
 
-use crate::asked::{Asked, Change};
+use crate::allowed::{Allowed, allow};
+use crate::asked::Asked;
 use crate::in_force::{InForce, judges_commands};
 use crate::reply::StreamReply;
-use cdr_checks::Request;
+use cdr_checks::Command;
 use house_statements::event_name;
 use new_configuration::{TakeOverFault, house_of, loosened};
-use ocpi_types::{Config, Refusal, Shared, TryCopy};
+use ocpi_types::{Config, Shared, TryCopy};
 use period_order::BookHouse;
-use plain_house::{Event, Refused, Replied, is_out_of_memory};
-use request_lines::admitted;
+use plain_house::{Event, is_out_of_memory};
 use std::alloc::{AllocError, Global};
 
-/// Returns the reply to a request.
-fn reply_to_request(
+/// Does a command as a script does.
+fn do_command(
     in_force: &InForce,
     house: &mut BookHouse,
-    request: Request,
-) -> Result<Replied, Refused>
-    requires { house.old.config ≡ base_of in_force.now }
-    ensures base { house.new.config ≡ house.old.config }
-    ensures reply { is_no_memory result ≡ false → result ≡ reply_to in_force.now.config house.old.events (admission in_force.now.config request) }
-    ensures events { is_no_memory result ≡ false → house.new.events ≡ list_with in_force.now.config house.old.events (admission in_force.now.config request) }
-    ensures unchanged { is_no_memory result ≡ true → house.new.events ≡ house.old.events }
-{
-    judges_commands(in_force, house);
-    match admitted(&in_force.config, request) {
-        Ok(command) => house.do_command_under(&in_force.config, command),
-        Err(refusal) => Err(Refused { at: None, refusal }),
-    }
-}
-
-/// Does a request as a script does.
-fn do_request(
-    in_force: &InForce,
-    house: &mut BookHouse,
-    request: Request,
+    command: Command,
 ) -> Result<StreamReply, AllocError>
-    requires { house.old.config ≡ base_of in_force.now }
+    requires base { house.old.config ≡ base_of in_force.now }
+    requires admitted { IsAdmitted in_force.now.config command }
     ensures base { house.new.config ≡ house.old.config }
-    ensures ok { IfOk result (λ reply. IsReplied (shown_house in_force.now.config house.old) request (reply_text in_force.now.config reply)
+    ensures ok { IfOk result (λ reply. IsCommandDone (shown_house in_force.now.config house.old) command (reply_text in_force.now.config reply)
         (shown_house in_force.now.config house.new)) }
-    ensures given { IfOk result (λ reply. reply ≡ House (reply_to in_force.now.config house.old.events (admission in_force.now.config request))) }
+    ensures given { IfOk result (λ reply. reply ≡ House (reply_of in_force.now.config house.old.events command)) }
     ensures err { OnErr result (house.new ≡ house.old) }
 {
-    let reply = reply_to_request(in_force, house, request);
+    judges_commands(in_force, house);
+    let reply = house.do_command_under(&in_force.config, command);
     if is_out_of_memory(&reply) {
         return Err(AllocError);
     }
@@ -150,32 +132,33 @@ fn change_to(
     }
 }
 
-/// Makes a change that a hub asks for, and refuses that of another platform.
-fn do_change(
+/// Does what is allowed, under the configuration in force.
+///
+/// # Errors
+///
+/// `AllocError` if an allocation fails; configuration and house are as before.
+pub fn do_allowed(
     alloc: Global,
     in_force: &mut InForce,
     house: &mut BookHouse,
-    change: Change,
+    allowed: Allowed,
 ) -> Result<StreamReply, AllocError>
-    requires { house.old.config ≡ base_of in_force.old }
+    requires base { house.old.config ≡ base_of in_force.old }
+    requires allowed { IsAllowed in_force.old.config allowed }
     ensures base { house.new.config ≡ base_of in_force.new }
-    ensures ok { IfOk result (λ reply. ByHub (is_hub in_force.old.config change.platform) (shown_house in_force.old.config house.old) change.config (reply_text in_force.old.config reply) (shown_house in_force.new.config house.new)) }
-    ensures given { IfOk result (λ reply. IsReplyByHub (is_hub in_force.old.config change.platform) (shown_house in_force.old.config house.old) change.config reply) }
+    ensures ok { IfOk result (λ reply. IsAllowedDone (shown_house in_force.old.config house.old) allowed (reply_text in_force.old.config reply) (shown_house in_force.new.config house.new)) }
+    ensures given { IfOk result (λ reply. IsReplyToAllowed (shown_house in_force.old.config house.old) allowed reply) }
     ensures alike { IfOk result (λ reply. reply_text in_force.new.config reply ≡ reply_text in_force.old.config reply) }
     ensures unchanged { OnErr result (house.new ≡ house.old) }
     ensures in_force { OnErr result (in_force.new ≡ in_force.old) }
 {
-    if in_force.config.is_hub(&change.platform) {
-        change_to(alloc, in_force, house, change.config)
-    } else {
-        Ok(StreamReply::House(Err(Refused {
-            at: None,
-            refusal: Refusal::NotYours,
-        })))
+    match allowed {
+        Allowed::Command(command) => do_command(in_force, house, command),
+        Allowed::Change(config) => change_to(alloc, in_force, house, config),
     }
 }
 
-/// Does what is asked for, under the configuration in force.
+/// Does what is asked for if the configuration in force allows it, and refuses it otherwise.
 ///
 /// # Errors
 ///
@@ -194,8 +177,8 @@ pub fn do_asked(
     ensures unchanged { OnErr result (house.new ≡ house.old) }
     ensures in_force { OnErr result (in_force.new ≡ in_force.old) }
 {
-    match asked {
-        Asked::Request(request) => do_request(in_force, house, request),
-        Asked::Change(change) => do_change(alloc, in_force, house, change),
+    match allow(&in_force.config, asked) {
+        Ok(allowed) => do_allowed(alloc, in_force, house, allowed),
+        Err(refusal) => Ok(StreamReply::refused(refusal)),
     }
 }

@@ -1,51 +1,53 @@
 //! A line with a request id, done once.
 
-ghost use Rattle.std.specs.Prelude.{◌≡◌, None, Some, true, is_some, IfOk, OnErr, OnOk};
+ghost use Rattle.std.specs.Prelude.{◌≡◌, None, Some, IfOk, OnErr, OnOk};
 ghost use Rattle.std.specs.Map.{lookup};
-ghost use Rattle.ocpi_types.specs.Config.{platform_of};
 ghost use Rattle.line_streams.specs.declared.reply.LineReply.TheVariants as given;
-ghost use Rattle.line_streams.specs.Given.{IsDoneNow, IsGivenOnce, done_in};
+ghost use Rattle.line_streams.specs.Given.{IsGivenOnce, done_in};
 ghost use Rattle.line_streams.specs.State.{line_text, remembered_text, same_request, shown_house, shown_key, shown_lines};
-ghost use Rattle.line_streams.specs.Stream.{IsDoneLine, IsDoneOnce};
+ghost use Rattle.line_streams.specs.Stream.{IsDoneOnce};
+ghost use Rattle.line_streams.specs.Inner.Allowed.{IsAllowed, IsAllowedNow, IsFirstDone};
 ghost use Rattle.line_streams.specs.Inner.Base.{base_of};
 ghost use Rattle.line_streams.specs.Inner.Seen.{seen};
 
+use crate::allowed::{Allowed, allow};
 use crate::answered::{AnsweredLines, Unanswered};
 use crate::asked::Asked;
-use crate::doing::do_asked;
+use crate::doing::do_allowed;
 use crate::in_force::InForce;
 use crate::reply::LineReply;
 use crate::request_id::IdKey;
 use period_order::BookHouse;
 use std::alloc::{AllocError, Global};
 
-/// Does what a line asks for, and remembers the line under its request id. All memory to remember it is taken before.
+/// Does what a line asks for and the configuration allows, and remembers the line under its request id. All memory to remember it is taken
+/// before.
 fn do_first(
     alloc: Global,
     in_force: &mut InForce,
     house: &mut BookHouse,
     answered: &mut AnsweredLines,
     key: IdKey,
-    asked: Asked,
+    allowed: Allowed,
     line: &[u8],
 ) -> Result<(), AllocError>
     requires base { house.old.config ≡ base_of in_force.old }
     requires absent { lookup (same_request (shown_key key)) (shown_lines answered.old) ≡ None }
-    requires configured { is_some (platform_of in_force.old.config key.platform) ≡ true }
+    requires allowed { IsAllowed in_force.old.config allowed }
     ensures base { house.new.config ≡ base_of in_force.new }
-    ensures ok { OnOk result (IsDoneLine (seen in_force.old.config house.old answered.old) (Some (shown_key key)) asked line.now
+    ensures ok { OnOk result (IsFirstDone (seen in_force.old.config house.old answered.old) (shown_key key) allowed line.now
         (remembered_text (lookup (same_request (shown_key key)) (shown_lines answered.new))) (seen in_force.new.config house.new answered.new)) }
-    ensures given { OnOk result (IsDoneNow (shown_house in_force.old.config house.old) asked (done_in answered.new (given.Remembered key))) }
+    ensures given { OnOk result (IsAllowedNow (shown_house in_force.old.config house.old) allowed (done_in answered.new (given.Remembered key))) }
     ensures err { OnErr result (seen in_force.new.config house.new answered.new ≡ seen in_force.old.config house.old answered.old) }
 {
     answered.reserve()?;
-    let unanswered = Unanswered::new(alloc, &in_force.config, line)?;
-    let reply = do_asked(alloc, in_force, house, asked)?;
+    let unanswered = Unanswered::new(&in_force.config, line)?;
+    let reply = do_allowed(alloc, in_force, house, allowed)?;
     answered.add(key, unanswered.with_reply(reply));
     Ok(())
 }
 
-/// Replies to a line that has a request id: does it if no line was done under the id.
+/// Replies to a line that has a request id: does what it asks for if no line was done under the id and the configuration allows it.
 pub fn do_once(
     alloc: Global,
     in_force: &mut InForce,
@@ -60,7 +62,7 @@ pub fn do_once(
     ensures ok { IfOk result (λ reply. IsDoneOnce (seen in_force.old.config house.old answered.old) (Some (shown_key key)) asked
         (lookup (same_request (shown_key key)) (shown_lines answered.old)) line.now
         (line_text in_force.new.config (shown_lines answered.new) reply) (seen in_force.new.config house.new answered.new)) }
-    ensures given { IfOk result (λ reply. IsGivenOnce (shown_house in_force.old.config house.old) asked
+    ensures given { IfOk result (λ reply. IsGivenOnce (shown_house in_force.old.config house.old) (shown_lines answered.old) asked
         (lookup (same_request (shown_key key)) (shown_lines answered.old)) line.now (done_in answered.new reply) reply) }
     ensures err { OnErr result (seen in_force.new.config house.new answered.new ≡ seen in_force.old.config house.old answered.old) }
 {
@@ -72,9 +74,10 @@ pub fn do_once(
             LineReply::IdUsed
         });
     }
-    if in_force.config.platform(&key.platform).is_none() {
-        return Ok(LineReply::Done(do_asked(alloc, in_force, house, asked)?));
-    }
-    do_first(alloc, in_force, house, answered, key, asked, line)?;
+    let allowed = match allow(&in_force.config, asked) {
+        Ok(allowed) => allowed,
+        Err(refusal) => return Ok(LineReply::refused(refusal)),
+    };
+    do_first(alloc, in_force, house, answered, key, allowed, line)?;
     Ok(LineReply::Remembered(key))
 }

@@ -58,8 +58,16 @@ fn otherwise_line(alloc: Global, at: u64, event: u64, kind: &str) -> Result<Stri
 }
 
 impl StreamReply {
-    ghost use Rattle.std.specs.Prelude.{◌≡◌, IfOk};
+    ghost use Rattle.std.specs.Prelude.{◌≡◌, None, Err, IfOk};
     ghost use Rattle.line_streams.specs.State.{reply_text};
+    ghost use Rattle.line_streams.specs.declared.reply.StreamReply.TheVariants.{House};
+
+    /// Returns the reply to what is refused before the house is asked.
+    pub fn refused(refusal: Refusal) -> StreamReply
+        ensures { result ≡ House (Err (record { at = None; refusal = refusal })) }
+    {
+        StreamReply::House(Err(Refused { at: None, refusal }))
+    }
 
     /// Returns the answer line of a reply that was given under this configuration.
     pub fn line(&self, alloc: Global, config: &Config) -> Result<Vec<u8>, AllocError>
@@ -100,7 +108,7 @@ impl LineReply {
     pub fn refused(refusal: Refusal) -> LineReply
         ensures { result ≡ Done (House (Err (record { at = None; refusal = refusal }))) }
     {
-        LineReply::Done(StreamReply::House(Err(Refused { at: None, refusal })))
+        LineReply::Done(StreamReply::refused(refusal))
     }
 }
 

@@ -7,6 +7,7 @@ use crate::answered::AnsweredLines;
 use crate::asked::{AskedLine, asked_of};
 use crate::doing::do_asked;
 use crate::in_force::InForce;
+use crate::line_stream::LineStream;
 use crate::once::do_once;
 use crate::reply::{LineReply, StreamReply, used_line};
 use crate::request_id::IdKey;
@@ -35,7 +36,7 @@ fn is_refusal(answer: &[u8]) -> bool {
 impl Stream {
     ghost use Rattle.std.specs.Prelude.{◌≡◌, ◌-◌, length, option_copied, slice_get, IfOk, OnErr};
     ghost use Rattle.line_streams.specs.Given.{IsGiven, done_by};
-    ghost use Rattle.line_streams.specs.State.{empty_under, line_text, shown_lines, state_of};
+    ghost use Rattle.line_streams.specs.State.{config_at, empty_under, line_text, shown_lines, state_of};
     ghost use Rattle.line_streams.specs.Stream.{IsAnswered};
 
     /// Returns an empty house under a configuration.
@@ -124,6 +125,18 @@ impl Stream {
         }
     }
 
+    /// Returns the configuration that was in force when a repeated line was done; for another line the one in force. None if the request
+    /// id of the line was given to another line.
+    pub fn config_at<'s>(&'s self, reply: &LineReply) -> Option<&'s Config>
+        ensures { option_copied result ≡ config_at (state_of self.now) reply.now }
+    {
+        match reply {
+            LineReply::Done(_) | LineReply::Remembered(_) => Some(&self.in_force.config),
+            LineReply::Repeated(key) => Some(&self.answered.find(key)?.config),
+            LineReply::IdUsed => None,
+        }
+    }
+
     /// Returns the answer line of the reply to the last line.
     ///
     /// # Errors
@@ -165,5 +178,28 @@ impl Answerer for Stream {
             self.refused = self.refused.saturating_add(1);
         }
         Ok(answer)
+    }
+}
+
+impl LineStream for Stream {
+    ghost use Rattle.line_streams.specs.State.{state_of};
+    ghost use Rattle.line_streams.specs.Stream.{stream_rule};
+
+    ghost state = { state_of };
+
+    ghost state_rule = { stream_rule };
+
+    ghost may_look_ahead = { tt };
+
+    ghost answers_in_state = { λ a b lines text answered. answered };
+
+    ghost gives_up_in_state = { λ a b line left. left };
+
+    fn under(alloc: Global, config: Config) -> Result<Stream, AllocError> {
+        Stream::new(alloc, config)
+    }
+
+    fn config_in_force(&self) -> &Config {
+        self.config()
     }
 }
