@@ -1,7 +1,8 @@
 //! A kept house inside a program: three requests, each on a disk before it is answered.
 #![tactic(auto)]
 
-use kept_house::keep_house;
+use kept_house::{Unwatched, keep_house};
+use line_streams::Stream;
 use request_lines::Device;
 use sqlite_disk::Memory;
 
@@ -24,7 +25,7 @@ fn main(rt: HostRuntime) -> anyhow::Result<()> {
     let disk = Memory::new(alloc);
     let mut requests = Device::new(REQUESTS.as_bytes());
     let mut answers = Device::new(rt.stdout());
-    let kept = keep_house(
+    let kept = keep_house::<Stream, _, _, _, _>(
         alloc,
         disk,
         "example",
@@ -33,6 +34,7 @@ fn main(rt: HostRuntime) -> anyhow::Result<()> {
         None,
         &mut requests,
         &mut answers,
+        &mut Unwatched,
     );
     kept.result?;
     Ok(())

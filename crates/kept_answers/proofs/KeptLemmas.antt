@@ -1,7 +1,7 @@
 -- New lines that are kept and answered.
 use Rattle.std.proofs.Common.{◌≡◌, ◌≢◌, ◌⊎◌, inl, inr, ⊎_elim, ℕ, ◌+◌, ◌-◌, ◌<◌, ◌≤◌, List, [], ◌∷◌, ◌++◌, length, map, take, drop, Option, Result, Ok, Err, refl, sym, ◌∙◌, ap, subst, arith, append_assoc, length-append}
 use Rattle.std.specs.List.{All, flat_map}
-use Rattle.std.specs.Prelude.{IsErr, IsTrue, MatchResult, OnOk}
+use Rattle.std.specs.Prelude.{IfErr, IsErr, IsTrue, MatchResult, OnOk}
 use Rattle.std.proofs.lemmas.List.{append-nil, drop_all, drop_at, flat_map_more, map-append, take_all, take_at}
 use Rattle.std.proofs.lemmas.Grind.{flat_map-append}
 use Rattle.std.proofs.lemmas.List.Elements.{All-append, All-cons, All-head, All-nil, All-tail}
@@ -13,6 +13,9 @@ use Rattle.request_lines.specs.Answering.{Rule}
 use Rattle.request_lines.specs.Lines.{AreLines, HasNoNewline, with_newline}
 use Rattle.kept_lines.specs.File.{IsBeforeOrAfter, kept_in}
 use Rattle.kept_lines.specs.Reading.{OnlyReads}
+use Rattle.kept_lines.specs.declared.error.KeepError.{KeepError}
+use Rattle.kept_lines.specs.declared.error.KeepError.TheVariants as error
+use Rattle.kept_answers.specs.Faults.{IsOtherCount, of_disk}
 use Rattle.kept_answers.specs.Inner.UnderWay.{IsUnderWay}
 use Rattle.kept_answers.specs.Keeping.{FitsKept, IsStoreAnswered, IsStoreSent, answers_had, greeting}
 use Rattle.kept_answers.specs.Kept.{AreAnswered, AreKept, AreResent, Begins, HasResent, HasSent}
@@ -157,6 +160,24 @@ part_sent Q (Err e) sent text told = told
 pub all_sent : {T E : Type 0} (P Q R : Type 0) (result : Result T E) → MatchResult result (λ _. P × Q) (λ _. R) → OnOk result P
 all_sent P Q R (Ok x) told = told.0
 all_sent P Q R (Err e) told = tt
+
+-- what holds of an error holds of it in another way
+pub if_err_then : {T E : Type 0} {P Q : E → Type 0} (result : Result T E) → IfErr result P → ((e : E) → P e → Q e) → IfErr result Q
+if_err_then (Ok x) holds then = tt
+if_err_then (Err e) holds then = then e holds
+
+pub if_err_both : {T E : Type 0} {P Q R : E → Type 0} (result : Result T E) → IfErr result P → IfErr result Q → ((e : E) → P e → Q e → R e) → IfErr result R
+if_err_both (Ok x) one other then = tt
+if_err_both (Err e) one other then = then e one other
+
+-- no error of the log is of the number of lines
+pub never_other : (e : KeepError) → IsOtherCount (of_disk e) → ⊥
+never_other error.Memory other = other
+never_other (error.Disk cause) other = other
+never_other error.Full other = other
+never_other error.TooLong other = other
+never_other (error.Damaged at) other = other
+never_other error.LargeBatch other = other
 
 pub on_ok_then : {T E P Q : Type 0} (result : Result T E) → OnOk result P → (P → Q) → OnOk result Q
 on_ok_then (Ok x) holds then = then holds

@@ -5,9 +5,9 @@ use Rattle.std.proofs.Math.Seq.{take-add}
 use Rattle.request_lines.specs.Answering.{Rule}
 use Rattle.kept_lines.specs.File.{kept_in}
 use Rattle.kept_answers.specs.Keeping.{FitsKept, answers_had, greeting}
-use Rattle.kept_answers.specs.Runs.{AreRuns, HasRun, HaveCome, IsDetermined, KeptIsARun, Run, RunsAreOne, all_received, count_received, last_left}
+use Rattle.kept_answers.specs.Runs.{AreRuns, HasRun, HaveCome, IsDetermined, KeptIsARun, LeadsOneWay, Run, RunsAreOne, all_received, count_received, last_left}
 
-module _ {A : Type 0} (rule : Rule A) (determined : IsDetermined rule) (start : A) (first : List ℕ) where
+module _ {A : Type 0} (rule : Rule A) (leads : LeadsOneWay rule) (start : A) (first : List ℕ) where
   -- what a run leaves: the lines from before and more, at least those whose answers came, and what the client has of them
   record Left (had : ℕ) (run : Run) (so_far : List ℕ) : Type 0 where
     pub lines : List (List ℕ)
@@ -42,14 +42,14 @@ module _ {A : Type 0} (rule : Rule A) (determined : IsDetermined rule) (start : 
       ∙ ap (λ (l : List (List ℕ)). take (had + run.received) l) (append_assoc run.before (take count run.new) (drop count run.new) ∙ ap (λ (l : List (List ℕ)). run.before ++ l) (take-append-drop count run.new)) in
       let parts : take (had + run.received) lines ≡ take had run.before ++ take run.received (drop had all) =
       front ∙ take-add had run.received all ∙ ap (λ (l : List (List ℕ)). l ++ take run.received (drop had all)) (take-append-le had run.before run.new few) in
-      let one = determined.one_way start (take had run.before) come.text so_far come.middle middle come.answered_before so in
-      let joined = determined.more_lines start come.middle come.end (take had run.before) (take run.received (drop had all)) come.text run.came come.answered_before come.answered in record {
+      let one = leads.one_end start (take had run.before) come.text so_far come.middle middle come.answered_before so in
+      let after = subst (λ (at : A). rule.answers at (take run.received (drop had all)) run.came come.end) one come.answered in
+      let joined = leads.more_lines start middle come.end (take had run.before) (take run.received (drop had all)) so_far run.came so after in record {
         lines = lines;
         kept = kept;
         enough = omega (arith, size, enough);
         end = come.end;
-        same = subst (λ (l : List (List ℕ)). rule.answers start l (so_far ++ run.came) come.end) (sym parts)
-            (subst (λ (t : List ℕ). rule.answers start (take had run.before ++ take run.received (drop had all)) (t ++ run.came) come.end) one.0 joined);
+        same = subst (λ (l : List (List ℕ)). rule.answers start l (so_far ++ run.came) come.end) (sym parts) joined;
       }
 
   no_greeting : (kept : ℕ) (xs ys : List ℕ) → [] ≡ (greeting kept ++ xs) ++ ys → ⊥
@@ -93,9 +93,17 @@ module _ {A : Type 0} (rule : Rule A) (determined : IsDetermined rule) (start : 
         ),
       )
 
+-- a rule that answers lines in one way leads them to one state
+pub leads_one_way : {A : Type 0} (rule : Rule A) → IsDetermined rule → LeadsOneWay rule
+leads_one_way rule determined = record {
+  one_end = λ start lines text other end last told again. (determined.one_way start lines text other end last told again).1;
+  no_lines = determined.no_lines;
+  more_lines = determined.more_lines;
+}
+
 pub runs_are_one : {A : Type 0} (rule : Rule A) → RunsAreOne rule
-runs_are_one rule start first file runs determined empty ran =
-    let all = all_runs rule determined start first file [] [] 0 start runs empty (omega arith) (determined.no_lines start) ran in
+runs_are_one rule start first file runs leads empty ran =
+    let all = all_runs rule leads start first file [] [] 0 start runs empty (omega arith) (leads.no_lines start) ran in
     let total : 0 + count_received runs ≡ count_received runs = omega arith in
     (all.0, all.1, omega (arith, all.2), (all.3.0, subst (λ (n : ℕ). rule.answers start (take n all.0) (all_received runs) all.3.0) total all.3.1))
 

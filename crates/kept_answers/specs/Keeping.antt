@@ -17,6 +17,11 @@ abbrev pub FitsKept : Option ℕ → ℕ → Type 0
 FitsKept None kept = kept ≡ 0
 FitsKept (Some had) kept = had ≤ kept
 
+-- the store has a first record, and the client has answers to more lines than come after it, or says nothing of them
+abbrev pub HasOtherCount : Option ℕ → List (List ℕ) → Type 0
+HasOtherCount from [] = ⊥
+HasOtherCount from (first ∷ lines) = FitsKept from (length lines) → ⊥
+
 -- what was sent begins the greeting and the answers to the lines after the first `from`
 abbrev pub GreetsAndAnswers : {A : Type 0} → Rule A → A → List (List ℕ) → ℕ → List ℕ → Type 0
 GreetsAndAnswers rule start lines from sent =

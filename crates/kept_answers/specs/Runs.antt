@@ -13,6 +13,12 @@ pub record IsDetermined {A : Type 0} (rule : Rule A) : Type 0 where
   pub no_lines : (start : A) → rule.answers start [] [] start
   pub more_lines : (start middle end : A) (some others : List (List ℕ)) (text more : List ℕ) → rule.answers start some text middle → rule.answers middle others more end → rule.answers start (some ++ others) (text ++ more) end
 
+-- the rule leads lines to one state, and answers lines in turn
+pub record LeadsOneWay {A : Type 0} (rule : Rule A) : Type 0 where
+  pub one_end : (start : A) (lines : List (List ℕ)) (text other : List ℕ) (end last : A) → rule.answers start lines text end → rule.answers start lines other last → end ≡ last
+  pub no_lines : (start : A) → rule.answers start [] [] start
+  pub more_lines : (start middle end : A) (some others : List (List ℕ)) (text more : List ℕ) → rule.answers start some text middle → rule.answers middle others more end → rule.answers start (some ++ others) (text ++ more) end
+
 -- a run: the lines from before, the new ones, what was sent, the content that the crash at its end left, and the answers that came to
 -- the client whole, with their number
 pub record Run : Type 0 where
@@ -74,7 +80,7 @@ last_left file (run ∷ later) = last_left run.left later
 -- left: each answer once, in order, and of a line that is still there.
 abbrev pub RunsAreOne : {A : Type 0} → Rule A → Type 0
 RunsAreOne {A} rule =
-    (start : A) (first file : List ℕ) (runs : List Run) → IsDetermined rule → kept_in file ≡ first ∷ [] → AreRuns rule start first file 0 runs →
+    (start : A) (first file : List ℕ) (runs : List Run) → LeadsOneWay rule → kept_in file ≡ first ∷ [] → AreRuns rule start first file 0 runs →
     (lines : List (List ℕ)) × (kept_in (last_left file runs) ≡ first ∷ lines) × (count_received runs ≤ length lines)
     × ((end : A) × rule.answers start (take (count_received runs) lines) (all_received runs) end)
 

@@ -58,6 +58,14 @@ pub enum KeepFault {
     /// The store has a line that is longer than a line may be.
     #[error("a line of the store is too long")]
     StoreLineTooLong,
+
+    /// The store is damaged from this byte on. Nothing of it is changed.
+    #[error("the store is damaged at byte {0}")]
+    Damaged(usize),
+
+    /// The lines of a read call are a larger batch than one may be. They are not kept.
+    #[error("a batch is too large")]
+    LargeBatch,
 }
 
 impl From<AllocError> for KeepFault {
@@ -77,6 +85,8 @@ impl From<KeepError> for KeepFault {
             KeepError::Disk(cause) => KeepFault::Disk(cause),
             KeepError::Full => KeepFault::Full,
             KeepError::TooLong => KeepFault::StoreLineTooLong,
+            KeepError::Damaged(at) => KeepFault::Damaged(at),
+            KeepError::LargeBatch => KeepFault::LargeBatch,
         }
     }
 }

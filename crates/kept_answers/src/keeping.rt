@@ -1,18 +1,20 @@
 //! A store whose lines are answered: those that it keeps again, and then new ones.
 
-ghost use Rattle.std.specs.Prelude.{◌≡◌, ◌≤◌, ◌^◌, ℕ, List, [], ◌∷◌, ◌++◌, length, string_bytes, IsTrue, IfOk, OnOk, MatchResult};
+ghost use Rattle.std.specs.Prelude.{◌≡◌, ◌≤◌, ◌^◌, ℕ, List, [], ◌∷◌, ◌++◌, length, string_bytes, IsTrue, IfErr, IfOk, OnErr, OnOk, MatchResult};
 ghost use Rattle.sqlite_disk.specs.Disk.{Only};
 ghost use Rattle.kept_lines.specs.File.{kept_in};
 ghost use Rattle.kept_lines.specs.Log.{IsSettled};
 ghost use Rattle.kept_lines.specs.Reading.{OnlyReads};
 ghost use Rattle.kept_lines.specs.Recovery.{disk_of, lines_left};
 ghost use Rattle.request_lines.specs.Lines.{AreLines};
-ghost use Rattle.kept_answers.specs.Keeping.{FitsKept, IsAllKept, IsKept, IsStoreAnswered, IsStoreSent, answers_had, greeting};
+ghost use Rattle.kept_answers.specs.Keeping.{FitsKept, HasOtherCount, IsAllKept, IsKept, IsStoreAnswered, IsStoreSent, answers_had, greeting};
 ghost use Rattle.kept_answers.specs.Kept.{AreAnswered, Begins};
+ghost use Rattle.kept_answers.specs.Faults.{IsOtherCount};
 
 use crate::answering::answer_new_lines;
 use crate::fault::KeepFault;
 use crate::restart::answer_kept_lines;
+use crate::watch::Watch;
 use kept_lines::{Log, Recovery, Unrecovered};
 use request_lines::{Answerer, MOST_LINE_BYTES, Sink, Source, write_all};
 use sqlite_disk::Disk;
@@ -35,13 +37,19 @@ pub struct Ended<D: Disk> {
 }
 
 /// The number of lines that are left.
-fn count_lines<D: Disk>(recovery: &mut Recovery<D>) -> Result<u64, KeepFault>
+#[tactic(auto, using(crate::proofs::KeptLemmas::never_other))]
+fn count_lines<D: Disk, V: Watch>(
+    recovery: &mut Recovery<D>,
+    watch: &mut V,
+) -> Result<u64, KeepFault>
     ensures count { IfOk result (λ count. IsTrue (D.Disk.is_clean (disk_of recovery.new)) → count ≡ length (lines_left recovery.old)) }
     ensures reads { OnlyReads D.Disk (disk_of recovery.old) (disk_of recovery.new) }
+    ensures other { IfErr result (λ fault. IsOtherCount fault → ⊥) }
 {
     let mut count: u64 = 0;
     while recovery.next_line()? {
         count += 1;
+        watch.counted(recovery.line().len());
     }
     Ok(count)
 }
@@ -56,6 +64,7 @@ fn greeting_text(alloc: Global, kept: u64) -> Result<String, AllocError>
 fn greet<W: Sink>(alloc: Global, writer: &mut W, kept: u64) -> Result<(), KeepFault>
     ensures told { (sent : List ℕ) × W.writing.takes writer.old sent writer.new
         × MatchResult result (λ _. sent ≡ greeting kept) (λ _. Begins sent (greeting kept)) }
+    ensures other { IfErr result (λ fault. IsOtherCount fault → ⊥) }
 {
     let text = greeting_text(alloc, kept)?;
     if let Err(_sent) = write_all(writer, text.as_bytes()) {
@@ -65,10 +74,12 @@ fn greet<W: Sink>(alloc: Global, writer: &mut W, kept: u64) -> Result<(), KeepFa
 }
 
 /// Goes past the record that begins the store.
+#[tactic(auto, using(crate::proofs::KeptLemmas::never_other))]
 fn go_past_first<D: Disk>(recovery: &mut Recovery<D>) -> Result<(), KeepFault>
     ensures lines { OnOk result (IsTrue (D.Disk.is_clean (disk_of recovery.new)) → (first : List ℕ)
         × (kept_in (D.Disk.seen (disk_of recovery.old)) ≡ first ∷ lines_left recovery.new)) }
     ensures reads { OnlyReads D.Disk (disk_of recovery.old) (disk_of recovery.new) }
+    ensures other { IfErr result (λ fault. IsOtherCount fault → ⊥) }
 {
     recovery.rewind();
     if recovery.next_line()? {
@@ -79,20 +90,25 @@ fn go_past_first<D: Disk>(recovery: &mut Recovery<D>) -> Result<(), KeepFault>
 }
 
 /// Goes past the record that begins the store, and returns how many lines come after it.
-fn read_past_first<D: Disk>(recovery: &mut Recovery<D>) -> Result<u64, KeepFault>
+fn read_past_first<D: Disk, V: Watch>(
+    recovery: &mut Recovery<D>,
+    watch: &mut V,
+) -> Result<u64, KeepFault>
     ensures count { IfOk result (λ count. IsTrue (D.Disk.is_clean (disk_of recovery.new)) → (first : List ℕ)
         × (kept_in (D.Disk.seen (disk_of recovery.old)) ≡ first ∷ lines_left recovery.new) × (count ≡ length (lines_left recovery.new))) }
     ensures reads { OnlyReads D.Disk (disk_of recovery.old) (disk_of recovery.new) }
+    ensures other { IfErr result (λ fault. IsOtherCount fault → ⊥) }
 {
     go_past_first(recovery)?;
-    let count = count_lines(recovery)?;
+    let count = count_lines(recovery, watch)?;
     go_past_first(recovery)?;
     Ok(count)
 }
 
 /// How many answers the client has, of so many kept lines.
 fn answers_had(from: Option<u64>, kept: u64) -> Result<u64, KeepFault>
-    ensures { IfOk result (λ had. (had ≡ answers_had from) × FitsKept from kept) }
+    ensures ok { IfOk result (λ had. (had ≡ answers_had from) × FitsKept from kept) }
+    ensures err { OnErr result (FitsKept from kept → ⊥) }
 {
     match from {
         Some(had) if had <= kept => Ok(had),
@@ -103,39 +119,43 @@ fn answers_had(from: Option<u64>, kept: u64) -> Result<u64, KeepFault>
 }
 
 /// Sends how many lines the store keeps, and then the answers to those that the client does not have.
-fn answer_store<D: Disk, W: Sink, A: Answerer>(
+fn answer_store<D: Disk, W: Sink, A: Answerer, V: Watch>(
     alloc: Global,
     recovery: &mut Recovery<D>,
     from: Option<u64>,
     writer: &mut W,
     answerer: &mut A,
+    watch: &mut V,
 ) -> Result<(), KeepFault>
     ensures told { (sent : List ℕ) × W.writing.takes writer.old sent writer.new
         × (IsTrue (D.Disk.is_clean (disk_of recovery.new)) → IsStoreSent A.rule answerer.old (kept_in (D.Disk.seen (disk_of recovery.old))) from sent
         × OnOk result (IsStoreAnswered A.rule answerer.old (kept_in (D.Disk.seen (disk_of recovery.old))) from sent answerer.new)) }
     ensures reads { OnlyReads D.Disk (disk_of recovery.old) (disk_of recovery.new) }
+    ensures count { IfErr result (λ fault. IsOtherCount fault → IsTrue (D.Disk.is_clean (disk_of recovery.new)) → HasOtherCount from (kept_in (D.Disk.seen (disk_of recovery.old)))) }
 {
-    let kept = read_past_first(recovery)?;
+    let kept = read_past_first(recovery, watch)?;
     let had = answers_had(from, kept)?;
     greet(alloc, writer, kept)?;
-    answer_kept_lines(alloc, recovery, had, writer, answerer)
+    answer_kept_lines(alloc, recovery, had, writer, answerer, watch)
 }
 
 /// Answers the lines of a store, and asks the gate.
-fn answer_to_gate<D: Disk, W: Sink, A: Answerer, G: Gate<A>>(
+fn answer_to_gate<D: Disk, W: Sink, A: Answerer, G: Gate<A>, V: Watch>(
     alloc: Global,
     recovery: &mut Recovery<D>,
     from: Option<u64>,
     writer: &mut W,
     answerer: &mut A,
     gate: &mut G,
+    watch: &mut V,
 ) -> Result<(), KeepFault>
     ensures told { (sent : List ℕ) × W.writing.takes writer.old sent writer.new
         × (IsTrue (D.Disk.is_clean (disk_of recovery.new)) → IsStoreSent A.rule answerer.old (kept_in (D.Disk.seen (disk_of recovery.old))) from sent
         × OnOk result (IsStoreAnswered A.rule answerer.old (kept_in (D.Disk.seen (disk_of recovery.old))) from sent answerer.new)) }
     ensures reads { OnlyReads D.Disk (disk_of recovery.old) (disk_of recovery.new) }
+    ensures count { IfErr result (λ fault. IsOtherCount fault → IsTrue (D.Disk.is_clean (disk_of recovery.new)) → HasOtherCount from (kept_in (D.Disk.seen (disk_of recovery.old)))) }
 {
-    answer_store(alloc, recovery, from, writer, answerer)?;
+    answer_store(alloc, recovery, from, writer, answerer, watch)?;
     if gate.opens(answerer) {
         Ok(())
     } else {
@@ -145,7 +165,8 @@ fn answer_to_gate<D: Disk, W: Sink, A: Answerer, G: Gate<A>>(
 
 /// Keeps and answers the lines of a store: sends how many it keeps and the answers to those after the first `from`, repairs the end
 /// that a crash may have left, and then keeps each batch of new lines before it answers it, until the reader ends. Without `from` the
-/// store must have no line yet. The gate is asked once, when all lines of the store are answered and before its end is repaired.
+/// store must have no line yet. The gate is asked once, when all lines of the store are answered and before its end is repaired. `watch`
+/// sees each line of the store twice: as it is counted, and as it is answered.
 ///
 /// The disk comes back, with how the stream ended. The store has its first record. A disk may stop at any call, so what holds at an
 /// error holds of a crash at any moment: run again over what the crash left, and with `from` as many answers as the client has, the
@@ -155,7 +176,7 @@ fn answer_to_gate<D: Disk, W: Sink, A: Answerer, G: Gate<A>>(
 ///
 /// `KeepFault`, `Stopped` if the gate does not open: what was sent begins the answers, and each content that a crash may leave has all
 /// lines whose answers were begun.
-pub fn keep<D: Disk, R: Source, W: Sink, A: Answerer, G: Gate<A>>(
+pub fn keep<D: Disk, R: Source, W: Sink, A: Answerer, G: Gate<A>, V: Watch>(
     alloc: Global,
     disk: D,
     from: Option<u64>,
@@ -163,6 +184,7 @@ pub fn keep<D: Disk, R: Source, W: Sink, A: Answerer, G: Gate<A>>(
     writer: &mut W,
     answerer: &mut A,
     gate: &mut G,
+    watch: &mut V,
 ) -> Ended<D>
     requires usable { IsTrue (D.Disk.is_usable disk) }
     requires durable { Only (D.Disk.seen disk) (D.Disk.may_leave disk) }
@@ -172,9 +194,13 @@ pub fn keep<D: Disk, R: Source, W: Sink, A: Answerer, G: Gate<A>>(
         × OnOk result.result ((part ≡ []) × R.reading.at_end reader.new
         × IsAllKept A.rule answerer.old (D.Disk.seen result.disk) (kept_in (D.Disk.seen disk)) whole from sent answerer.new)) }
     ensures clean { IsTrue (D.Disk.is_clean result.disk) → IsTrue (D.Disk.is_clean disk) }
+
+    // At an error that the client's answers cause, nothing was written.
+    ensures untouched { IfErr result.result (λ fault. IsOtherCount fault → OnlyReads D.Disk disk result.disk) }
+    ensures count { IfErr result.result (λ fault. IsOtherCount fault → IsTrue (D.Disk.is_clean result.disk) → HasOtherCount from (kept_in (D.Disk.seen disk))) }
 {
     let mut recovery = Recovery::new(alloc, disk, MOST_KEPT_BYTES);
-    if let Err(fault) = answer_to_gate(alloc, &mut recovery, from, writer, answerer, gate) {
+    if let Err(fault) = answer_to_gate(alloc, &mut recovery, from, writer, answerer, gate, watch) {
         return Ended {
             disk: recovery.into_disk(),
             result: Err(fault),
@@ -205,6 +231,7 @@ fn answer_log<D: Disk, R: Source, W: Sink, A: Answerer>(
         × (IsTrue (D.Disk.is_clean result.disk) → kept_in (D.Disk.seen result.disk) ≡ kept_in (D.Disk.seen log.disk) ++ whole) × Only (D.Disk.seen result.disk) (D.Disk.may_leave result.disk))
         (λ _. AreAnswered A.rule answerer.old (D.Disk.may_leave result.disk) (IsTrue (D.Disk.is_clean result.disk)) (kept_in (D.Disk.seen log.disk)) whole sent) }
     ensures clean { D.Disk.is_clean result.disk ≡ D.Disk.is_clean log.disk }
+    ensures other { IfErr result.result (λ fault. IsOtherCount fault → ⊥) }
 {
     let result = answer_new_lines(alloc, reader, &mut log, writer, answerer);
     let Log { disk, end: _ } = log;

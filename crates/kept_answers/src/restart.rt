@@ -1,28 +1,33 @@
 //! Lines that a store keeps, answered again.
 
-ghost use Rattle.std.specs.Prelude.{◌≡◌, ◌⊎◌, ◌++◌, ℕ, List, [], take, drop, IsTrue, OnOk, MatchResult};
+ghost use Rattle.std.specs.Prelude.{◌≡◌, ◌⊎◌, ◌++◌, ℕ, List, [], take, drop, IsTrue, IfErr, OnOk, MatchResult};
 ghost use Rattle.kept_lines.specs.Reading.{OnlyReads};
 ghost use Rattle.kept_lines.specs.Recovery.{disk_of, lines_left};
 ghost use Rattle.kept_answers.specs.Kept.{AreResent, Begins, HasResent, HasSent};
+ghost use Rattle.kept_answers.specs.Faults.{IsOtherCount};
 
 use crate::fault::KeepFault;
 use crate::pending::BATCH_BYTES;
+use crate::watch::Watch;
 use kept_lines::Recovery;
 use request_lines::{Answerer, Sink, write_all};
 use sqlite_disk::Disk;
 use std::alloc::Global;
 
 /// Answers the next `count` lines, or as many as are left, and sends nothing.
-fn answer_unsent<D: Disk, A: Answerer>(
+#[tactic(auto, using(crate::proofs::KeptLemmas::never_other))]
+fn answer_unsent<D: Disk, A: Answerer, V: Watch>(
     alloc: Global,
     recovery: &mut Recovery<D>,
     answerer: &mut A,
     count: u64,
+    watch: &mut V,
 ) -> Result<(), KeepFault>
     ensures answers { OnOk result (IsTrue (D.Disk.is_clean (disk_of recovery.new)) → (text : List ℕ)
         × A.rule.answers answerer.old (take count (lines_left recovery.old)) text answerer.new
         × (lines_left recovery.new ≡ drop count (lines_left recovery.old))) }
     ensures reads { OnlyReads D.Disk (disk_of recovery.old) (disk_of recovery.new) }
+    ensures other { IfErr result (λ fault. IsOtherCount fault → ⊥) }
 {
     for number in 0..count {
         let is_line = recovery.next_line()?;
@@ -30,6 +35,7 @@ fn answer_unsent<D: Disk, A: Answerer>(
             return Ok(());
         }
         answerer.answer(alloc, recovery.line())?;
+        watch.answered(recovery.line().len());
     }
     Ok(())
 }
@@ -38,6 +44,7 @@ fn answer_unsent<D: Disk, A: Answerer>(
 fn send<W: Sink>(writer: &mut W, text: &mut Vec<u8>) -> Result<(), KeepFault>
     ensures told { (sent : List ℕ) × W.writing.takes writer.old sent writer.new
         × MatchResult result (λ _. (sent ≡ text.old.items) × (text.new.items ≡ [])) (λ _. Begins sent text.old.items) }
+    ensures other { IfErr result (λ fault. IsOtherCount fault → ⊥) }
 {
     if let Err(_sent) = write_all(writer, text.as_slice()) {
         return Err(KeepFault::Write);
@@ -50,6 +57,7 @@ fn send<W: Sink>(writer: &mut W, text: &mut Vec<u8>) -> Result<(), KeepFault>
 fn send_if_long<W: Sink>(writer: &mut W, text: &mut Vec<u8>) -> Result<(), KeepFault>
     ensures told { (sent : List ℕ) × W.writing.takes writer.old sent writer.new
         × MatchResult result (λ _. text.old.items ≡ sent ++ text.new.items) (λ _. Begins sent text.old.items) }
+    ensures other { IfErr result (λ fault. IsOtherCount fault → ⊥) }
 {
     if text.len() < BATCH_BYTES {
         return Ok(());
@@ -58,20 +66,24 @@ fn send_if_long<W: Sink>(writer: &mut W, text: &mut Vec<u8>) -> Result<(), KeepF
 }
 
 /// Answers the lines that are left, and sends the answers.
-fn answer_sent<D: Disk, W: Sink, A: Answerer>(
+#[tactic(auto, using(crate::proofs::KeptLemmas::never_other))]
+fn answer_sent<D: Disk, W: Sink, A: Answerer, V: Watch>(
     alloc: Global,
     recovery: &mut Recovery<D>,
     writer: &mut W,
     answerer: &mut A,
+    watch: &mut V,
 ) -> Result<(), KeepFault>
     ensures told { (sent : List ℕ) × W.writing.takes writer.old sent writer.new
         × (IsTrue (D.Disk.is_clean (disk_of recovery.new)) → HasSent A.rule answerer.old (lines_left recovery.old) sent
         × OnOk result (A.rule.answers answerer.old (lines_left recovery.old) sent answerer.new)) }
     ensures reads { OnlyReads D.Disk (disk_of recovery.old) (disk_of recovery.new) }
+    ensures other { IfErr result (λ fault. IsOtherCount fault → ⊥) }
 {
     let mut text = Vec::new(alloc);
     while recovery.next_line()? {
         let answer = answerer.answer(alloc, recovery.line())?;
+        watch.answered(recovery.line().len());
         text.extend_from_slice(answer.as_slice())?;
         send_if_long(writer, &mut text)?;
     }
@@ -79,24 +91,26 @@ fn answer_sent<D: Disk, W: Sink, A: Answerer>(
 }
 
 /// Answers the lines of a store that are left to read, and sends the answers after the first `from`: those that the client does not
-/// have yet.
+/// have yet. Each line that is answered is shown to `watch`.
 ///
 /// # Errors
 ///
 /// `Disk` if a call on the disk fails, `Write` if the writer fails, `NoMemory` if an allocation fails, `StoreLineTooLong` if the store
 /// has a longer line than the recovery reads. What was sent begins the answers.
-pub fn answer_kept_lines<D: Disk, W: Sink, A: Answerer>(
+pub fn answer_kept_lines<D: Disk, W: Sink, A: Answerer, V: Watch>(
     alloc: Global,
     recovery: &mut Recovery<D>,
     from: u64,
     writer: &mut W,
     answerer: &mut A,
+    watch: &mut V,
 ) -> Result<(), KeepFault>
     ensures told { (sent : List ℕ) × W.writing.takes writer.old sent writer.new
         × (IsTrue (D.Disk.is_clean (disk_of recovery.new)) → ((sent ≡ []) ⊎ HasResent A.rule answerer.old (lines_left recovery.old) from sent)
         × OnOk result (AreResent A.rule answerer.old (lines_left recovery.old) from sent answerer.new)) }
     ensures reads { OnlyReads D.Disk (disk_of recovery.old) (disk_of recovery.new) }
+    ensures other { IfErr result (λ fault. IsOtherCount fault → ⊥) }
 {
-    answer_unsent(alloc, recovery, answerer, from)?;
-    answer_sent(alloc, recovery, writer, answerer)
+    answer_unsent(alloc, recovery, answerer, from, watch)?;
+    answer_sent(alloc, recovery, writer, answerer, watch)
 }

@@ -13,6 +13,7 @@ fn main(rt: HostRuntime) -> anyhow::Result<()> {
     println!(rt; "torn batches: {}", trials::torn_batches(alloc)?)?;
     println!(rt; "bytes in the place of a mark: {}", trials::marks(alloc)?)?;
     println!(rt; "other ends: {}", trials::ends(alloc)?)?;
+    println!(rt; "batches of the most bytes: {}", trials::large(alloc)?)?;
     println!(rt; "lines across chunks: {}", trials::chunks(alloc)?)?;
     Ok(())
 }

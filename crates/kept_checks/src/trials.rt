@@ -1,7 +1,7 @@
 use crate::failure::Failure;
 use crate::reading::{finished, text_after_stop, text_of};
 use crate::restart::{hold, restarted};
-use kept_lines::{Batch, KeepError, Recovery};
+use kept_lines::{Batch, KeepError, MOST_BATCH_BYTES, Recovery, Unrecovered};
 use sqlite_disk::{Fuse, Memory};
 use std::alloc::{AllocError, Global};
 
@@ -16,7 +16,7 @@ const TEXT_AFTER: &[u8] = b"one\ntwo\n\nthree\n";
 const LIMIT: usize = 5;
 
 // The number of calls that a recovery of `BEFORE` makes on a disk, after the two that fill it.
-const RECOVERY_CALLS: u64 = 14;
+const RECOVERY_CALLS: u64 = 11;
 
 fn expect(text: &[u8], expected: &[u8]) -> Result<u64, Failure> {
     if text == expected {
@@ -114,7 +114,33 @@ fn torn_byte(byte: u8) -> u8 {
     }
 }
 
-/// Any byte in the place of the mark before a batch.
+// A file that is damaged at this byte is refused, and left as it is.
+fn damaged(alloc: Global, bytes: &[u8], at: usize) -> Result<u64, Failure> {
+    let mut disk = Memory::new(alloc);
+    hold(&mut disk, bytes)?;
+    match Recovery::new(alloc, disk, LIMIT).finish() {
+        Ok(_) => Err(Failure::OtherError),
+        Err(failed) => left_damaged(&failed, bytes, at),
+    }
+}
+
+// A recovery that failed has found damage at this byte, and its disk has these bytes.
+fn left_damaged(failed: &Unrecovered<Memory>, bytes: &[u8], at: usize) -> Result<u64, Failure> {
+    if is_damage_at(&failed.cause, at) {
+        expect(failed.disk.bytes(), bytes)
+    } else {
+        Err(Failure::OtherError)
+    }
+}
+
+fn is_damage_at(cause: &KeepError, at: usize) -> bool {
+    match cause {
+        KeepError::Damaged(found) => *found == at,
+        _ => false,
+    }
+}
+
+/// Any byte in the place of the mark before a batch: only a mark is taken.
 pub fn marks(alloc: Global) -> Result<u64, Failure> {
     let mut count: u64 = 0;
     for mark in 0..=255u8 {
@@ -122,26 +148,62 @@ pub fn marks(alloc: Global) -> Result<u64, Failure> {
         if let Some(byte) = image.get_mut(10) {
             *byte = mark;
         }
-        let expected = if mark == b'+' {
-            TEXT_AFTER
-        } else {
-            TEXT_BEFORE
-        };
-        count = count.saturating_add(stopped_at_each_call(alloc, &image, expected)?);
+        count = count.saturating_add(match mark {
+            b'+' => stopped_at_each_call(alloc, &image, TEXT_AFTER)?,
+            b'-' => stopped_at_each_call(alloc, &image, TEXT_BEFORE)?,
+            _ => damaged(alloc, &image, 10)?,
+        });
     }
     Ok(count)
 }
 
-/// Ends with no closed mark, as a person may write them, and an empty file.
+/// No closed mark after the lines, as a person may write them, an empty file, and ends that no crash leaves.
 pub fn ends(alloc: Global) -> Result<u64, Failure> {
+    let lines = b"+one\n+two\n";
     let mut count = stopped_at_each_call(alloc, b"", b"")?;
-    let ends: [&[u8]; 5] = [b"", b"+", b"+half", b"x+three\n", b"\n"];
+    count = count.saturating_add(stopped_at_each_call(alloc, lines, TEXT_BEFORE)?);
+    let ends: [&[u8]; 4] = [b"+", b"+half", b"x+three\n", b"\n"];
     for end in ends {
-        let mut image = Vec::from_slice(alloc, b"+one\n+two\n")?;
+        let mut image = Vec::from_slice(alloc, lines)?;
         image.extend_from_slice(end)?;
-        count = count.saturating_add(stopped_at_each_call(alloc, &image, TEXT_BEFORE)?);
+        count = count.saturating_add(damaged(alloc, &image, lines.len())?);
     }
     Ok(count)
+}
+
+/// As many bytes after a closed mark as a batch may have, and one more; a batch of as many, and of one more.
+pub fn large(alloc: Global) -> Result<u64, Failure> {
+    let mut image = Vec::from_slice(alloc, BEFORE)?;
+    image.resize(BEFORE.len().saturating_add(MOST_BATCH_BYTES), b'+')?;
+    let mut count = expect(&text_of(alloc, &image, LIMIT)?, TEXT_BEFORE)?;
+    image.extend_from_slice(b"+")?;
+    count = count.saturating_add(damaged(alloc, &image, 10)?);
+    for (length, is_kept) in [
+        (MOST_BATCH_BYTES.saturating_sub(2), true),
+        (MOST_BATCH_BYTES.saturating_sub(1), false),
+    ] {
+        count = count.saturating_add(large_batch(alloc, length, is_kept)?);
+    }
+    Ok(count)
+}
+
+// A batch of one line of so many bytes.
+fn large_batch(alloc: Global, length: usize, is_kept: bool) -> Result<u64, Failure> {
+    let mut text = Vec::new(alloc);
+    add_line(&mut text, length, b'x')?;
+    let mut batch = Batch::new(alloc)?;
+    batch.push_lines(&text)?;
+    let mut log = finished(stopping(alloc, 100)?)?;
+    match log.append(&batch) {
+        Ok(()) if is_kept => Ok(1),
+        Err(KeepError::LargeBatch) if !is_kept => {
+            expect(
+                &text_of(alloc, log.disk.inner().bytes(), LIMIT)?,
+                TEXT_BEFORE,
+            )
+        }
+        _ => Err(Failure::OtherError),
+    }
 }
 
 // Adds a line of so many bytes to a text.

@@ -1,2 +1,4 @@
 pub mod RecordLemmas
 pub mod SeenLemmas
+pub mod BeginningLemmas
+pub mod OneConfig

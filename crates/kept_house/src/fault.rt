@@ -7,10 +7,28 @@ ghost use Rattle.kept_answers.specs.Faults.{of_disk};
 
 use kept_answers::KeepFault;
 use kept_lines::KeepError;
+use ocpi_json::ci_text::CiText;
 use ocpi_json::name::Name;
 use ocpi_types::ConfigFault;
 use std::alloc::AllocError;
+use std::fmt;
 use thiserror::Error;
+
+/// A word of a store's record.
+#[derive(Clone, Copy)]
+pub struct Word(pub CiText<36>);
+
+impl fmt::Display for Word {
+    fn fmt<W: fmt::Write>(&self, f: &mut fmt::Formatter<W>) -> fmt::Result {
+        f.write_str(self.0.as_str())
+    }
+}
+
+impl fmt::Debug for Word {
+    fn fmt<W: fmt::Write>(&self, f: &mut fmt::Formatter<W>) -> fmt::Result {
+        f.write_str(self.0.as_str())
+    }
+}
 
 /// Why a store is not opened, or a kept house ended before its reader did.
 #[derive(Clone, Copy, Debug, Error)]
@@ -29,6 +47,10 @@ pub enum StoreFault {
     /// The store has a later format than this program knows.
     #[error("a later format")]
     LaterFormat,
+
+    /// The lines of the store may be what this program does not know, by this word of its record.
+    #[error("a later program: its lines may have \"{0}\"")]
+    LaterLines(Word),
 
     /// The file does not begin with the record of a store.
     #[error("no store")]

@@ -1,23 +1,25 @@
 //! A house whose lines are kept and answered.
 
-ghost use Rattle.std.specs.Prelude.{◌≡◌, ◌≤◌, ◌^◌, [], ℕ, List, IsTrue, IfOk, OnOk, Ok};
+ghost use Rattle.std.specs.Prelude.{◌≡◌, ◌≤◌, ◌^◌, [], ℕ, List, IsTrue, IfErr, IfOk, OnOk, Ok};
 ghost use Rattle.sqlite_disk.specs.Disk.{Only};
 ghost use Rattle.kept_lines.specs.File.{IsLine, kept_in};
 ghost use Rattle.ocpi_types.specs.declared.config.Config.{Config as ConfigValue};
 ghost use Rattle.ocpi_types.specs.ConfigText.{config_of};
 ghost use Rattle.request_lines.specs.Lines.{AreLines};
-ghost use Rattle.line_streams.specs.State.{empty_under, state_of};
-ghost use Rattle.line_streams.specs.Stream.{stream_rule};
-ghost use Rattle.kept_answers.specs.Keeping.{IsAllKept, IsKept};
+ghost use Rattle.line_streams.specs.State.{empty_under};
+ghost use Rattle.kept_answers.specs.Faults.{IsOtherCount};
+ghost use Rattle.kept_answers.specs.Keeping.{HasOtherCount, IsAllKept, IsKept};
+ghost use Rattle.kept_lines.specs.Reading.{OnlyReads};
+ghost use Rattle.kept_house.specs.Beginning.{IsOtherLines};
 ghost use Rattle.kept_house.specs.Keeping.{IsHouseAllKept, IsHouseKept, IsStreamAllKept, IsStreamKept};
 
 use crate::beginning::{Begun, begin};
 use crate::differences::first_difference;
 use crate::fault::StoreFault;
-use kept_answers::{Ended, Gate, KeepFault, keep};
-use line_streams::Stream;
+use kept_answers::{Ended, Gate, KeepFault, Watch, keep};
+use line_streams::LineStream;
 use ocpi_json::name::Name;
-use ocpi_types::Config;
+use ocpi_types::{Config, ConfigFault};
 use request_lines::{Sink, Source};
 use sqlite_disk::Disk;
 use std::alloc::Global;
@@ -38,18 +40,20 @@ struct SameConfig<'a> {
     difference: Option<Name>,
 }
 
-impl<'a> Gate<Stream> for SameConfig<'a> {
-    fn opens(&mut self, stream: &Stream) -> bool {
+impl<'a, A: LineStream> Gate<A> for SameConfig<'a> {
+    fn opens(&mut self, stream: &A) -> bool {
         let Some(given) = self.given else {
             return true;
         };
-        self.difference = first_difference(given, stream.config());
+        self.difference = first_difference(given, stream.config_in_force());
         self.difference.is_none()
     }
 }
 
 /// Returns why the stream ended: if the gate did not open, the member that differs.
-fn fault_of(fault: KeepFault, difference: Option<Name>) -> StoreFault {
+fn fault_of(fault: KeepFault, difference: Option<Name>) -> StoreFault
+    ensures { IsOtherLines result → IsOtherCount fault }
+{
     match (fault, difference) {
         (KeepFault::Stopped, Some(name)) => StoreFault::OtherConfig(name),
         (fault, _) => StoreFault::Keep(fault),
@@ -57,25 +61,28 @@ fn fault_of(fault: KeepFault, difference: Option<Name>) -> StoreFault {
 }
 
 /// Keeps and answers the lines of a store that has begun, as `kept_answers::keep` does, by a stream.
-fn keep_stream<D: Disk, R: Source, W: Sink, G: Gate<Stream>>(
+fn keep_stream<A: LineStream, D: Disk, R: Source, W: Sink, G: Gate<A>, V: Watch>(
     alloc: Global,
     disk: D,
     from: Option<u64>,
     reader: &mut R,
     writer: &mut W,
-    stream: &mut Stream,
+    stream: &mut A,
     gate: &mut G,
+    watch: &mut V,
 ) -> Ended<D>
     requires usable { IsTrue (D.Disk.is_usable disk) }
     requires durable { Only (D.Disk.seen disk) (D.Disk.may_leave disk) }
     ensures told { (calls : ℕ) × (bytes : List ℕ) × (whole : List (List ℕ)) × (part : List ℕ) × (sent : List ℕ) × (calls ≤ 2 ^ 40)
         × R.reading.gives reader.old calls bytes reader.new × AreLines bytes whole part × W.writing.takes writer.old sent writer.new
-        × (IsTrue (D.Disk.is_clean result.disk) → IsKept stream_rule (state_of stream.old) (D.Disk.may_leave result.disk) (kept_in (D.Disk.seen disk)) whole from sent
+        × (IsTrue (D.Disk.is_clean result.disk) → IsKept A.state_rule (A.state stream.old) (D.Disk.may_leave result.disk) (kept_in (D.Disk.seen disk)) whole from sent
         × OnOk result.result ((part ≡ []) × R.reading.at_end reader.new
-        × IsAllKept stream_rule (state_of stream.old) (D.Disk.seen result.disk) (kept_in (D.Disk.seen disk)) whole from sent (state_of stream.new))) }
+        × IsAllKept A.state_rule (A.state stream.old) (D.Disk.seen result.disk) (kept_in (D.Disk.seen disk)) whole from sent (A.state stream.new))) }
     ensures clean { IsTrue (D.Disk.is_clean result.disk) → IsTrue (D.Disk.is_clean disk) }
+    ensures untouched { IfErr result.result (λ fault. IsOtherCount fault → OnlyReads D.Disk disk result.disk) }
+    ensures count { IfErr result.result (λ fault. IsOtherCount fault → IsTrue (D.Disk.is_clean result.disk) → HasOtherCount from (kept_in (D.Disk.seen disk))) }
 {
-    keep(alloc, disk, from, reader, writer, stream, gate)
+    keep(alloc, disk, from, reader, writer, stream, gate, watch)
 }
 
 /// Returns an empty stream under the configuration of this text.
@@ -83,16 +90,28 @@ fn keep_stream<D: Disk, R: Source, W: Sink, G: Gate<Stream>>(
 /// # Errors
 ///
 /// `Config` if the text does not read, and `Keep` if an allocation fails.
-pub fn stream_under(alloc: Global, text: &[u8]) -> Result<Stream, StoreFault>
-    ensures { IfOk result (λ stream. (config : ConfigValue) × (config_of text.now ≡ Ok config) × (state_of stream ≡ empty_under config)) }
+pub fn stream_under<A: LineStream>(alloc: Global, text: &[u8]) -> Result<A, StoreFault>
+    ensures other { IfErr result (λ fault. IsOtherLines fault → ⊥) }
+    ensures stream { IfOk result (λ stream. (config : ConfigValue) × (config_of text.now ≡ Ok config) × (A.state stream ≡ empty_under config)) }
 {
     let config = Config::read(alloc, text)?;
-    Ok(Stream::new(alloc, config)?)
+    Ok(A::under(alloc, config)?)
+}
+
+/// Returns why a store is not opened whose record has a configuration with this fault: a record with one that does not read is none.
+fn of_record(fault: StoreFault) -> StoreFault
+    ensures { IsOtherLines result → IsOtherLines fault }
+{
+    match fault {
+        StoreFault::Config(ConfigFault::NoMemory) => StoreFault::Keep(KeepFault::NoMemory),
+        StoreFault::Config(_) => StoreFault::NoStore,
+        fault => fault,
+    }
 }
 
 /// Keeps and answers lines by an empty stream under the configuration of this text, if the given one, if any, is in force after the kept
 /// lines.
-fn keep_under<D: Disk, R: Source, W: Sink>(
+fn keep_under<A: LineStream, D: Disk, R: Source, W: Sink, V: Watch>(
     alloc: Global,
     disk: D,
     text: &[u8],
@@ -100,22 +119,25 @@ fn keep_under<D: Disk, R: Source, W: Sink>(
     from: Option<u64>,
     reader: &mut R,
     writer: &mut W,
+    watch: &mut V,
 ) -> Kept<D>
     requires usable { IsTrue (D.Disk.is_usable disk) }
     requires durable { Only (D.Disk.seen disk) (D.Disk.may_leave disk) }
     ensures told { (calls : ℕ) × (bytes : List ℕ) × (whole : List (List ℕ)) × (part : List ℕ) × (sent : List ℕ) × (calls ≤ 2 ^ 40)
         × R.reading.gives reader.old calls bytes reader.new × AreLines bytes whole part × W.writing.takes writer.old sent writer.new
-        × (IsTrue (D.Disk.is_clean result.disk) → IsStreamKept text.now (D.Disk.may_leave result.disk) (kept_in (D.Disk.seen disk)) whole from sent
+        × (IsTrue (D.Disk.is_clean result.disk) → IsStreamKept A.state_rule text.now (D.Disk.may_leave result.disk) (kept_in (D.Disk.seen disk)) whole from sent
         × OnOk result.result ((part ≡ []) × R.reading.at_end reader.new
-        × IsStreamAllKept text.now (D.Disk.seen result.disk) (kept_in (D.Disk.seen disk)) whole from sent)) }
+        × IsStreamAllKept A.state_rule text.now (D.Disk.seen result.disk) (kept_in (D.Disk.seen disk)) whole from sent)) }
     ensures clean { IsTrue (D.Disk.is_clean result.disk) → IsTrue (D.Disk.is_clean disk) }
+    ensures untouched { IfErr result.result (λ fault. IsOtherLines fault → OnlyReads D.Disk disk result.disk) }
+    ensures count { IfErr result.result (λ fault. IsOtherLines fault → IsTrue (D.Disk.is_clean result.disk) → HasOtherCount from (kept_in (D.Disk.seen disk))) }
 {
-    let mut stream = match stream_under(alloc, text) {
+    let mut stream: A = match stream_under(alloc, text) {
         Ok(stream) => stream,
         Err(fault) => {
             return Kept {
                 disk,
-                result: Err(fault),
+                result: Err(of_record(fault)),
             };
         }
     };
@@ -131,6 +153,7 @@ fn keep_under<D: Disk, R: Source, W: Sink>(
         writer,
         &mut stream,
         &mut gate,
+        watch,
     );
     // The process ends now, and the system takes its memory back at once.
     mem::forget(stream);
@@ -148,14 +171,15 @@ fn keep_under<D: Disk, R: Source, W: Sink>(
 
 /// Keeps and answers lines in a store, by a house of which lines may change the configuration. An empty store begins with the given
 /// configuration. Another store answers the lines that it keeps under its own, and goes on if the given configuration is then in force,
-/// or in any case if that need not be. What is kept and sent is as `kept_answers::keep` has it, after the record that begins the store.
+/// or in any case if that need not be. What is kept and sent is as `kept_answers::keep` has it, after the record that begins the store, and
+/// so is what `watch` sees.
 ///
 /// # Errors
 ///
 /// `Config` if the given configuration does not read, `OtherConfig` if another one is in force after the kept lines, `LaterFormat`,
 /// `NoStore`, and the errors of `kept_answers::keep`. What was sent begins the answers, and each content that a crash may leave has all
 /// lines whose answers were begun.
-pub fn keep_house<D: Disk, R: Source, W: Sink>(
+pub fn keep_house<A: LineStream, D: Disk, R: Source, W: Sink, V: Watch>(
     alloc: Global,
     disk: D,
     program: &str,
@@ -164,15 +188,19 @@ pub fn keep_house<D: Disk, R: Source, W: Sink>(
     from: Option<u64>,
     reader: &mut R,
     writer: &mut W,
+    watch: &mut V,
 ) -> Kept<D>
     requires usable { IsTrue (D.Disk.is_usable disk) }
     requires durable { Only (D.Disk.seen disk) (D.Disk.may_leave disk) }
     requires line { IsLine program.now }
     ensures told { (calls : ℕ) × (bytes : List ℕ) × (whole : List (List ℕ)) × (part : List ℕ) × (sent : List ℕ) × (calls ≤ 2 ^ 40)
         × R.reading.gives reader.old calls bytes reader.new × AreLines bytes whole part × W.writing.takes writer.old sent writer.new
-        × (IsTrue (D.Disk.is_clean result.disk) → IsHouseKept program.now given.now (D.Disk.may_leave result.disk) (kept_in (D.Disk.seen disk)) whole from sent
+        × (IsTrue (D.Disk.is_clean result.disk) → IsHouseKept A.state_rule program.now given.now (D.Disk.may_leave result.disk) (kept_in (D.Disk.seen disk)) whole from sent
         × OnOk result.result ((part ≡ []) × R.reading.at_end reader.new
-        × IsHouseAllKept program.now given.now (D.Disk.seen result.disk) (kept_in (D.Disk.seen disk)) whole from sent)) }
+        × IsHouseAllKept A.state_rule program.now given.now (D.Disk.seen result.disk) (kept_in (D.Disk.seen disk)) whole from sent)) }
+
+    // A client that has more answers than the store has lines, or says nothing of them, finds the store as it was.
+    ensures untouched { IfErr result.result (λ fault. IsOtherLines fault → IsTrue (D.Disk.is_clean result.disk) → OnlyReads D.Disk disk result.disk) }
 {
     let ours = match Config::read(alloc, given) {
         Ok(config) => config,
@@ -184,9 +212,18 @@ pub fn keep_house<D: Disk, R: Source, W: Sink>(
         }
     };
     let in_force = if must_be_in_force { Some(&ours) } else { None };
-    let Begun { disk, result } = begin(alloc, disk, program, given);
+    let Begun { disk, result } = begin(alloc, disk, program, given, from);
     match result {
-        Ok(text) => keep_under(alloc, disk, text.as_slice(), in_force, from, reader, writer),
+        Ok(text) => keep_under::<A, _, _, _, _>(
+            alloc,
+            disk,
+            text.as_slice(),
+            in_force,
+            from,
+            reader,
+            writer,
+            watch,
+        ),
         Err(fault) => Kept {
             disk,
             result: Err(fault),

@@ -1,10 +1,10 @@
 -- What a crash leaves in each of the two steps of an `append`.
-use Rattle.std.proofs.Common.{◌≡◌, ◌≢◌, inl, inr, ℕ, ◌+◌, ◌-◌, ◌<◌, List, [], ◌∷◌, ◌++◌, length, get_or, take, drop, refl, sym, ◌∙◌, ap, subst, arith, append_assoc, length-append}
+use Rattle.std.proofs.Common.{◌≡◌, ◌≢◌, inl, inr, ℕ, ◌+◌, ◌-◌, ◌<◌, ◌≤◌, List, [], ◌∷◌, ◌++◌, length, get_or, take, drop, refl, sym, ◌∙◌, ap, subst, arith, append_assoc, length-append, length-drop}
 use Rattle.std.proofs.lemmas.List.{take_at, take_all, drop_at}
 use Rattle.std.proofs.lemmas.Bool.{cases_eq}
 use Rattle.std.specs.List.{All}
 use Rattle.sqlite_disk.specs.Disk.{Holds, Torn, Follows, Only}
-use Rattle.kept_lines.specs.File.{IsLine, kept_in, marked, file_of, IsBeforeOrAfter}
+use Rattle.kept_lines.specs.File.{IsLine, kept_in, marked, file_of, HasSomeMark, IsBeforeOrAfter, IsIntact}
 use Rattle.kept_lines.proofs.Parsing.{kept_in_closed, kept_in-marked, kept_in-file_of, file_of-append}
 use Rattle.kept_lines.proofs.Steps.{torn_past, written_past, torn_one, written_one}
 
@@ -83,6 +83,37 @@ module _ (kept batch : List (List ℕ)) (are : All IsLine kept) (are_too : All I
       ∙ ap (λ (l : List ℕ). marked kept ++ 43 ∷ l) back
       ∙ opened
 
+  -- and the bytes after it are those of a batch
+  torn_intact : (n : ℕ) (c : List ℕ) → n ≤ 3145728 → Torn (end + 1) n (file_of kept) c → IsIntact c
+  torn_intact n c few torn = (
+    45 ∷ drop (end + 1) c,
+    torn_past (end + 1) n (file_of kept) c (sym ends) torn
+        ∙ append_assoc (marked kept) (45 ∷ []) (drop (end + 1) c)
+        ∙ ap (λ (l : List (List ℕ)). marked l ++ 45 ∷ drop (end + 1) c) (sym (torn_after n c torn)),
+    (refl, omega (arith, few, ends, torn.no_longer, length-drop (end + 1) c)),
+  )
+
+  -- the batch is there with some byte as its mark
+  some_mark : (c : List ℕ) → Torn end 1 staged c → HasSomeMark kept batch c
+  some_mark c torn =
+      let long = length-staged in (
+        get_or c end 0,
+        after,
+        is_batch,
+        torn_one end (marked kept) staged c (omega (arith, long)) front (omega (arith, long, torn.no_shorter)) torn
+            ∙ ap (λ (l : List ℕ). marked kept ++ get_or c end 0 ∷ l) back,
+      )
+
+  pub stage_intact : (n : ℕ) (old new : List ℕ → Type 0) → n ≤ 3145728 → Only (file_of kept) old → Follows (Torn (end + 1) n) old new → (c : List ℕ) → new c → IsIntact c
+  stage_intact n old new few only follows c left =
+      let from = follows c left in
+      torn_intact n c few (subst (λ (f : List ℕ). Torn (end + 1) n f c) (only from.0 from.1) from.2)
+
+  pub mark_any : (old new : List ℕ → Type 0) → Only staged old → Follows (Torn end 1) old new → (c : List ℕ) → new c → HasSomeMark kept batch c
+  mark_any old new only follows c left =
+      let from = follows c left in
+      some_mark c (subst (λ (f : List ℕ). Torn end 1 f c) (only from.0 from.1) from.2)
+
   pub stage_crash : (n : ℕ) (old new : List ℕ → Type 0) → Only (file_of kept) old → Follows (Torn (end + 1) n) old new → (c : List ℕ) → new c → kept_in c ≡ kept
   stage_crash n old new only follows c left =
       let from = follows c left in
@@ -92,3 +123,7 @@ module _ (kept batch : List (List ℕ)) (are : All IsLine kept) (are_too : All I
   mark_crash old new only follows c left =
       let from = follows c left in
       torn_mark c (subst (λ (f : List ℕ). Torn end 1 f c) (only from.0 from.1) from.2)
+
+-- a settled file is intact
+pub settled_intact : (file : List ℕ) → file ≡ file_of (kept_in file) → IsIntact file
+settled_intact file is = (45 ∷ [], is, (refl, omega arith))

@@ -1,14 +1,15 @@
 -- One line after another, from a window on a file.
-use Rattle.std.proofs.Common.{◌≡◌, ◌≢◌, inl, inr, ℕ, ◌+◌, ◌-◌, ◌<◌, ◌≤◌, List, [], ◌∷◌, ◌++◌, length, get_or, take, drop, refl, sym, ◌∙◌, ap, arith, append_assoc, length-append, length-drop, take-append-drop}
+use Rattle.std.proofs.Common.{◌≡◌, ◌≢◌, inl, inr, ℕ, ◌+◌, ◌-◌, ◌<◌, ◌≤◌, List, [], ◌∷◌, ◌++◌, length, get_or, take, drop, refl, sym, ◌∙◌, ap, subst, arith, append_assoc, length-append, length-drop, take-append-drop}
 use Rattle.std.specs.Prelude.{slice_index}
 use Rattle.std.specs.List.{All}
 use Rattle.std.proofs.Math.Seq.{take-add, drop-append_seam}
 use Rattle.std.proofs.lemmas.List.{append-nil, take_all, take-append-le, length-take, length-take-le, drop-append-le, drop-drop, get_or-drop}
 use Rattle.std.proofs.lemmas.List.Elements.{All-push}
 use Rattle.std.proofs.lemmas.Bool.{cases_eq, cases_lt}
-use Rattle.kept_lines.specs.File.{IsLine, kept_in, marked, BeginsTooLong, HasTooLongLine, HasTornEnd}
+use Rattle.kept_lines.specs.File.{IsLine, kept_in, marked, BeginsTooLong, HasDamage, HasTooLongLine, HasTornEnd, IsIntact, MayEnd}
 use Rattle.kept_lines.specs.Inner.End.{IsEnd, IsShut, IsSafe}
-use Rattle.kept_lines.specs.Inner.Window.{IsWindow, IsPlace, IsFrontOf, BeginsLine, BeginsNoLine}
+use Rattle.kept_lines.specs.Inner.Window.{IsWindow, IsPlace, MayEndBy, BeginsLine, BeginsNoLine}
+use Rattle.kept_lines.specs.Reading.{IsFrontOf}
 use Rattle.kept_lines.proofs.Parsing.{parts, closed, unended_line, kept_in-line, kept_in_nothing, marked-append}
 use Rattle.kept_lines.proofs.Ends.{safe_end}
 
@@ -148,14 +149,45 @@ first_of (other ∷ left) (byte ∷ text) is some = ap (λ (l : List ℕ). slice
 empty_front : (limit : ℕ) (left text : List ℕ) → IsFrontOf limit left text → length text ≤ 0 → length left ≡ 0
 empty_front limit left text front none = omega (arith, none, ap (λ (l : List ℕ). length l) (front.whole (omega (arith, none))))
 
+-- what the window shows decides whether a file may end so
+pub may_end_by : (limit : ℕ) (left text : List ℕ) (count : ℕ) → IsFrontOf limit left text → count ≡ length left → (MayEndBy count text → MayEnd left) × (MayEnd left → MayEndBy count text)
+may_end_by limit left [] count front size = (λ by. subst MayEnd (front.whole (omega arith)) tt, λ may. tt)
+may_end_by limit [] (byte ∷ text) count front size = absurd (cc (front.front))
+may_end_by limit (other ∷ left) (byte ∷ text) count front size =
+    let same : other ≡ byte = ap (λ (l : List ℕ). slice_index l 0) front.front in (
+      λ by. (same ∙ by.0, (let few = by.1 in omega (arith, few, size))),
+      λ may. (sym same ∙ may.0, (let few = may.1 in omega (arith, few, size))),
+    )
+
+-- what comes after the lines is no end of a file
+pub damage_in : (place at : ℕ) (file : List ℕ) → IsPlace file place → at ≡ place → kept_in (drop place file) ≡ [] → (MayEnd (drop place file) → ⊥) → HasDamage at file
+damage_in place at file is here none not =
+    let end = end_is file place is none in (
+      drop place file,
+      sym (take-append-drop place file) ∙ ap (λ (l : List ℕ). l ++ drop place file) end.front,
+      ap (λ (l : List ℕ). length l) (sym end.front) ∙ length-take-le place file end.within ∙ sym here,
+      not,
+    )
+
+pub intact_in : (place : ℕ) (file : List ℕ) → IsPlace file place → kept_in (drop place file) ≡ [] → MayEnd (drop place file) → IsIntact file
+intact_in place file is none may =
+    let end = end_is file place is none in
+    (drop place file, sym (take-append-drop place file) ∙ ap (λ (l : List ℕ). l ++ drop place file) end.front, may)
+
+first_closed : (left : List ℕ) → MayEnd left → 0 < length left → slice_index left 0 ≡ 45
+first_closed [] may some = absurd (omega (arith, some))
+first_closed (byte ∷ left) may some = may.0
+
 -- what comes first after the lines is what the window shows
-pub shut_is : (limit : ℕ) (file text : List ℕ) (place : ℕ) → IsEnd file place → IsFrontOf limit (drop place file) text → (0 < length text) × (slice_index text 0 ≢ 43) → IsShut file place
-shut_is limit file text place end front shut = record {
+pub shut_is : (limit : ℕ) (file text : List ℕ) (place : ℕ) → IsEnd file place → IsFrontOf limit (drop place file) text → MayEnd (drop place file) → 0 < length text → IsShut file place
+shut_is limit file text place end front may some = record {
   lines = end;
   present =
-      let some = shut.0 in
       omega (arith, some, length-drop place file, length-take (length text) (drop place file), ap (λ (l : List ℕ). length l) front.front);
-  shut = λ opens. shut.1 (sym (first_of (drop place file) text front.front shut.0) ∙ get_or-drop place file 0 0 ∙ (let same : place + 0 ≡ place = omega arith in ap (λ (n : ℕ). get_or file n 0) same) ∙ opens);
+  shut =
+      (let same : place ≡ place + 0 = omega arith in ap (λ (n : ℕ). get_or file n 0) same)
+      ∙ sym (get_or-drop place file 0 0)
+      ∙ first_closed (drop place file) may (omega (arith, some, length-take (length text) (drop place file), ap (λ (l : List ℕ). length l) front.front));
 }
 
 pub safe_is : (limit : ℕ) (file text : List ℕ) (place : ℕ) → IsEnd file place → IsFrontOf limit (drop place file) text → ((0 < length text) × (slice_index text 0 ≢ 43) → ⊥) → IsSafe file place

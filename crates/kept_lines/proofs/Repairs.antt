@@ -13,7 +13,7 @@ module _ (file : List ℕ) (end : ℕ) where
   cut_parts c is cut = cut_one end file c is.present cut ∙ ap (λ (l : List ℕ). l ++ get_or file end 0 ∷ drop (end + 1) c) is.lines.front
 
   pub cut_keeps : (c : List ℕ) → IsShut file end → Cut (end + 1) file c → kept_in c ≡ kept_in file
-  cut_keeps c is cut = ap kept_in (cut_parts c is cut) ∙ kept_in_closed (kept_in file) (get_or file end 0) (drop (end + 1) c) (parts file).are is.shut
+  cut_keeps c is cut = ap kept_in (cut_parts c is cut) ∙ kept_in_closed (kept_in file) (get_or file end 0) (drop (end + 1) c) (parts file).are (omega (arith, is.shut))
 
   pub cut_done : (c : List ℕ) → IsShut file end → Cut (end + 1) file c → length c ≡ end + 1 → IsCutAfter file end c
   cut_done c is cut size =

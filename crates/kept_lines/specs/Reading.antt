@@ -1,5 +1,5 @@
 -- Calls that only read.
-use Rattle.std.specs.Prelude.{◌≡◌, ℕ, List, IsTrue}
+use Rattle.std.specs.Prelude.{◌≡◌, ◌+◌, ◌≤◌, ℕ, List, IsTrue, length, take}
 use Rattle.sqlite_disk.specs.declared.Disk.{Ghosts}
 
 -- the file is as before, and so is what a crash may leave
@@ -8,3 +8,8 @@ pub record OnlyReads {D : Type 0} (g : Ghosts D) (old new : D) : Type 0 where
   pub crash : (c : List ℕ) → g.may_leave new c → g.may_leave old c
   pub usable : IsTrue (g.is_usable new)
   pub clean : IsTrue (g.is_clean new) → IsTrue (g.is_clean old)
+
+-- a text is what is left, or the front of it that is longer than a line may be
+pub record IsFrontOf (limit : ℕ) (left text : List ℕ) : Type 0 where
+  pub front : take (length text) left ≡ text
+  pub whole : length text ≤ limit + 1 → text ≡ left

@@ -1,7 +1,8 @@
 -- What a recovery has still to read.
 use Rattle.std.specs.Prelude.{◌≡◌, ◌+◌, ◌-◌, ℕ, List, [], take, drop}
 use Rattle.sqlite_disk.specs.declared.Disk.{Ghosts}
-use Rattle.kept_lines.specs.File.{kept_in}
+use Rattle.kept_lines.specs.File.{MayEnd, kept_in}
+use Rattle.kept_lines.specs.Reading.{IsFrontOf}
 use Rattle.kept_lines.specs.declared.recovery.Recovery.{Recovery}
 
 module _ {D : Type 0} {g : Ghosts D} where
@@ -28,7 +29,13 @@ module _ {D : Type 0} {g : Ghosts D} where
   abbrev pub line_of : Recovery D g → List ℕ
   line_of it = take (it.line_end - it.line) (drop it.line it.window.items)
 
-  -- no line is left, and it stays where it was
+  -- the part of the file in memory, from the next line on
+  abbrev pub shown : Recovery D g → List ℕ
+  shown it = drop it.next it.window.items
+
+  -- no line is left, what is left may end a file, and it stays where it was and shows what is left
   pub record IsAtEnd (old new : Recovery D g) : Type 0 where
     pub none : lines_left old ≡ []
+    pub intact : MayEnd (unread old)
     pub place : place_of new ≡ place_of old
+    pub front : IsFrontOf (limit_of old) (unread old) (shown new)

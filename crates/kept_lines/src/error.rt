@@ -19,6 +19,12 @@ pub enum KeepError {
     /// The file has a line that is longer than the caller's limit.
     #[error("a line of the file is too long")]
     TooLong,
+    /// What comes after the lines of the file, from this byte on, is neither nothing nor a closed mark with at most the bytes of a batch.
+    #[error("the file is damaged at byte {0}")]
+    Damaged(usize),
+    /// The batch has more bytes than one may have.
+    #[error("a batch is too large")]
+    LargeBatch,
 }
 
 impl From<AllocError> for KeepError {

@@ -12,4 +12,5 @@ mod window;
 pub use batch::Batch;
 pub use error::KeepError;
 pub use log::Log;
+pub use marks::MOST_BATCH_BYTES;
 pub use recovery::{Recovery, Unrecovered};

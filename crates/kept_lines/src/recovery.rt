@@ -1,15 +1,15 @@
-ghost use Rattle.std.specs.Prelude.{◌≡◌, ◌↔◌, ◌+◌, ◌-◌, ◌<◌, ◌≤◌, ◌^◌, ◌∷◌, [], ℕ, List, length, drop, take, IsTrue, IfOk, OnOk, OnErr, IfErr, IsErrOf, IfSome, IsNone, MatchResult, false};
+ghost use Rattle.std.specs.Prelude.{◌≡◌, ◌⊎◌, ◌↔◌, ◌+◌, ◌-◌, ◌<◌, ◌≤◌, ◌^◌, ◌∷◌, [], ℕ, List, length, drop, take, IsTrue, IfOk, OnOk, OnErr, IfErr, IsErrOf, IfSome, IsNone, MatchResult, false};
 ghost use Rattle.sqlite_disk.specs.Disk.{Only, MoreFaults};
-ghost use Rattle.kept_lines.specs.File.{HasTornEnd, BeginsTooLong, HasTooLongLine, kept_in};
-ghost use Rattle.kept_lines.specs.Reading.{OnlyReads};
+ghost use Rattle.kept_lines.specs.File.{BeginsTooLong, HasDamage, HasTooLongLine, HasTornEnd, IsIntact, MayEnd, kept_in};
+ghost use Rattle.kept_lines.specs.Reading.{IsFrontOf, OnlyReads};
 ghost use Rattle.kept_lines.specs.Log.{IsSettled, IsDiskError};
-ghost use Rattle.kept_lines.specs.Inner.Window.{IsWindow, IsPlace, IsFrontOf, BeginsLine, BeginsNoLine};
+ghost use Rattle.kept_lines.specs.Inner.Window.{IsWindow, IsPlace, BeginsLine, BeginsNoLine};
 ghost use Rattle.kept_lines.specs.Inner.End.{IsEnd, IsShut, IsSafe};
 
 use crate::log::MOST_BYTES;
-use crate::marks::{begins_too_long, is_shut, is_torn, line_length};
+use crate::marks::{begins_too_long, is_shut, is_torn, line_length, may_end};
 use crate::repair::repair;
-use crate::window::read_window;
+use crate::window::{file_length, read_window};
 use crate::{KeepError, Log};
 use sqlite_disk::Disk;
 use std::alloc::Global;
@@ -48,7 +48,7 @@ pub struct Unrecovered<D: Disk> {
 }
 
 impl<D: Disk> Recovery<D> {
-    ghost use Rattle.kept_lines.specs.Recovery.{IsAtEnd, disk_of, limit_of, line_of, place_of, unread, lines_left};
+    ghost use Rattle.kept_lines.specs.Recovery.{IsAtEnd, disk_of, limit_of, line_of, lines_left, place_of, shown, unread};
 
     /// Begins at the first line of a file. A line may have `limit` bytes.
     pub fn new(alloc: Global, disk: D, limit: usize) -> Recovery<D>
@@ -58,6 +58,7 @@ impl<D: Disk> Recovery<D> {
         ensures disk { disk_of result ≡ disk }
         ensures limit { limit_of result ≡ limit }
         ensures lines { lines_left result ≡ kept_in (D.Disk.seen disk) }
+        ensures unread { unread result ≡ D.Disk.seen disk }
     {
         Recovery {
             disk,
@@ -105,12 +106,16 @@ impl<D: Disk> Recovery<D> {
         ensures calm { OnOk result (D.Disk.faults (disk_of self.new) ≡ D.Disk.faults (disk_of self.old)) }
         ensures failed { IfErr result (λ e. IsDiskError e → MoreFaults (D.Disk.faults (disk_of self.old)) (D.Disk.faults (disk_of self.new))) }
         ensures too_long { IsErrOf result KeepError.TooLong → IsTrue (D.Disk.is_clean (disk_of self.new)) → BeginsTooLong (limit_of self.old) (unread self.old) }
+        ensures damaged { (at : ℕ) → IsErrOf result (KeepError.Damaged at) → IsTrue (D.Disk.is_clean (disk_of self.new))
+            → (at ≡ place_of self.old) × (lines_left self.old ≡ []) × (MayEnd (unread self.old) → ⊥) }
         ensures full { IsErrOf result KeepError.Full → ⊥ }
+        ensures large { IsErrOf result KeepError.LargeBatch → ⊥ }
     {
         let Some(count) = self.find()? else {
             if begins_too_long(&self.window[self.next..], self.limit) {
                 return Err(KeepError::TooLong);
             }
+            self.check_end()?;
             return Ok(false);
         };
         if count > self.limit {
@@ -129,6 +134,38 @@ impl<D: Disk> Recovery<D> {
         &self.window[self.line..self.line_end]
     }
 
+    /// What comes after the lines, when `next_line` found no more: all of it, or a front that is longer than a line may be.
+    pub fn shown(&self) -> &[u8]
+        ensures { result.now ≡ shown self.now }
+    {
+        &self.window[self.next..]
+    }
+
+    // Refuses what the window shows, and no line begins, unless a file may end so.
+    fn check_end(&mut self) -> Result<(), KeepError>
+        requires { IsTrue (D.Disk.is_clean (disk_of self.old)) → IsFrontOf (limit_of self.old) (unread self.old) (shown self.old) }
+        ensures intact { OnOk result (IsTrue (D.Disk.is_clean (disk_of self.new)) → MayEnd (unread self.old)) }
+        ensures damaged { (at : ℕ) → IsErrOf result (KeepError.Damaged at) → IsTrue (D.Disk.is_clean (disk_of self.new))
+            → (at ≡ place_of self.old) × (MayEnd (unread self.old) → ⊥) }
+        ensures shown { shown self.new ≡ shown self.old }
+        ensures place { place_of self.new ≡ place_of self.old }
+        ensures limit { limit_of self.new ≡ limit_of self.old }
+        ensures reads { OnlyReads D.Disk (disk_of self.old) (disk_of self.new) }
+        ensures calm { OnOk result (D.Disk.faults (disk_of self.new) ≡ D.Disk.faults (disk_of self.old)) }
+        ensures failed { IfErr result (λ e. IsDiskError e → MoreFaults (D.Disk.faults (disk_of self.old)) (D.Disk.faults (disk_of self.new))) }
+        ensures full { IsErrOf result KeepError.Full → ⊥ }
+        ensures too_long { IsErrOf result KeepError.TooLong → ⊥ }
+        ensures large { IsErrOf result KeepError.LargeBatch → ⊥ }
+    {
+        let place = self.begin + self.next;
+        let length = file_length(&mut self.disk)?;
+        if may_end(&self.window[self.next..], length.saturating_sub(place)) {
+            Ok(())
+        } else {
+            Err(KeepError::Damaged(place))
+        }
+    }
+
     // The number of bytes of the next line, which is then whole in the window.
     fn find(&mut self) -> Result<Option<usize>, KeepError>
         ensures some { IfOk result (λ found. IfSome found (BeginsLine (drop self.new.next self.new.window.items))) }
@@ -141,6 +178,8 @@ impl<D: Disk> Recovery<D> {
         ensures failed { IfErr result (λ e. IsDiskError e → MoreFaults (D.Disk.faults (disk_of self.old)) (D.Disk.faults (disk_of self.new))) }
         ensures full { IsErrOf result KeepError.Full → ⊥ }
         ensures too_long { IsErrOf result KeepError.TooLong → ⊥ }
+        ensures damaged { (at : ℕ) → IsErrOf result (KeepError.Damaged at) → ⊥ }
+        ensures large { IsErrOf result KeepError.LargeBatch → ⊥ }
     {
         if let Some(count) = line_length(&self.window[self.next..]) {
             return Ok(Some(count));
@@ -164,6 +203,8 @@ impl<D: Disk> Recovery<D> {
         ensures failed { IfErr result (λ e. IsDiskError e → MoreFaults (D.Disk.faults (disk_of self.old)) (D.Disk.faults (disk_of self.new))) }
         ensures full { IsErrOf result KeepError.Full → ⊥ }
         ensures too_long { IsErrOf result KeepError.TooLong → ⊥ }
+        ensures damaged { (at : ℕ) → IsErrOf result (KeepError.Damaged at) → ⊥ }
+        ensures large { IsErrOf result KeepError.LargeBatch → ⊥ }
     {
         self.begin += self.next;
         self.next = 0;
@@ -182,6 +223,8 @@ impl<D: Disk> Recovery<D> {
         ensures failed { IfErr result (λ e. IsDiskError e → MoreFaults (D.Disk.faults (disk_of self.old)) (D.Disk.faults (disk_of self.new))) }
         ensures full { IsErrOf result KeepError.Full → ⊥ }
         ensures too_long { IsErrOf result KeepError.TooLong → ⊥ }
+        ensures damaged { (at : ℕ) → IsErrOf result (KeepError.Damaged at) → ⊥ }
+        ensures large { IsErrOf result KeepError.LargeBatch → ⊥ }
     {
         self.read(self.limit.saturating_add(CHUNK))
     }
@@ -189,6 +232,7 @@ impl<D: Disk> Recovery<D> {
     /// Reads on to the end of the file, and returns whether it has more than its lines and a closed mark.
     pub fn has_torn_end(&mut self) -> Result<bool, KeepError>
         ensures value { IfOk result (λ torn. IsTrue (D.Disk.is_clean (disk_of self.new)) → (IsTrue torn ↔ HasTornEnd (D.Disk.seen (disk_of self.old)))) }
+        ensures intact { OnOk result (IsTrue (D.Disk.is_clean (disk_of self.new)) → IsIntact (D.Disk.seen (disk_of self.old))) }
         ensures limit { limit_of self.new ≡ limit_of self.old }
 
         ensures reads { OnlyReads D.Disk (disk_of self.old) (disk_of self.new) }
@@ -197,6 +241,8 @@ impl<D: Disk> Recovery<D> {
         ensures calm { OnOk result (D.Disk.faults (disk_of self.new) ≡ D.Disk.faults (disk_of self.old)) }
         ensures failed { IfErr result (λ e. IsDiskError e → MoreFaults (D.Disk.faults (disk_of self.old)) (D.Disk.faults (disk_of self.new))) }
         ensures too_long { IsErrOf result KeepError.TooLong → IsTrue (D.Disk.is_clean (disk_of self.new)) → HasTooLongLine (limit_of self.old) (D.Disk.seen (disk_of self.old)) }
+        ensures damaged { (at : ℕ) → IsErrOf result (KeepError.Damaged at) → IsTrue (D.Disk.is_clean (disk_of self.new)) → HasDamage at (D.Disk.seen (disk_of self.old)) }
+        ensures large { IsErrOf result KeepError.LargeBatch → ⊥ }
         ensures full { IsErrOf result KeepError.Full → ⊥ }
     {
         self.skip()?;
@@ -206,12 +252,16 @@ impl<D: Disk> Recovery<D> {
     // Goes past all lines, and has in the window what comes after them.
     fn skip(&mut self) -> Result<(), KeepError>
         ensures none { OnOk result (IsTrue (D.Disk.is_clean (disk_of self.new)) → lines_left self.new ≡ []) }
+        ensures may_end { OnOk result (IsTrue (D.Disk.is_clean (disk_of self.new)) → MayEnd (unread self.new)) }
+        ensures intact { OnOk result (IsTrue (D.Disk.is_clean (disk_of self.new)) → IsIntact (D.Disk.seen (disk_of self.old))) }
         ensures front { OnOk result (IsTrue (D.Disk.is_clean (disk_of self.new)) → IsFrontOf (limit_of self.old) (unread self.new) (drop self.new.next self.new.window.items)) }
         ensures limit { limit_of self.new ≡ limit_of self.old }
         ensures reads { OnlyReads D.Disk (disk_of self.old) (disk_of self.new) }
         ensures calm { OnOk result (D.Disk.faults (disk_of self.new) ≡ D.Disk.faults (disk_of self.old)) }
         ensures failed { IfErr result (λ e. IsDiskError e → MoreFaults (D.Disk.faults (disk_of self.old)) (D.Disk.faults (disk_of self.new))) }
         ensures too_long { IsErrOf result KeepError.TooLong → IsTrue (D.Disk.is_clean (disk_of self.new)) → HasTooLongLine (limit_of self.old) (D.Disk.seen (disk_of self.old)) }
+        ensures damaged { (at : ℕ) → IsErrOf result (KeepError.Damaged at) → IsTrue (D.Disk.is_clean (disk_of self.new)) → HasDamage at (D.Disk.seen (disk_of self.old)) }
+        ensures large { IsErrOf result KeepError.LargeBatch → ⊥ }
         ensures full { IsErrOf result KeepError.Full → ⊥ }
     {
         while self.next_line()? {}
@@ -223,11 +273,14 @@ impl<D: Disk> Recovery<D> {
         ensures lines { IfOk result (λ found. IsTrue (D.Disk.is_clean (disk_of self.new)) → IsEnd (D.Disk.seen (disk_of self.old)) found.0) }
         ensures shut { IfOk result (λ found. IsTrue found.1 → IsTrue (D.Disk.is_clean (disk_of self.new)) → IsShut (D.Disk.seen (disk_of self.old)) found.0) }
         ensures safe { IfOk result (λ found. found.1 ≡ false → IsTrue (D.Disk.is_clean (disk_of self.new)) → IsSafe (D.Disk.seen (disk_of self.old)) found.0) }
+        ensures intact { OnOk result (IsTrue (D.Disk.is_clean (disk_of self.new)) → IsIntact (D.Disk.seen (disk_of self.old))) }
         ensures fits { IfOk result (λ found. found.0 < 2 ^ 60) }
         ensures reads { OnlyReads D.Disk (disk_of self.old) (disk_of self.new) }
         ensures calm { OnOk result (D.Disk.faults (disk_of self.new) ≡ D.Disk.faults (disk_of self.old)) }
         ensures failed { IfErr result (λ e. IsDiskError e → MoreFaults (D.Disk.faults (disk_of self.old)) (D.Disk.faults (disk_of self.new))) }
         ensures too_long { IsErrOf result KeepError.TooLong → IsTrue (D.Disk.is_clean (disk_of self.new)) → HasTooLongLine (limit_of self.old) (D.Disk.seen (disk_of self.old)) }
+        ensures damaged { (at : ℕ) → IsErrOf result (KeepError.Damaged at) → IsTrue (D.Disk.is_clean (disk_of self.new)) → HasDamage at (D.Disk.seen (disk_of self.old)) }
+        ensures large { IsErrOf result KeepError.LargeBatch → ⊥ }
         ensures full { IsErrOf result KeepError.Full → IsTrue (D.Disk.is_clean (disk_of self.new)) → 2 ^ 60 ≤ length (D.Disk.seen (disk_of self.old)) }
     {
         self.skip()?;
@@ -242,10 +295,14 @@ impl<D: Disk> Recovery<D> {
     /// be cut short at any moment, and recovered again.
     pub fn finish(mut self) -> Result<Log<D>, Unrecovered<D>>
         ensures settled { IfOk result (λ log. IsSettled D.Disk log) }
+        ensures intact { IfOk result (λ log. IsTrue (D.Disk.is_clean log.disk) → IsIntact (D.Disk.seen (disk_of self))) }
         ensures lines { IfOk result (λ log. IsTrue (D.Disk.is_clean log.disk) → kept_in (D.Disk.seen log.disk) ≡ kept_in (D.Disk.seen (disk_of self))) }
 
         // A disk may stop at any of its calls, so this covers a crash at any moment of this call.
         ensures any_moment { IfErr result (λ e. IsTrue (D.Disk.is_clean e.disk) → (c : List ℕ) → D.Disk.may_leave e.disk c → kept_in c ≡ kept_in (D.Disk.seen (disk_of self))) }
+
+        // Only a call on the disk that fails may come after a change.
+        ensures untouched { IfErr result (λ e. IsDiskError e.cause ⊎ OnlyReads D.Disk (disk_of self) e.disk) }
 
         ensures clean { MatchResult result (λ log. IsTrue (D.Disk.is_clean log.disk) → IsTrue (D.Disk.is_clean (disk_of self)))
             (λ e. IsTrue (D.Disk.is_clean e.disk) → IsTrue (D.Disk.is_clean (disk_of self))) }
@@ -254,6 +311,8 @@ impl<D: Disk> Recovery<D> {
         ensures calm { IfOk result (λ log. D.Disk.faults log.disk ≡ D.Disk.faults (disk_of self)) }
         ensures failed { IfErr result (λ e. IsDiskError e.cause → MoreFaults (D.Disk.faults (disk_of self)) (D.Disk.faults e.disk)) }
         ensures too_long { IfErr result (λ e. e.cause ≡ KeepError.TooLong → IsTrue (D.Disk.is_clean e.disk) → HasTooLongLine (limit_of self) (D.Disk.seen (disk_of self))) }
+        ensures damaged { IfErr result (λ e. (at : ℕ) → e.cause ≡ KeepError.Damaged at → IsTrue (D.Disk.is_clean e.disk) → HasDamage at (D.Disk.seen (disk_of self))) }
+        ensures large { IfErr result (λ e. e.cause ≡ KeepError.LargeBatch → ⊥) }
         ensures full { IfErr result (λ e. e.cause ≡ KeepError.Full → IsTrue (D.Disk.is_clean e.disk) → 2 ^ 60 ≤ length (D.Disk.seen (disk_of self))) }
     {
         let found = self.end();

@@ -7,7 +7,7 @@ ghost use Rattle.kept_lines.specs.Inner.End.{IsShut, IsSafe, IsCutAfter, IsClose
 use sqlite_disk::Disk;
 use std::io;
 
-/// Removes what comes after the lines, and puts a closed mark there.
+/// Removes what comes after a closed mark that ends the lines, or puts one there if they end the file.
 pub(crate) fn repair<D: Disk>(disk: &mut D, end: usize, is_shut: bool) -> io::Result<()>
     requires durable { Only (D.Disk.seen disk.old) (D.Disk.may_leave disk.old) }
     requires usable { IsTrue (D.Disk.is_usable disk.old) }
@@ -22,9 +22,10 @@ pub(crate) fn repair<D: Disk>(disk: &mut D, end: usize, is_shut: bool) -> io::Re
     ensures calm { OnOk result (D.Disk.faults disk.new ≡ D.Disk.faults disk.old) }
     ensures failed { IfErr result (λ _. MoreFaults (D.Disk.faults disk.old) (D.Disk.faults disk.new)) }
 {
-    // What comes after such a mark has to be gone before the mark is written.
+    // A closed mark that is there is not written again.
     if is_shut {
         cut_after(disk, end)?;
+        return Ok(());
     }
     close_and_cut(disk, end)?;
     Ok(())
@@ -47,7 +48,7 @@ fn close_and_cut<D: Disk>(disk: &mut D, end: usize) -> io::Result<()>
     Ok(())
 }
 
-// Removes what comes after a mark that is not open.
+// Removes what comes after a closed mark.
 fn cut_after<D: Disk>(disk: &mut D, end: usize) -> io::Result<()>
     requires durable { Only (D.Disk.seen disk.old) (D.Disk.may_leave disk.old) }
     requires usable { IsTrue (D.Disk.is_usable disk.old) }

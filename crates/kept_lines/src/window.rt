@@ -1,4 +1,4 @@
-ghost use Rattle.std.specs.Prelude.{◌≡◌, ◌+◌, ◌<◌, ◌≤◌, ◌^◌, [], length, take, drop, IsTrue, OnOk, OnErr, IfErr, IsErrOf};
+ghost use Rattle.std.specs.Prelude.{◌≡◌, ◌+◌, ◌<◌, ◌≤◌, ◌^◌, ℕ, [], length, take, drop, IsTrue, OnOk, OnErr, IfErr, IfOk, IsErrOf};
 ghost use Rattle.sqlite_disk.specs.Disk.{MoreFaults};
 ghost use Rattle.kept_lines.specs.Log.{IsDiskError};
 ghost use Rattle.kept_lines.specs.Reading.{OnlyReads};
@@ -24,6 +24,8 @@ pub(crate) fn read_window<D: Disk>(
     ensures failed { IfErr result (λ e. IsDiskError e → MoreFaults (D.Disk.faults disk.old) (D.Disk.faults disk.new)) }
     ensures full { IsErrOf result KeepError.Full → ⊥ }
     ensures too_long { IsErrOf result KeepError.TooLong → ⊥ }
+    ensures damaged { (at : ℕ) → IsErrOf result (KeepError.Damaged at) → ⊥ }
+    ensures large { IsErrOf result KeepError.LargeBatch → ⊥ }
 {
     let read = fill_window(disk, begin, most, window);
     if read.is_err() {
@@ -49,6 +51,8 @@ fn fill_window<D: Disk>(
     ensures failed { IfErr result (λ e. IsDiskError e → MoreFaults (D.Disk.faults disk.old) (D.Disk.faults disk.new)) }
     ensures full { IsErrOf result KeepError.Full → ⊥ }
     ensures too_long { IsErrOf result KeepError.TooLong → ⊥ }
+    ensures damaged { (at : ℕ) → IsErrOf result (KeepError.Damaged at) → ⊥ }
+    ensures large { IsErrOf result KeepError.LargeBatch → ⊥ }
 {
     let length = disk.len()?.saturating_sub(begin).min(most);
     window.resize(length, 0)?;
@@ -56,4 +60,19 @@ fn fill_window<D: Disk>(
         return Err(KeepError::Disk(error));
     }
     Ok(())
+}
+
+/// The number of bytes of a file.
+pub(crate) fn file_length<D: Disk>(disk: &mut D) -> Result<usize, KeepError>
+    requires { IsTrue (D.Disk.is_usable disk.old) }
+    ensures length { IfOk result (λ size. IsTrue (D.Disk.is_clean disk.new) → size ≡ length (D.Disk.seen disk.old)) }
+    ensures reads { OnlyReads D.Disk disk.old disk.new }
+    ensures calm { OnOk result (D.Disk.faults disk.new ≡ D.Disk.faults disk.old) }
+    ensures failed { IfErr result (λ e. IsDiskError e → MoreFaults (D.Disk.faults disk.old) (D.Disk.faults disk.new)) }
+    ensures full { IsErrOf result KeepError.Full → ⊥ }
+    ensures too_long { IsErrOf result KeepError.TooLong → ⊥ }
+    ensures damaged { (at : ℕ) → IsErrOf result (KeepError.Damaged at) → ⊥ }
+    ensures large { IsErrOf result KeepError.LargeBatch → ⊥ }
+{
+    Ok(disk.len()?)
 }

@@ -8,7 +8,7 @@ ghost use Rattle.store_commands.specs.ChangeCheck.{IsReported, forbidden_text, h
 
 use crate::reading::{StoreText, tell_unread};
 use cdr_checks::Settlement;
-use command_line::{Fault, Output, read_config};
+use command_line::{Fault, Output};
 use exact_money::Amount;
 use house_statements::event_name;
 use line_streams::{Stream, run_stream};
@@ -208,16 +208,15 @@ fn print(rt: &HostRuntime, report: &Report) -> Result<u8, Fault<'static>> {
     }
 }
 
-/// Prints whether the hub of the store could change to the configuration of this path, and returns the exit status: 3 if an event
+/// Prints whether the hub of the store could change to the configuration of these bytes, and returns the exit status: 3 if an event
 /// forbids it, and 1 if the store is not read, which is told on standard error.
 ///
 /// # Errors
 ///
 /// The fault that ends the command before it prints anything, and `CannotWrite`.
-pub fn check_change<'a>(rt: &HostRuntime, config: &'a str, store: &str) -> Result<u8, Fault<'a>> {
+pub fn check_change(rt: &HostRuntime, config: &[u8], store: &str) -> Result<u8, Fault<'static>> {
     let alloc = rt.alloc();
-    let file = read_config(rt, config)?;
-    let new = Config::read(alloc, file.as_slice())?;
+    let new = Config::read(alloc, config)?;
     let (lines, first) = match StoreText::open(rt, store) {
         Ok(opened) => opened,
         Err(fault) => return Ok(tell_unread(rt, false, store, fault)),

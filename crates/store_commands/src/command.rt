@@ -3,7 +3,7 @@
 ghost use Rattle.kept_lines.specs.File.{IsLine};
 
 use crate::{check, configure, keep, log, stream};
-use command_line::Fault;
+use command_line::{Arguments, Fault};
 use std::process::ExitCode;
 
 /// A command that answers a stream of lines, or reads a store.
@@ -29,25 +29,25 @@ impl Command {
         }
     }
 
-    /// Does it by its words, its name first, and returns the exit status. `program` is the program's version, without a newline.
+    /// Does it by its arguments, and returns the exit status. `program` is the program's version, without a newline.
     ///
     /// # Errors
     ///
-    /// `Usage` if the words have another form, `NoMemory`, and what ends a command before it opens its store.
-    pub fn done<'a>(
+    /// `Usage` if there are other words or values, `NoMemory`, and what ends a command before it opens its store.
+    pub fn done(
         self,
         rt: &HostRuntime,
         program: &'static str,
-        words: &'a [String],
-    ) -> Result<ExitCode, Fault<'a>>
+        arguments: &Arguments<'_>,
+    ) -> Result<ExitCode, Fault<'static>>
         requires { IsLine program.now }
     {
         let status = match self {
-            Command::Keep => keep::perform(rt, program, words)?,
-            Command::Stream => stream::perform(rt, words)?,
-            Command::Configure => configure::perform(rt, words)?,
-            Command::Log => log::perform(rt, words)?,
-            Command::Check => check::perform(rt, words)?,
+            Command::Keep => keep::perform(rt, program, arguments)?,
+            Command::Stream => stream::perform(rt, arguments)?,
+            Command::Configure => configure::perform(rt, arguments)?,
+            Command::Log => log::perform(rt, arguments)?,
+            Command::Check => check::perform(rt, arguments)?,
         };
         Ok(ExitCode::from(status))
     }

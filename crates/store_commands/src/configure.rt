@@ -4,7 +4,9 @@ ghost use Rattle.std.specs.Prelude.{◌≡◌, IfOk, IfErr};
 ghost use Rattle.store_commands.specs.Change.{change_line, escaped};
 
 use crate::words::{ConfigureAsked, configure_asked};
-use command_line::{Errors, Fault, Output, read_config, tell};
+use command_line::{
+    Arguments, Errors, Fault, Output, file_path, read_file_start, tell, tell_unread_file,
+};
 use kept_house::on_one_line;
 use ocpi_json::ci_text::CiText;
 use ocpi_types::Config;
@@ -79,13 +81,16 @@ fn print_line(rt: &HostRuntime, asked: ConfigureAsked<'_>, line: &[u8]) -> u8 {
 }
 
 /// Prints the line that changes the configuration to that of a file, and returns the exit status.
-pub fn perform<'a>(rt: &HostRuntime, words: &'a [String]) -> Result<u8, Fault<'a>> {
-    let asked = configure_asked(words)?;
+pub fn perform(rt: &HostRuntime, arguments: &Arguments<'_>) -> Result<u8, Fault<'static>> {
+    let asked = configure_asked(arguments)?;
     if !is_platform_name(asked.platform) {
         let _ = eprintln!(rt; "clear: a platform's name has 1 to 36 printable ASCII characters");
         return Ok(1);
     }
-    let config = read_config(rt, asked.config)?;
+    let config = match read_file_start(rt, file_path(asked.config)) {
+        Ok(config) => config,
+        Err(cause) => return Ok(tell_unread_file(rt, asked.config, cause)),
+    };
     Config::read(rt.alloc(), config.as_slice())?;
     let line = change_line(rt.alloc(), asked.platform, config.as_slice())?;
     Ok(print_line(rt, asked, line.as_slice()))

@@ -7,6 +7,7 @@ mod check;
 mod command;
 mod configure;
 mod keep;
+mod laws;
 mod log;
 mod opening;
 mod reading;
@@ -15,4 +16,5 @@ mod words;
 
 pub use change_check::check_change;
 pub use command::Command;
+pub use laws::streams_with_causes_run_as_one;
 pub use reading::{ReadingFault, StoreText, tell_unread};

@@ -2,8 +2,9 @@
 
 use crate::reading::{MOST_LINES, ReadingFault, StoreReader, open_begun, tell_unread};
 use crate::words::{LogAsked, log_asked};
-use command_line::{Fault, Output};
+use command_line::{Arguments, Fault, Output, Progress};
 use kept_house::{StoreFault, stream_under};
+use line_streams::Stream;
 use request_lines::{Answerer, Device, Sink, write_all};
 use std::alloc::Global;
 use std::cell::Cell;
@@ -19,11 +20,16 @@ fn write_line<W: Sink>(reader: &StoreReader, writer: &mut W) -> Result<(), Readi
 }
 
 /// Writes each line.
-fn write_lines<W: Sink>(reader: &mut StoreReader, writer: &mut W) -> Result<(), ReadingFault> {
+fn write_lines<W: Sink>(
+    reader: &mut StoreReader,
+    progress: &mut Progress<'_>,
+    writer: &mut W,
+) -> Result<(), ReadingFault> {
     for _ in 0..MOST_LINES {
         if !reader.next_line()? {
             return Ok(());
         }
+        progress.add(1, reader.line().len() as u64);
         write_line(reader, writer)?;
     }
     Err(ReadingFault::Store(StoreFault::NoStore))
@@ -33,6 +39,7 @@ fn write_lines<W: Sink>(reader: &mut StoreReader, writer: &mut W) -> Result<(), 
 fn write_answers<W: Sink, A: Answerer>(
     alloc: Global,
     reader: &mut StoreReader,
+    progress: &mut Progress<'_>,
     writer: &mut W,
     answerer: &mut A,
 ) -> Result<(), ReadingFault> {
@@ -40,6 +47,7 @@ fn write_answers<W: Sink, A: Answerer>(
         if !reader.next_line()? {
             return Ok(());
         }
+        progress.add(1, reader.line().len() as u64);
         write_line(reader, writer)?;
         let answer = answerer.answer(alloc, reader.line())?;
         if write_all(writer, answer.as_slice()).is_err() {
@@ -54,32 +62,36 @@ fn write_answered<W: Sink>(
     alloc: Global,
     reader: &mut StoreReader,
     text: &[u8],
+    progress: &mut Progress<'_>,
     writer: &mut W,
 ) -> Result<(), ReadingFault> {
-    let mut stream = stream_under(alloc, text)?;
-    write_answers(alloc, reader, writer, &mut stream)
+    let mut stream: Stream = stream_under(alloc, text)?;
+    write_answers(alloc, reader, progress, writer, &mut stream)
 }
 
 /// Writes the lines of the store, with their answers if these are asked for.
 fn write_asked<W: Sink>(
     rt: &HostRuntime,
     asked: LogAsked<'_>,
+    progress: &mut Progress<'_>,
     writer: &mut W,
 ) -> Result<(), ReadingFault> {
     let (mut reader, config) = open_begun(rt, asked.store)?;
+    progress.expect(reader.file_bytes()?);
     if asked.answers {
-        write_answered(rt.alloc(), &mut reader, config.as_slice(), writer)
+        write_answered(rt.alloc(), &mut reader, config.as_slice(), progress, writer)
     } else {
-        write_lines(&mut reader, writer)
+        write_lines(&mut reader, progress, writer)
     }
 }
 
 /// Prints the lines of the store, with their answers if these are asked for, and returns the exit status.
-pub fn perform<'a>(rt: &HostRuntime, words: &'a [String]) -> Result<u8, Fault<'a>> {
-    let asked = log_asked(words)?;
+pub fn perform(rt: &HostRuntime, arguments: &Arguments<'_>) -> Result<u8, Fault<'static>> {
+    let asked = log_asked(arguments)?;
+    let mut progress = Progress::of(rt, arguments)?;
     let is_gone = Cell::new(false);
     let mut writer = Device::new(Output::new(rt.stdout(), &is_gone));
-    match write_asked(rt, asked, &mut writer) {
+    match write_asked(rt, asked, &mut progress, &mut writer) {
         Ok(()) => Ok(0),
         Err(fault) => Ok(tell_unread(rt, is_gone.get(), asked.store, fault)),
     }

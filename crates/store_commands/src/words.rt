@@ -1,8 +1,8 @@
-//! The words of the command line.
+//! The arguments of the commands.
 
 ghost use Rattle.std.specs.Prelude.{◌≡◌, IfErr};
 
-use command_line::Fault;
+use command_line::{Arguments, CommandOption, Fault};
 
 /// What `keep` is asked.
 #[derive(Clone, Copy)]
@@ -13,6 +13,8 @@ pub struct KeepAsked<'a> {
     pub store: &'a str,
     /// How many answers the client has.
     pub from: Option<u64>,
+    /// Whether refusals have their causes.
+    pub causes: bool,
 }
 
 /// The number of these digits.
@@ -28,29 +30,24 @@ fn count_of(digits: &str) -> Result<u64, Fault<'static>>
     }
 }
 
-/// What `keep` is asked; the command's name is the first of the words.
-pub fn keep_asked(words: &[String]) -> Result<KeepAsked<'_>, Fault<'static>>
+/// What `keep` is asked.
+pub fn keep_asked<'a>(arguments: &Arguments<'a>) -> Result<KeepAsked<'a>, Fault<'static>>
     ensures { IfErr result (λ fault. fault ≡ Fault.Usage) }
 {
-    let (config, store, from) = match words {
-        [_, store] => (None, store, None),
-        [_, config, store] => (Some(config.as_str()), store, None),
-        [_, store, option, digits] if option.as_str() == "--from" => {
-            (None, store, Some(count_of(digits.as_str())?))
-        }
-        [_, config, store, option, digits] if option.as_str() == "--from" => {
-            (
-                Some(config.as_str()),
-                store,
-                Some(count_of(digits.as_str())?),
-            )
-        }
+    let (config, store) = match arguments.words() {
+        [store] => (None, *store),
+        [config, store] => (Some(*config), *store),
         _ => return Err(Fault::Usage),
+    };
+    let from = match arguments.value_of(CommandOption::From) {
+        Some(digits) => Some(count_of(digits)?),
+        None => None,
     };
     Ok(KeepAsked {
         config,
-        store: store.as_str(),
+        store,
         from,
+        causes: arguments.has(CommandOption::Causes),
     })
 }
 
@@ -63,16 +60,16 @@ pub struct ConfigureAsked<'a> {
     pub platform: &'a str,
 }
 
-/// What `configure` is asked; the command's name is the first of the words.
-pub fn configure_asked(words: &[String]) -> Result<ConfigureAsked<'_>, Fault<'static>>
+/// What `configure` is asked.
+pub fn configure_asked<'a>(arguments: &Arguments<'a>) -> Result<ConfigureAsked<'a>, Fault<'static>>
     ensures { IfErr result (λ fault. fault ≡ Fault.Usage) }
 {
-    let [_, config, platform] = words else {
+    let [config, platform] = arguments.words() else {
         return Err(Fault::Usage);
     };
     Ok(ConfigureAsked {
-        config: config.as_str(),
-        platform: platform.as_str(),
+        config: *config,
+        platform: *platform,
     })
 }
 
@@ -85,17 +82,22 @@ pub struct LogAsked<'a> {
     pub answers: bool,
 }
 
-/// What `log` is asked; the command's name is the first of the words.
-pub fn log_asked(words: &[String]) -> Result<LogAsked<'_>, Fault<'static>>
+/// What `log` is asked.
+pub fn log_asked<'a>(arguments: &Arguments<'a>) -> Result<LogAsked<'a>, Fault<'static>>
     ensures { IfErr result (λ fault. fault ≡ Fault.Usage) }
 {
-    let (store, answers) = match words {
-        [_, store] => (store, false),
-        [_, store, option] if option.as_str() == "--answers" => (store, true),
-        _ => return Err(Fault::Usage),
-    };
     Ok(LogAsked {
-        store: store.as_str(),
-        answers,
+        store: only_argument(arguments)?,
+        answers: arguments.has(CommandOption::Answers),
     })
+}
+
+/// The only word of the arguments.
+pub fn only_argument<'a>(arguments: &Arguments<'a>) -> Result<&'a str, Fault<'static>>
+    ensures { IfErr result (λ fault. fault ≡ Fault.Usage) }
+{
+    match arguments.words() {
+        [word] => Ok(*word),
+        _ => Err(Fault::Usage),
+    }
 }

@@ -1,5 +1,5 @@
 -- The end of a file, and what a repair makes of it.
-use Rattle.std.specs.Prelude.{◌≡◌, ◌≢◌, ◌+◌, ◌<◌, ◌≤◌, ℕ, List, length, take, drop, slice_index, [], ◌∷◌, ◌++◌}
+use Rattle.std.specs.Prelude.{◌≡◌, ◌+◌, ◌<◌, ◌≤◌, ℕ, List, length, take, drop, slice_index, [], ◌∷◌, ◌++◌}
 use Rattle.kept_lines.specs.File.{kept_in, marked}
 
 -- the lines are the first `end` bytes of the file
@@ -7,11 +7,11 @@ pub record IsEnd (file : List ℕ) (end : ℕ) : Type 0 where
   pub within : end ≤ length file
   pub front : take end file ≡ marked (kept_in file)
 
--- and a mark that is not open comes next
+-- and a closed mark comes next
 pub record IsShut (file : List ℕ) (end : ℕ) : Type 0 where
   pub lines : IsEnd file end
   pub present : end < length file
-  pub shut : slice_index file end ≢ 43
+  pub shut : slice_index file end ≡ 45
 
 -- and whatever byte is put there, no line after it counts
 pub record IsSafe (file : List ℕ) (end : ℕ) : Type 0 where

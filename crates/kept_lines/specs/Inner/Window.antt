@@ -1,5 +1,5 @@
 -- The part of a file that is in memory.
-use Rattle.std.specs.Prelude.{◌≡◌, ◌+◌, ◌≤◌, ℕ, List, length, take, drop, slice_index, ◌∷◌, ◌++◌}
+use Rattle.std.specs.Prelude.{◌≡◌, ◌+◌, ◌≤◌, ℕ, List, length, take, drop, slice_index, [], ◌∷◌, ◌++◌}
 use Rattle.kept_lines.specs.File.{IsLine, kept_in, marked}
 
 -- these are bytes of the file, from this place on
@@ -21,7 +21,7 @@ pub record BeginsLine (text : List ℕ) (count : ℕ) : Type 0 where
 abbrev pub BeginsNoLine : List ℕ → Type 0
 BeginsNoLine text = slice_index text 0 ≡ 43 → IsLine (drop 1 text)
 
--- a text is what is left, or the front of it that is longer than a line may be
-pub record IsFrontOf (limit : ℕ) (left text : List ℕ) : Type 0 where
-  pub front : take (length text) left ≡ text
-  pub whole : length text ≤ limit + 1 → text ≡ left
+-- such a text of which `left` bytes are left may end a file
+abbrev pub MayEndBy : ℕ → List ℕ → Type 0
+MayEndBy left [] = Unit {0}
+MayEndBy left (mark ∷ after) = (mark ≡ 45) × (left ≤ 3145729)

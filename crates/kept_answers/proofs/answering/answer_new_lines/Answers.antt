@@ -73,7 +73,7 @@ returns-then-count-eq0-clause-told g c =
       subst (λ (xs : List ℕ). g.R.Source.reading.gives c.args.reader.now (c.loop-turn.turn + 1) xs c.read.new.reader) (none_more v.read some.0 _ some.3 c.if-count-eq0.true) (g.met.R.Source.gives_more _ _ _ _ _ _ _ v.given some.1),
       v.under_way.lines,
       v.taken,
-      either c.whole_input.result c.whole_input.ensures
+      either c.whole_input.result c.whole_input.ensures.ok
           (λ none. (sym same ∙ sym c.bytes.ensures ∙ none, c.in_ok-count.ensures.end c.if-count-eq0.true, v.under_way.answers, v.under_way.kept))
           (at_rest _ g.met.A.Answerer.answers_more g.met.A.Answerer.answers_none _ _ _ _ _ _ _ _ _ v.under_way v.settled.durable),
     )

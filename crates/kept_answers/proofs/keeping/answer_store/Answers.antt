@@ -20,7 +20,7 @@ returns-in_err-had-clause-reads g c = c.in_ok-kept.ensures.reads
 
 pub returns-in_err-greet-clause-told : goal.returns-in_err-greet-clause-told
 returns-in_err-greet-clause-told g c =
-    let few = c.in_ok-had.ensures.1 in
+    let few = c.in_ok-had.ensures.ok.1 in
     let told = c.in_err-greet.ensures.told in (
       told.0,
       told.1,
@@ -34,7 +34,7 @@ returns-in_err-greet-clause-reads g c = c.in_ok-kept.ensures.reads
 
 pub returns-clause-told : goal.returns-clause-told
 returns-clause-told g c =
-    let few = c.in_ok-had.ensures.1 in
+    let few = c.in_ok-had.ensures.ok.1 in
     let greeted = c.in_ok-greet.ensures.told in
     let told = c.answer_kept_lines.ensures.told in (
       greeted.0 ++ told.0,
@@ -42,8 +42,8 @@ returns-clause-told g c =
       λ clean.
           let count = c.in_ok-kept.ensures.count (c.answer_kept_lines.ensures.reads.clean clean) in
           let after = told.2 clean in (
-            answers_begun _ _ _ count.0 (lines_left c.read_past_first.new.recovery) c.args.from c.in_ok-had.had c.in_ok-kept.kept greeted.0 told.0 count.1 count.2 c.in_ok-had.ensures.0 few greeted.2 after.0,
-            on_ok_then c.answer_kept_lines.result after.1 (λ all. store_answered _ _ _ _ count.0 (lines_left c.read_past_first.new.recovery) c.args.from c.in_ok-had.had c.in_ok-kept.kept greeted.0 told.0 count.1 count.2 c.in_ok-had.ensures.0 few greeted.2 all),
+            answers_begun _ _ _ count.0 (lines_left c.read_past_first.new.recovery) c.args.from c.in_ok-had.had c.in_ok-kept.kept greeted.0 told.0 count.1 count.2 c.in_ok-had.ensures.ok.0 few greeted.2 after.0,
+            on_ok_then c.answer_kept_lines.result after.1 (λ all. store_answered _ _ _ _ count.0 (lines_left c.read_past_first.new.recovery) c.args.from c.in_ok-had.had c.in_ok-kept.kept greeted.0 told.0 count.1 count.2 c.in_ok-had.ensures.ok.0 few greeted.2 all),
           ),
     )
 

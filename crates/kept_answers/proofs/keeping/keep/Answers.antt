@@ -1,9 +1,12 @@
-use Rattle.std.proofs.Common.{◌≡◌, ℕ, List, [], ◌++◌, ap, ◌∙◌, subst, arith}
+use Rattle.std.proofs.Common.{◌≡◌, ℕ, List, [], ◌++◌, ap, ◌∙◌, subst, sym, arith}
 use Rattle.std.specs.Prelude.{IsTrue}
 use Rattle.kept_lines.specs.File.{kept_in}
-use Rattle.kept_answers.specs.Keeping.{IsStoreAnswered, IsStoreSent}
+use Rattle.kept_answers.specs.Keeping.{HasOtherCount, IsStoreAnswered, IsStoreSent}
 use Rattle.kept_answers.specs.Kept.{AreAnswered}
-use Rattle.kept_answers.proofs.KeptLemmas.{no_lines}
+use Rattle.kept_lines.specs.Reading.{OnlyReads}
+use Rattle.kept_lines.specs.Recovery.{disk_of}
+use Rattle.kept_answers.specs.Faults.{IsOtherCount}
+use Rattle.kept_answers.proofs.KeptLemmas.{if_err_then, never_other, no_lines}
 use Rattle.kept_answers.proofs.StoreLemmas.{all_answered, all_kept_after_store, kept_after_store, kept_of_store, of_either, ok_of}
 use Rattle.kept_answers.proofs.keeping.keep.Goals as goal
 
@@ -29,6 +32,12 @@ returns-in-Err g c =
         ),
       );
       clean = λ clean. subst (λ (d : g.row.D.Denot). IsTrue (g.D.Disk.is_clean d)) c.new-recovery.ensures.disk (reads.clean (subst (λ (d : g.row.D.Denot). IsTrue (g.D.Disk.is_clean d)) c.into_disk.ensures clean));
+      untouched = λ other.
+          subst (λ (d : g.row.D.Denot). OnlyReads g.D.Disk d c.into_disk.result) c.new-recovery.ensures.disk
+          (subst (λ (d : g.row.D.Denot). OnlyReads g.D.Disk (disk_of c.new-recovery.result) d) (sym c.into_disk.ensures) reads);
+      count = λ other clean.
+          subst (λ (d : g.row.D.Denot). HasOtherCount c.args.from (kept_in (g.D.Disk.seen d))) c.new-recovery.ensures.disk
+          (c.in-Err.ensures.count other (subst (λ (d : g.row.D.Denot). IsTrue (g.D.Disk.is_clean d)) c.into_disk.ensures clean));
     }
 
 pub returns-in-Err-finish : goal.returns-in-Err-finish
@@ -53,6 +62,8 @@ returns-in-Err-finish g c =
         ),
       );
       clean = λ clean. subst (λ (d : g.row.D.Denot). IsTrue (g.D.Disk.is_clean d)) c.new-recovery.ensures.disk (reads.clean (c.in-Err-finish.ensures.clean clean));
+      untouched = λ other. absurd (never_other c.in-Err-finish.field-0.cause (subst IsOtherCount c.from.ensures other));
+      count = λ other clean. absurd (never_other c.in-Err-finish.field-0.cause (subst IsOtherCount c.from.ensures other));
     }
 
 pub returns-in-Ok : goal.returns-in-Ok
@@ -97,4 +108,6 @@ returns-in-Ok g c =
             ),
       );
       clean = λ clean. subst (λ (d : g.row.D.Denot). IsTrue (g.D.Disk.is_clean d)) c.new-recovery.ensures.disk (reads.clean (c.in-Ok.ensures.clean (subst IsTrue c.answer_log.ensures.clean clean)));
+      untouched = if_err_then c.answer_log.result.result c.answer_log.ensures.other (λ fault never other. absurd (never other));
+      count = if_err_then c.answer_log.result.result c.answer_log.ensures.other (λ fault never other clean. absurd (never other));
     }

@@ -1,9 +1,7 @@
 use Rattle.std.proofs.Common.{List, ℕ}
 use Rattle.request_lines.specs.Answering.{Rule}
 use Rattle.request_lines.proofs.SeenRuns.{Shows}
-use Rattle.line_streams.specs.State.{state_of}
-use Rattle.line_streams.specs.Stream.{stream_rule}
-use Rattle.line_streams.specs.declared.stream.Stream.{Stream}
+use Rattle.line_streams.specs.State.{StreamState}
 use Rattle.kept_lines.specs.File.{kept_in}
 use Rattle.kept_answers.proofs.KeptLemmas.{on_ok_then}
 use Rattle.kept_house.proofs.SeenLemmas.{all_kept_seen, kept_seen}
@@ -12,12 +10,14 @@ use Rattle.kept_house.proofs.keeping.keep_stream.Goals as goal
 pub returns : goal.returns
 returns g c =
     let told = c.keep.ensures.told in
-    let rule : Rule Stream = record {
-      answers = λ a lines text b. stream_rule.answers (state_of a) lines text (state_of b);
-      gives_up = λ a line b. stream_rule.gives_up (state_of a) line (state_of b);
+    let rule : Rule g.row.A.Denot = g.A.Answerer.rule in
+    let shown : Rule StreamState = g.A.LineStream.state_rule in
+    let seen : g.row.A.Denot → StreamState = g.A.LineStream.state in
+    let Stays : g.row.A.Denot → Type 0 = λ a. Unit {0} in
+    let shows : Shows rule shown seen Stays = record {
+      answers = λ a b lines text k h. (tt, g.met.A.LineStream.answers_in_state a b lines text h);
+      gives_up = λ a b line k h. (tt, g.met.A.LineStream.gives_up_in_state a b line h);
     } in
-    let Stays : Stream → Type 0 = λ a. Unit {0} in
-    let shows : Shows rule stream_rule state_of Stays = record { answers = λ a b lines text k h. (tt, h); gives_up = λ a b line k h. (tt, h) } in
     let start = c.args.stream.now in
     let lines : List (List ℕ) = kept_in (g.D.Disk.seen c.args.disk) in
     record {
@@ -33,9 +33,11 @@ returns g c =
         told.8,
         λ clean.
             let both = told.9 clean in (
-              kept_seen rule stream_rule state_of Stays shows start (g.D.Disk.may_leave c.keep.result.disk) lines told.2 c.args.from told.4 tt both.0,
-              on_ok_then c.keep.result.result both.1 (λ all. (all.0, all.1, (all_kept_seen rule stream_rule state_of Stays shows start c.keep.new.answerer (g.D.Disk.seen c.keep.result.disk) lines told.2 c.args.from told.4 tt all.2).1)),
+              kept_seen rule shown seen Stays shows start (g.D.Disk.may_leave c.keep.result.disk) lines told.2 c.args.from told.4 tt both.0,
+              on_ok_then c.keep.result.result both.1 (λ all. (all.0, all.1, (all_kept_seen rule shown seen Stays shows start c.keep.new.answerer (g.D.Disk.seen c.keep.result.disk) lines told.2 c.args.from told.4 tt all.2).1)),
             ),
       );
       clean = c.keep.ensures.clean;
+      untouched = c.keep.ensures.untouched;
+      count = c.keep.ensures.count;
     }

@@ -1,9 +1,19 @@
-use Rattle.std.proofs.Common.{rules, ◌≡◌, ◌++◌, ◌∙◌, ap, List, ℕ}
+use Rattle.std.proofs.Common.{rules, ◌≡◌, ◌++◌, ◌∙◌, ap, append_assoc, List, ℕ}
 use Rattle.std.specs.Prelude.{codes}
 use Rattle.kept_house.specs.Record.{on_one_line}
-use Rattle.kept_house.proofs.RecordLemmas.{put_together}
 use Rattle.store_commands.specs.Change.{escaped}
 use Rattle.store_commands.proofs.configure.change_line.Goals as goal
+
+-- parts that are put one after another
+put_together : (one two three four five start platform middle config end : List ℕ)
+    → one ≡ start → two ≡ one ++ platform → three ≡ two ++ middle → four ≡ three ++ config → five ≡ four ++ end
+    → five ≡ start ++ (platform ++ (middle ++ (config ++ end)))
+put_together one two three four five start platform middle config end a b c d e =
+    e
+    ∙ ap (λ (l : List ℕ). l ++ end) (d ∙ ap (λ (l : List ℕ). l ++ config) (c ∙ ap (λ (l : List ℕ). l ++ middle) (b ∙ ap (λ (l : List ℕ). l ++ platform) a)))
+    ∙ append_assoc ((start ++ platform) ++ middle) config end
+    ∙ append_assoc (start ++ platform) middle (config ++ end)
+    ∙ append_assoc start platform (middle ++ (config ++ end))
 
 pub returns : goal.returns
 returns c =

@@ -21,7 +21,8 @@ returns-clause-shut g c is now =
     let end = end_is file place (c.skip.new.self.place now) (c.in_ok-skip.ensures.none now) in
     let front = c.in_ok-skip.ensures.front now in
     let passed : take (length c.deref.result.now - next) (drop next c.deref.result.now) ≡ text = take_rest c.deref.result.now next ∙ ap (λ (l : List ℕ). drop next l) c.deref.ensures.value in
-    subst (λ (f : List ℕ). IsShut f place) c.skip.ensures.reads.seen (shut_is c.args.self.now.limit file text place end front (subst (λ (l : List ℕ). (0 < length l) × (slice_index l 0 ≢ 43)) passed (c.is_shut.ensures.0 is)))
+    let tested : 0 < length text = subst (λ (l : List ℕ). 0 < length l) passed (c.is_shut.ensures.0 is).0 in
+    subst (λ (f : List ℕ). IsShut f place) c.skip.ensures.reads.seen (shut_is c.args.self.now.limit file text place end front (c.in_ok-skip.ensures.may_end now) tested)
 
 pub returns-clause-safe : goal.returns-clause-safe
 returns-clause-safe g c not now =
