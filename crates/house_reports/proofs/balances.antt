@@ -1,7 +1,9 @@
-pub mod EndingLemmas
+pub mod InOrderLemmas
+pub mod KeyLemmas
 pub mod LegalSettlements
 pub mod ListLemmas
+pub mod NetLemmas
 pub mod ObligationLemmas
 pub mod RowsLemmas
-pub mod SettledLemmas
 pub mod SizeLemmas
+pub mod SquareLemmas

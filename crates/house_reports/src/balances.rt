@@ -4,17 +4,18 @@
 mod all_rows;
 mod booking;
 mod csv_text;
-mod ending;
 mod fields;
 mod form;
+mod in_order;
 mod laws;
 mod printed;
 mod row;
+mod settled;
 mod terminal_text;
 
 use crate::command::Lines;
 use crate::ended_house::{EndedHouse, house_of, tell_refused};
-use command_line::{Fault, Output};
+use command_line::{Arguments, Fault, Output};
 use form::{Form, form_of};
 use printed::print;
 use request_lines::{Device, Source};
@@ -33,14 +34,14 @@ fn print_house(
 }
 
 /// Prints the balances of the house after the lines of a reader, and the number of refused lines on standard error.
-pub fn perform<'a, R: Source>(
+pub fn perform<R: Source>(
     rt: &HostRuntime,
     is_gone: &Cell<bool>,
-    options: &[String],
-    lines: Lines<'a, '_>,
+    arguments: &Arguments<'_>,
+    lines: Lines<'_>,
     reader: &mut R,
-) -> Result<u8, Fault<'a>> {
-    let form = form_of(options)?;
+) -> Result<u8, Fault<'static>> {
+    let form = form_of(arguments);
     let ended = house_of(rt, lines, reader)?;
     print_house(rt, is_gone, &ended, form)?;
     Ok(0)

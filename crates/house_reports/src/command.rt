@@ -1,7 +1,7 @@
 //! The commands.
 
 use crate::{balances, explain_lines, statements};
-use command_line::Fault;
+use command_line::{Arguments, Fault};
 use request_lines::Source;
 use std::cell::Cell;
 use std::process::ExitCode;
@@ -16,11 +16,11 @@ pub enum Command {
 
 /// The lines of a reader.
 #[derive(Clone, Copy)]
-pub enum Lines<'a, 's> {
-    /// The lines of a script under the configuration at this path.
-    Script { config: &'a str },
+pub enum Lines<'a> {
+    /// The lines of a script under the configuration in this text.
+    Script { config: &'a [u8] },
     /// The lines of a stream that begins under the configuration in this text.
-    Stream { config: &'s [u8] },
+    Stream { config: &'a [u8] },
 }
 
 impl Command {
@@ -29,41 +29,41 @@ impl Command {
         match name {
             "statements" => Some(Command::Statements),
             "balances" => Some(Command::Balances),
-            "explain_lines" => Some(Command::ExplainLines),
+            "explain_lines" | "explain-lines" => Some(Command::ExplainLines),
             _ => None,
         }
     }
 
-    // Performs the command by its options, and returns the exit status. It notes that the reader of the output has gone.
-    fn perform<'a, R: Source>(
+    // Performs the command by its arguments, and returns the exit status. It notes that the reader of the output has gone.
+    fn perform<R: Source>(
         self,
         rt: &HostRuntime,
         is_gone: &Cell<bool>,
-        options: &[String],
-        lines: Lines<'a, '_>,
+        arguments: &Arguments<'_>,
+        lines: Lines<'_>,
         reader: &mut R,
-    ) -> Result<u8, Fault<'a>> {
+    ) -> Result<u8, Fault<'static>> {
         match self {
-            Command::Statements => statements::perform(rt, is_gone, options, lines, reader),
-            Command::Balances => balances::perform(rt, is_gone, options, lines, reader),
-            Command::ExplainLines => explain_lines::perform(rt, is_gone, options, lines, reader),
+            Command::Statements => statements::perform(rt, is_gone, lines, reader),
+            Command::Balances => balances::perform(rt, is_gone, arguments, lines, reader),
+            Command::ExplainLines => explain_lines::perform(rt, is_gone, lines, reader),
         }
     }
 
-    /// Performs the command by its options over the lines of a reader, and returns the exit status.
+    /// Performs the command by its arguments over the lines of a reader, and returns the exit status.
     ///
     /// # Errors
     ///
     /// The error that ends the command early. If the reader of the output has gone, the error is not reported: its status is returned.
-    pub fn done<'a, R: Source>(
+    pub fn done<R: Source>(
         self,
         rt: &HostRuntime,
-        options: &[String],
-        lines: Lines<'a, '_>,
+        arguments: &Arguments<'_>,
+        lines: Lines<'_>,
         reader: &mut R,
-    ) -> Result<ExitCode, Fault<'a>> {
+    ) -> Result<ExitCode, Fault<'static>> {
         let is_gone = Cell::new(false);
-        match self.perform(rt, &is_gone, options, lines, reader) {
+        match self.perform(rt, &is_gone, arguments, lines, reader) {
             Ok(status) => Ok(ExitCode::from(status)),
             Err(fault) if is_gone.get() => Ok(ExitCode::from(fault.status())),
             Err(fault) => Err(fault),

@@ -5,22 +5,19 @@ mod ended;
 mod writing;
 
 use crate::command::Lines;
-use command_line::{Fault, read_config};
+use command_line::Fault;
 pub use ended::EndedHouse;
 use request_lines::Source;
 pub use writing::{tell_refused, write_text};
 
 /// Returns the house after the lines of the reader.
-pub fn house_of<'a, R: Source>(
+pub fn house_of<R: Source>(
     rt: &HostRuntime,
-    lines: Lines<'a, '_>,
+    lines: Lines<'_>,
     reader: &mut R,
-) -> Result<EndedHouse, Fault<'a>> {
+) -> Result<EndedHouse, Fault<'static>> {
     match lines {
-        Lines::Script { config } => {
-            let file = read_config(rt, config)?;
-            Ok(EndedHouse::of_file(rt.alloc(), file.as_slice(), reader)?)
-        }
+        Lines::Script { config } => { Ok(EndedHouse::of_file(rt.alloc(), config, reader)?) }
         Lines::Stream { config } => Ok(EndedHouse::of_stream(rt.alloc(), config, reader)?),
     }
 }

@@ -9,7 +9,7 @@ mod streamed;
 mod table;
 
 use crate::command::Lines;
-use command_line::{Fault, Output, read_config};
+use command_line::{Fault, Output};
 use request_lines::{Device, Source};
 use std::cell::Cell;
 use streamed::explain_stream;
@@ -23,17 +23,16 @@ fn status(is_any_refused: bool) -> u8
 }
 
 // Prints the rows of the lines of a reader, and returns whether there is one.
-fn print<'a, R: Source>(
+fn print<R: Source>(
     rt: &HostRuntime,
     is_gone: &Cell<bool>,
-    lines: Lines<'a, '_>,
+    lines: Lines<'_>,
     reader: &mut R,
-) -> Result<bool, Fault<'a>> {
+) -> Result<bool, Fault<'static>> {
     match lines {
         Lines::Script { config } => {
-            let file = read_config(rt, config)?;
             let mut writer = Device::new(Output::new(rt.stdout(), is_gone));
-            Ok(explain(rt.alloc(), file.as_slice(), reader, &mut writer)?)
+            Ok(explain(rt.alloc(), config, reader, &mut writer)?)
         }
         Lines::Stream { config } => {
             let mut writer = Device::new(Output::new(rt.stdout(), is_gone));
@@ -43,15 +42,11 @@ fn print<'a, R: Source>(
 }
 
 /// Prints the rows of the lines of a reader, and returns the exit status.
-pub fn perform<'a, R: Source>(
+pub fn perform<R: Source>(
     rt: &HostRuntime,
     is_gone: &Cell<bool>,
-    options: &[String],
-    lines: Lines<'a, '_>,
+    lines: Lines<'_>,
     reader: &mut R,
-) -> Result<u8, Fault<'a>> {
-    if !options.is_empty() {
-        return Err(Fault::Usage);
-    }
+) -> Result<u8, Fault<'static>> {
     Ok(status(print(rt, is_gone, lines, reader)?))
 }

@@ -1,6 +1,7 @@
 //! The order of events, and for each closed period the statement of each party, as CSV.
 
 mod printed;
+mod text;
 
 use crate::command::Lines;
 use crate::ended_house::{EndedHouse, house_of, tell_refused};
@@ -21,16 +22,12 @@ fn print_house(
 }
 
 /// Prints the statements of the house after the lines of a reader, and the number of refused lines on standard error.
-pub fn perform<'a, R: Source>(
+pub fn perform<R: Source>(
     rt: &HostRuntime,
     is_gone: &Cell<bool>,
-    options: &[String],
-    lines: Lines<'a, '_>,
+    lines: Lines<'_>,
     reader: &mut R,
-) -> Result<u8, Fault<'a>> {
-    if !options.is_empty() {
-        return Err(Fault::Usage);
-    }
+) -> Result<u8, Fault<'static>> {
     let ended = house_of(rt, lines, reader)?;
     print_house(rt, is_gone, &ended)?;
     Ok(0)

@@ -1,5 +1,5 @@
 -- Lists that are chosen from, or made of lists, one after another.
-use Rattle.std.proofs.Common.{◌≡◌, List, [], ◌∷◌, ◌++◌, Bool, true, false, cond, ◌&&◌, filter, refl, ap, ap₂, ◌∙◌}
+use Rattle.std.proofs.Common.{◌≡◌, ◌==◌, arith, eqb-true, length, List, [], ◌∷◌, ◌++◌, Bool, true, false, cond, ◌&&◌, filter, refl, ap, ap₂, ◌∙◌}
 use Rattle.std.specs.Prelude.{flat_map}
 use Rattle.std.proofs.lemmas.List.Concat.{flat_map-append}
 
@@ -20,3 +20,12 @@ flat_map-flat_map f g (x ∷ xs) = flat_map-append f (g x) (flat_map g xs) ∙ a
 pub flat_map_alike : {A B : Type 0} (f g : A → List B) → ((x : A) → f x ≡ g x) → (xs : List A) → flat_map f xs ≡ flat_map g xs
 flat_map_alike f g same [] = refl
 flat_map_alike f g same (x ∷ xs) = ap₂ (λ l m. l ++ m) (same x) (flat_map_alike f g same xs)
+
+-- tests that agree choose the same
+pub filter_alike : {A : Type 0} (p q : A → Bool) → ((x : A) → p x ≡ q x) → (xs : List A) → filter p xs ≡ filter q xs
+filter_alike p q same [] = refl
+filter_alike p q same (x ∷ xs) = ap₂ (λ t l. cond t (x ∷ l) l) (same x) (filter_alike p q same xs)
+
+pub is_none : {A : Type 0} (xs : List A) → (length xs == 0) ≡ true → xs ≡ []
+is_none [] h = refl
+is_none (x ∷ xs) h = let none : length (x ∷ xs) ≡ 0 = eqb-true (length (x ∷ xs)) 0 h in absurd (omega (arith, none))

@@ -4,13 +4,12 @@ use Rattle.std.specs.Prelude.{unsigned_abs}
 use Rattle.std.proofs.lemmas.List.Sums.{sum_by-cons}
 use Rattle.netting_positions.specs.declared.obligation.Obligation.{Obligation}
 use Rattle.netting_positions.specs.Netting.{total_size}
-use Rattle.plain_house.specs.declared.entry.Charge.{Charge}
 use Rattle.plain_house.specs.declared.event.Event.{Event}
 use Rattle.plain_house.specs.declared.event.Event.TheVariants as event
 use Rattle.plain_house.specs.Booked.{Booked, booked}
-use Rattle.plain_house.specs.Entries.{account_entries, book_entries, book_entries_from, charge_of}
+use Rattle.plain_house.specs.Entries.{book_entries, book_entries_from}
 use Rattle.plain_house.specs.Obligations.{is_of_period, obligation_of as obligation_of_booked, obligations}
-use Rattle.house_reports.specs.balances.Bookings.{booking_of, bookings, bookings_from, is_charge_settled}
+use Rattle.house_reports.specs.balances.Bookings.{booking_of, bookings, bookings_from}
 use Rattle.house_reports.specs.balances.Inner.Narrowed.{of_period, size}
 use Rattle.house_reports.specs.balances.Laws.{BookingsAreObligations, is_in, obligation_of}
 use Rattle.house_reports.specs.declared.balances.booking.Booking.{Booking}
@@ -22,24 +21,24 @@ chosen : (t : Bool) (b : Booking) (found : Booked) (bs : List Booking) (founds :
 chosen true b found bs founds same later = ap₂ (λ (one : Obligation) (more : List Obligation). one ∷ more) same later
 chosen false b found bs founds same later = later
 
-booked_obliges : (is_settled : Charge → Bool) (period number : ℕ) (events : List Event)
-    → map obligation_of (filter (is_in number) (bookings_from is_settled period events)) ≡ obligations number (book_entries_from period events)
-booked_obliges is_settled period number [] = refl
-booked_obliges is_settled period number (event.Tariff tariff ∷ later) = booked_obliges is_settled period number later
-booked_obliges is_settled period number (event.Token token ∷ later) = booked_obliges is_settled period number later
-booked_obliges is_settled period number (event.Authorised hold ∷ later) = booked_obliges is_settled period number later
-booked_obliges is_settled period number (event.Released release ∷ later) = booked_obliges is_settled period number later
-booked_obliges is_settled period number (event.Cdr cdr cost ∷ later) =
-    chosen (period == number) (booking_of cdr (pos cost) period (is_settled (charge_of cdr cost period))) (record { cdr = cdr; amount = pos cost; period = period })
-    (filter (is_in number) (bookings_from is_settled period later)) (filter (is_of_period number) (booked (book_entries_from period later))) refl (booked_obliges is_settled period number later)
-booked_obliges is_settled period number (event.Credit cdr amount ∷ later) =
-    chosen (period == number) (booking_of cdr amount period false) (record { cdr = cdr; amount = amount; period = period })
-    (filter (is_in number) (bookings_from is_settled period later)) (filter (is_of_period number) (booked (book_entries_from period later))) refl (booked_obliges is_settled period number later)
-booked_obliges is_settled period number (event.Settled settlement ∷ later) = booked_obliges is_settled period number later
-booked_obliges is_settled period number (event.Closed closed ∷ later) = booked_obliges is_settled (period + 1) number later
+booked_obliges : (period number : ℕ) (events : List Event)
+    → map obligation_of (filter (is_in number) (bookings_from period events)) ≡ obligations number (book_entries_from period events)
+booked_obliges period number [] = refl
+booked_obliges period number (event.Tariff tariff ∷ later) = booked_obliges period number later
+booked_obliges period number (event.Token token ∷ later) = booked_obliges period number later
+booked_obliges period number (event.Authorised hold ∷ later) = booked_obliges period number later
+booked_obliges period number (event.Released release ∷ later) = booked_obliges period number later
+booked_obliges period number (event.Cdr cdr cost ∷ later) =
+    chosen (period == number) (booking_of cdr (pos cost) period) (record { cdr = cdr; amount = pos cost; period = period })
+    (filter (is_in number) (bookings_from period later)) (filter (is_of_period number) (booked (book_entries_from period later))) refl (booked_obliges period number later)
+booked_obliges period number (event.Credit cdr amount ∷ later) =
+    chosen (period == number) (booking_of cdr amount period) (record { cdr = cdr; amount = amount; period = period })
+    (filter (is_in number) (bookings_from period later)) (filter (is_of_period number) (booked (book_entries_from period later))) refl (booked_obliges period number later)
+booked_obliges period number (event.Settled settlement ∷ later) = booked_obliges period number later
+booked_obliges period number (event.Closed closed ∷ later) = booked_obliges (period + 1) number later
 
 pub are_obligations : BookingsAreObligations
-are_obligations events period = booked_obliges (is_charge_settled (account_entries events)) 0 period events
+are_obligations events period = booked_obliges 0 period events
 
 -- ---- how much it is
 

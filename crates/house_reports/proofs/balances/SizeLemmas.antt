@@ -3,7 +3,9 @@ use Rattle.std.proofs.Common.{◌≡◌, ℕ, ◌+◌, ◌≤◌, ℤ, Bool, tru
 use Rattle.std.specs.Prelude.{◌+ℤ◌, ◌-ℤ◌, unsigned_abs}
 use Rattle.std.proofs.lemmas.Int.{ints}
 use Rattle.std.proofs.lemmas.List.Sums.{sum_by-cons}
+use Rattle.cdr_checks.specs.declared.request.Settlement.{Settlement}
 use Rattle.house_reports.specs.balances.Balances.{owed, settled}
+use Rattle.house_reports.specs.balances.Bookings.{is_settled}
 use Rattle.house_reports.specs.balances.Inner.Narrowed.{size}
 use Rattle.house_reports.specs.declared.balances.booking.Booking.{Booking}
 
@@ -36,13 +38,14 @@ same_open a s t n m small is = omega (arith, ints)
 more_open : (a s t : ℤ) (n m : ℕ) → unsigned_abs (s -ℤ t) ≤ n → m ≡ unsigned_abs a + n → unsigned_abs ((a +ℤ s) -ℤ t) ≤ m
 more_open a s t n m small is = omega (arith, ints)
 
-open_more : (b : Booking) (bs : List Booking) → unsigned_abs (owed bs -ℤ settled bs) ≤ size bs → unsigned_abs (owed (b ∷ bs) -ℤ settled (b ∷ bs)) ≤ size (b ∷ bs)
-open_more b bs h =
-    elim b.is_settled as (λ t. unsigned_abs (owed (b ∷ bs) -ℤ owed (cond t (b ∷ filter (λ x. x.is_settled) bs) (filter (λ x. x.is_settled) bs))) ≤ size (b ∷ bs)) [
-      | true ↦ same_open b.amount (owed bs) (settled bs) (size bs) (size (b ∷ bs)) h (size-cons b bs)
-      | false ↦ more_open b.amount (owed bs) (settled bs) (size bs) (size (b ∷ bs)) h (size-cons b bs)
+open_more : (all : List Settlement) (b : Booking) (bs : List Booking) → unsigned_abs (owed bs -ℤ settled all bs) ≤ size bs
+    → unsigned_abs (owed (b ∷ bs) -ℤ settled all (b ∷ bs)) ≤ size (b ∷ bs)
+open_more all b bs h =
+    elim (is_settled all b) as (λ t. unsigned_abs (owed (b ∷ bs) -ℤ owed (cond t (b ∷ filter (is_settled all) bs) (filter (is_settled all) bs))) ≤ size (b ∷ bs)) [
+      | true ↦ same_open b.amount (owed bs) (settled all bs) (size bs) (size (b ∷ bs)) h (size-cons b bs)
+      | false ↦ more_open b.amount (owed bs) (settled all bs) (size bs) (size (b ∷ bs)) h (size-cons b bs)
     ]
 
-pub open_small : (bs : List Booking) → unsigned_abs (owed bs -ℤ settled bs) ≤ size bs
-open_small [] = omega (arith, ints)
-open_small (b ∷ bs) = open_more b bs (open_small bs)
+pub open_small : (all : List Settlement) (bs : List Booking) → unsigned_abs (owed bs -ℤ settled all bs) ≤ size bs
+open_small all [] = omega (arith, ints)
+open_small all (b ∷ bs) = open_more all b bs (open_small all bs)

@@ -1,6 +1,5 @@
 -- The events that are kept of a stream.
 use Rattle.std.proofs.Common.{◌≡◌, ◌⊎◌, ⊎_elim, ℕ, List, Bool, true, false, refl, sym, ap, ◌∙◌, Option, Some, None, Result, Ok, Err}
-use Rattle.std.specs.Str.{bytes_eq}
 use Rattle.ocpi_types.specs.declared.config.Config.{Config}
 use Rattle.ocpi_types.specs.declared.refusal.Refusal.{Refusal}
 use Rattle.ocpi_types.specs.Config.{is_hub}
@@ -11,7 +10,7 @@ use Rattle.request_lines.specs.Script.{reply_to}
 use Rattle.line_streams.specs.Asked.{asked_of}
 use Rattle.line_streams.specs.Change.{ByHub, IsChanged, IsDone, StreamHouse}
 use Rattle.line_streams.specs.Given.{IsGiven, IsGivenAgain, IsGivenAs, IsGivenOnce, IsReplyByHub, IsReplyTo, IsReplyToChange, done_by}
-use Rattle.line_streams.specs.State.{Remembered, StreamState}
+use Rattle.line_streams.specs.State.{Remembered, RememberedLines, StreamState, is_same_line}
 use Rattle.line_streams.specs.Stream.{IsAnswered, IsAnsweredAs, IsDoneOnce, found_under, key_of}
 use Rattle.line_streams.specs.declared.asked.Asked.{Asked}
 use Rattle.line_streams.specs.declared.asked.Asked.TheVariants as asked
@@ -56,18 +55,18 @@ module _ (law : RepliesTellEvents) where
   kept_by_done house now (asked.Change change) kept text answer done replied same =
       kept_by_hub (is_hub house.config change.platform) house now kept change.config text answer done replied same
 
-  kept_again : (once : Bool) (stream : Stream) (line : LineReply) (events kept : List Event) → IsGivenAgain once line → kept_after (done_by stream line) events kept ≡ kept
-  kept_again true stream line events kept given = ap (λ (l : LineReply). kept_after (done_by stream l) events kept) given.1
-  kept_again false stream line events kept given = ap (λ (l : LineReply). kept_after (done_by stream l) events kept) given
+  kept_again : (lines : RememberedLines) (found : Remembered) (once : Bool) (stream : Stream) (line : LineReply) (events kept : List Event) → IsGivenAgain once lines found line → kept_after (done_by stream line) events kept ≡ kept
+  kept_again lines found true stream line events kept given = ap (λ (l : LineReply). kept_after (done_by stream l) events kept) given.1
+  kept_again lines found false stream line events kept given = ap (λ (l : LineReply). kept_after (done_by stream l) events kept) given
 
   kept_once : (state now : StreamState) (asks : AskedLine) (found : Option Remembered) (kept : List Event) (text answer : List ℕ) (stream : Stream) (line : LineReply)
-      → IsDoneOnce state (key_of asks) asks.asked found text answer now → IsGivenOnce state.house asks.asked found text (done_by stream line) line
+      → IsDoneOnce state (key_of asks) asks.asked found text answer now → IsGivenOnce state.house state.remembered asks.asked found text (done_by stream line) line
       → kept ≡ state.house.events → kept_after (done_by stream line) now.house.events kept ≡ now.house.events
   kept_once state now asks None kept text answer stream line done given same =
       ap (λ (d : Option StreamReply). kept_after d now.house.events kept) given.done_is
       ∙ kept_by_done state.house now.house asks.asked kept answer given.answer done.done given.replied same
   kept_once state now asks (Some found) kept text answer stream line done given same =
-      kept_again (bytes_eq found.line text) stream line now.house.events kept given ∙ same ∙ sym (ap (λ (s : StreamState). s.house.events) done.1)
+      kept_again state.remembered found (is_same_line found text) stream line now.house.events kept given ∙ same ∙ sym (ap (λ (s : StreamState). s.house.events) done.1)
 
   kept_as : (state now : StreamState) (m : Result AskedLine Refusal) (kept : List Event) (text answer : List ℕ) (stream : Stream) (line : LineReply)
       → IsAnsweredAs state m text answer now → IsGivenAs state m text (done_by stream line) line

@@ -5,10 +5,11 @@ use Rattle.ocpi_types.specs.Currency.{same_currency}
 use Rattle.ocpi_types.specs.Party.{same_party}
 use Rattle.ocpi_types.specs.declared.config.Config.{Config}
 use Rattle.ocpi_types.specs.declared.party.Party.{Party}
+use Rattle.cdr_checks.specs.declared.request.Settlement.{Settlement}
 use Rattle.netting_positions.specs.Netting.{total}
 use Rattle.plain_house.specs.declared.event.Event.{Event}
 use Rattle.plain_house.specs.Entries.{period_of}
-use Rattle.house_reports.specs.balances.Bookings.{bookings}
+use Rattle.house_reports.specs.balances.Bookings.{bookings, is_settled, settlements}
 use Rattle.house_reports.specs.declared.balances.booking.Booking.{Booking}
 use Rattle.house_reports.specs.declared.balances.row.RowKey.{RowKey}
 use Rattle.house_reports.specs.declared.balances.row.Row.{Row}
@@ -19,24 +20,24 @@ use Rattle.house_reports.specs.declared.balances.row.Row.{Row}
 abbrev pub owed : List Booking → ℤ
 owed bookings = total (map (λ booking. booking.amount) bookings)
 
--- what of it settlements ended
-abbrev pub settled : List Booking → ℤ
-settled bookings = owed (filter (λ booking. booking.is_settled) bookings)
+-- what of it is settled
+abbrev pub settled : List Settlement → List Booking → ℤ
+settled settlements bookings = owed (filter (is_settled settlements) bookings)
 
-abbrev pub sums_of : RowKey → List Booking → Row
-sums_of key bookings = record {
+abbrev pub sums_of : List Settlement → RowKey → List Booking → Row
+sums_of settlements key bookings = record {
   key = key;
   owed = owed bookings;
-  settled = settled bookings;
-  outstanding = owed bookings -ℤ settled bookings;
+  settled = settled settlements bookings;
+  outstanding = owed bookings -ℤ settled settlements bookings;
 }
 
 -- ---- rows
 
 -- no row where nothing is booked
-abbrev pub row_of : RowKey → List Booking → List Row
-row_of key [] = []
-row_of key (booking ∷ more) = sums_of key (booking ∷ more) ∷ []
+abbrev pub row_of : List Settlement → RowKey → List Booking → List Row
+row_of settlements key [] = []
+row_of settlements key (booking ∷ more) = sums_of settlements key (booking ∷ more) ∷ []
 
 abbrev pub is_of : RowKey → Booking → Bool
 is_of key booking =
@@ -44,8 +45,8 @@ is_of key booking =
     && same_party booking.operator key.operator && same_party booking.provider key.provider
 
 -- the row of what is booked by the key
-abbrev pub row_at : List Booking → RowKey → List Row
-row_at bookings key = row_of key (filter (is_of key) bookings)
+abbrev pub row_at : List Settlement → List Booking → RowKey → List Row
+row_at settlements bookings key = row_of settlements key (filter (is_of key) bookings)
 
 abbrev pub operators : Config → List Party
 operators config = map (λ operator. operator.party) config.operators
@@ -70,4 +71,4 @@ row_keys config (suc period) = row_keys config period ++ row_keys_in config peri
 
 -- a row for each key by which something is booked, up to the current period
 abbrev pub rows : Config → List Event → List Row
-rows config events = flat_map (row_at (bookings events)) (row_keys config (suc (period_of events)))
+rows config events = flat_map (row_at (settlements events) (bookings events)) (row_keys config (suc (period_of events)))

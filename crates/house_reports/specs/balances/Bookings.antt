@@ -1,60 +1,66 @@
--- What is booked of a list of events, and which of it a settlement ended.
-use Rattle.std.specs.Prelude.{ℕ, ℤ, pos, List, [], ◌∷◌, Bool, true, false, find, flat_map}
-use Rattle.std.specs.Option.{option_map_or}
+-- What is booked of a list of events, and which of it is settled.
+use Rattle.std.specs.Prelude.{ℕ, ◌==◌, ℤ, pos, List, [], ◌∷◌, Bool, ◌&&◌, flat_map}
+use Rattle.std.specs.List.{list_any}
+use Rattle.ocpi_types.specs.Currency.{same_currency}
+use Rattle.ocpi_types.specs.Party.{same_party}
 use Rattle.ocpi_types.specs.declared.cdr.Cdr.{Cdr}
-use Rattle.plain_house.specs.declared.entry.AccountEntry.{AccountEntry}
-use Rattle.plain_house.specs.declared.entry.AccountEntry.TheVariants as account
-use Rattle.plain_house.specs.declared.entry.Charge.{Charge}
+use Rattle.cdr_checks.specs.declared.request.Settlement.{Settlement}
 use Rattle.plain_house.specs.declared.event.Event.{Event}
 use Rattle.plain_house.specs.declared.event.Event.TheVariants as event
-use Rattle.plain_house.specs.Entries.{account_entries, charge_of, dated_from}
-use Rattle.plain_house.specs.Exposure.{ends_debt}
+use Rattle.plain_house.specs.Entries.{dated_from}
 use Rattle.house_reports.specs.declared.balances.booking.Booking.{Booking}
-
--- ---- what settlements end
-
-abbrev pub is_settlement : AccountEntry → Bool
-is_settlement (account.Token token) = false
-is_settlement (account.Hold hold) = false
-is_settlement (account.Release release) = false
-is_settlement (account.Charge charge) = false
-is_settlement (account.Credit credit) = false
-is_settlement (account.Settlement settlement) = true
-
--- a settlement ended the debt of the charge: the first entry that ends it is one, and no Credit CDR came before
-abbrev pub is_charge_settled : List AccountEntry → Charge → Bool
-is_charge_settled entries charge = option_map_or is_settlement (find (ends_debt charge) entries) false
 
 -- ---- bookings
 
-abbrev pub booking_of : Cdr → ℤ → ℕ → Bool → Booking
-booking_of cdr amount period settled = record {
+abbrev pub booking_of : Cdr → ℤ → ℕ → Booking
+booking_of cdr amount period = record {
   period = period;
   currency = cdr.currency;
   operator = cdr.operator;
   provider = cdr.cdr_token.provider;
   amount = amount;
-  is_settled = settled;
 }
 
--- A CDR books its cost, and is settled where this is so of its charge. A Credit CDR books what it takes back, which no
--- settlement ends.
-abbrev pub booking_in : (Charge → Bool) → Event → ℕ → List Booking
-booking_in is_settled (event.Tariff tariff) period = []
-booking_in is_settled (event.Token token) period = []
-booking_in is_settled (event.Authorised hold) period = []
-booking_in is_settled (event.Released release) period = []
-booking_in is_settled (event.Cdr cdr cost) period =
-    booking_of cdr (pos cost) period (is_settled (charge_of cdr cost period)) ∷ []
-booking_in is_settled (event.Credit cdr amount) period = booking_of cdr amount period false ∷ []
-booking_in is_settled (event.Settled settlement) period = []
-booking_in is_settled (event.Closed closed) period = []
+-- a CDR books its cost, and a Credit CDR what it takes back
+abbrev pub booking_in : Event → ℕ → List Booking
+booking_in (event.Tariff tariff) period = []
+booking_in (event.Token token) period = []
+booking_in (event.Authorised hold) period = []
+booking_in (event.Released release) period = []
+booking_in (event.Cdr cdr cost) period = booking_of cdr (pos cost) period ∷ []
+booking_in (event.Credit cdr amount) period = booking_of cdr amount period ∷ []
+booking_in (event.Settled settlement) period = []
+booking_in (event.Closed closed) period = []
 
 -- the first event being in the period that is given
-abbrev pub bookings_from : (Charge → Bool) → ℕ → List Event → List Booking
-bookings_from is_settled period events =
-    flat_map (λ dated. booking_in is_settled dated.event dated.period) (dated_from period events)
+abbrev pub bookings_from : ℕ → List Event → List Booking
+bookings_from period events = flat_map (λ dated. booking_in dated.event dated.period) (dated_from period events)
 
 -- each in the period in which it was booked
 abbrev pub bookings : List Event → List Booking
-bookings events = bookings_from (is_charge_settled (account_entries events)) 0 events
+bookings events = bookings_from 0 events
+
+-- ---- settlements
+
+abbrev pub settlement_in : Event → List Settlement
+settlement_in (event.Tariff tariff) = []
+settlement_in (event.Token token) = []
+settlement_in (event.Authorised hold) = []
+settlement_in (event.Released release) = []
+settlement_in (event.Cdr cdr cost) = []
+settlement_in (event.Credit cdr amount) = []
+settlement_in (event.Settled settlement) = settlement ∷ []
+settlement_in (event.Closed closed) = []
+
+abbrev pub settlements : List Event → List Settlement
+settlements events = flat_map settlement_in events
+
+-- the settlement is of the provider, currency and period of the booking
+abbrev pub settles : Settlement → Booking → Bool
+settles settlement booking =
+    same_party settlement.provider booking.provider && same_currency settlement.currency booking.currency
+    && (settlement.period == booking.period)
+
+-- one of the settlements is, whether the booking is of a CDR or of a Credit CDR
+abbrev pub is_settled : List Settlement → Booking → Bool
+is_settled settlements booking = list_any (λ settlement. settles settlement booking) settlements

@@ -5,22 +5,25 @@ ghost use Rattle.netting_positions.specs.Netting.{total_size};
 ghost use Rattle.plain_house.specs.Entries.{book_entries, period_of};
 ghost use Rattle.plain_house.specs.Obligations.{obligations};
 ghost use Rattle.house_reports.specs.balances.Balances.{operators, providers, rows};
-ghost use Rattle.house_reports.specs.balances.Bookings.{bookings};
-ghost use Rattle.house_reports.specs.balances.Inner.Narrowed.{of_period, rows_of_currency, rows_of_operator, rows_of_period, size};
+ghost use Rattle.house_reports.specs.balances.Bookings.{bookings, settlements};
+ghost use Rattle.house_reports.specs.balances.Inner.Narrowed.{rows_of_currency, rows_of_operator, rows_of_period, size};
 
-use super::booking::{Booking, bookings};
+use super::booking::{Booking, bookings, settlements};
+use super::in_order::split_period;
 use super::laws::bookings_are_obligations;
-use super::row::{Row, RowKey, of_currency, of_operator, of_period, of_provider, row_of};
+use super::row::{Row, RowKey, of_currency, of_operator, of_provider, row_of};
+use super::settled::Settlements;
 use ocpi_types::{Config, Currency, Party};
 use plain_house::{Event, period_of};
 use std::alloc::{AllocError, Global};
 
-/// The parties and currencies that have rows, in order.
+/// The parties and currencies that have rows, in order, and the settlements.
 #[derive(Drop)]
 struct Listed {
     currencies: Vec<Currency>,
     operators: Vec<Party>,
     providers: Vec<Party>,
+    settlements: Settlements,
 }
 
 #[tactic(auto, using(crate::proofs::balances::SizeLemmas::size_filter))]
@@ -34,8 +37,11 @@ fn add_operator(
     bookings: &[Booking],
 ) -> Result<(), AllocError>
     requires { size bookings.now < 2 ^ 63 }
-    ensures { OnOk result (rows.new.items ≡ rows.old.items ++ rows_of_operator period currency.now operator.now listed.now.providers.items bookings.now) }
+    ensures { OnOk result (rows.new.items ≡ rows.old.items ++ rows_of_operator listed.now.settlements period currency.now operator.now listed.now.providers.items bookings.now) }
 {
+    if bookings.is_empty() {
+        return Ok(());
+    }
     for provider in listed.providers.as_slice() {
         let booked = of_provider(alloc, bookings, provider)?;
         let key = RowKey {
@@ -44,7 +50,7 @@ fn add_operator(
             operator: *operator,
             provider: *provider,
         };
-        if let Some(row) = row_of(key, booked.as_slice()) {
+        if let Some(row) = row_of(&listed.settlements, key, booked.as_slice()) {
             rows.push(row)?;
         }
     }
@@ -61,8 +67,11 @@ fn add_currency(
     bookings: &[Booking],
 ) -> Result<(), AllocError>
     requires { size bookings.now < 2 ^ 63 }
-    ensures { OnOk result (rows.new.items ≡ rows.old.items ++ rows_of_currency period currency.now listed.now.operators.items listed.now.providers.items bookings.now) }
+    ensures { OnOk result (rows.new.items ≡ rows.old.items ++ rows_of_currency listed.now.settlements period currency.now listed.now.operators.items listed.now.providers.items bookings.now) }
 {
+    if bookings.is_empty() {
+        return Ok(());
+    }
     for operator in listed.operators.as_slice() {
         let booked = of_operator(alloc, bookings, operator)?;
         add_operator(
@@ -87,28 +96,16 @@ fn add_period(
     bookings: &[Booking],
 ) -> Result<(), AllocError>
     requires { size bookings.now < 2 ^ 63 }
-    ensures { OnOk result (rows.new.items ≡ rows.old.items ++ rows_of_period period listed.now.currencies.items listed.now.operators.items listed.now.providers.items bookings.now) }
+    ensures { OnOk result (rows.new.items ≡ rows.old.items ++ rows_of_period listed.now.settlements period listed.now.currencies.items listed.now.operators.items listed.now.providers.items bookings.now) }
 {
+    if bookings.is_empty() {
+        return Ok(());
+    }
     for currency in listed.currencies.as_slice() {
         let booked = of_currency(alloc, bookings, currency)?;
         add_currency(alloc, rows, listed, period, currency, booked.as_slice())?;
     }
     Ok(())
-}
-
-// Adds the rows of these bookings that are of the period.
-fn add_chosen(
-    alloc: Global,
-    rows: &mut Vec<Row>,
-    listed: &Listed,
-    period: u64,
-    bookings: &[Booking],
-) -> Result<(), AllocError>
-    requires { size (of_period period bookings.now) < 2 ^ 63 }
-    ensures { OnOk result (rows.new.items ≡ rows.old.items ++ rows_of_period period listed.now.currencies.items listed.now.operators.items listed.now.providers.items (of_period period bookings.now)) }
-{
-    let booked = of_period(alloc, bookings, period)?;
-    add_period(alloc, rows, listed, period, booked.as_slice())
 }
 
 fn operators_of(alloc: Global, config: &Config) -> Result<Vec<Party>, AllocError>
@@ -130,7 +127,8 @@ fn providers_of(alloc: Global, config: &Config) -> Result<Vec<Party>, AllocError
         .collect(alloc)
 }
 
-fn listed_in(alloc: Global, config: &Config) -> Result<Listed, AllocError>
+fn listed_in(alloc: Global, config: &Config, events: &[Event]) -> Result<Listed, AllocError>
+    ensures settlements { IfOk result (λ listed. listed.settlements ≡ settlements events.now) }
     ensures currencies { IfOk result (λ listed. listed.currencies.items ≡ config.now.currencies) }
     ensures operators { IfOk result (λ listed. listed.operators.items ≡ operators config.now) }
     ensures providers { IfOk result (λ listed. listed.providers.items ≡ providers config.now) }
@@ -139,6 +137,7 @@ fn listed_in(alloc: Global, config: &Config) -> Result<Listed, AllocError>
         currencies: config.currencies.as_slice().to_vec(alloc)?,
         operators: operators_of(alloc, config)?,
         providers: providers_of(alloc, config)?,
+        settlements: settlements(alloc, events)?,
     })
 }
 
@@ -148,11 +147,14 @@ pub fn rows(alloc: Global, config: &Config, events: &[Event]) -> Result<Vec<Row>
     ensures { IfOk result (λ found. found.items ≡ rows config.now events.now) }
 {
     bookings_are_obligations();
-    let listed = listed_in(alloc, config)?;
+    let listed = listed_in(alloc, config, events)?;
     let bookings = bookings(alloc, events)?;
     let mut rows = Vec::new(alloc);
+    let mut rest = bookings.as_slice();
     for period in 0..period_of(events) + 1 {
-        add_chosen(alloc, &mut rows, &listed, period, bookings.as_slice())?;
+        let (booked, later) = split_period(rest, period);
+        add_period(alloc, &mut rows, &listed, period, booked)?;
+        rest = later;
     }
     Ok(rows)
 }

@@ -1,8 +1,9 @@
 //! The options of the command line.
 
-ghost use Rattle.std.specs.Prelude.{◌≡◌, ◌↔◌, length, IfErr, IfOk};
+ghost use Rattle.std.specs.Prelude.{◌≡◌, ◌↔◌, false, is_some};
+ghost use Rattle.command_line.specs.Arguments.{given_option, plain_arguments};
 
-use command_line::Fault;
+use command_line::{Arguments, CommandOption};
 
 /// How rows are printed.
 #[derive(Clone, Copy)]
@@ -13,18 +14,13 @@ pub enum Form {
     Table,
 }
 
-/// Returns the form that the options ask for.
-///
-/// # Errors
-///
-/// `Usage` for other options than `--table` or `-table`.
-pub fn form_of(options: &[String]) -> Result<Form, Fault<'static>>
-    ensures csv { IfOk result (λ form. (form ≡ Form.Csv) ↔ (length options.now ≡ 0)) }
-    ensures fault { IfErr result (λ fault. fault ≡ Fault.Usage) }
+/// Returns the form that the arguments ask for.
+pub fn form_of(arguments: &Arguments<'_>) -> Form
+    ensures { (result ≡ Form.Csv) ↔ (is_some (given_option CommandOption.Table (plain_arguments arguments.now)) ≡ false) }
 {
-    match options {
-        [] => Ok(Form::Csv),
-        [word] if matches!(word.as_str(), "--table" | "-table") => Ok(Form::Table),
-        _ => Err(Fault::Usage),
+    if arguments.has(CommandOption::Table) {
+        Form::Table
+    } else {
+        Form::Csv
     }
 }

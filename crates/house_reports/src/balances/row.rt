@@ -3,9 +3,10 @@
 ghost use Rattle.std.specs.Prelude.{◌≡◌, ◌≤◌, ◌<◌, ◌^◌, ◌-ℤ◌, unsigned_abs, IfOk};
 ghost use Rattle.std.specs.Option.{option_to_list};
 ghost use Rattle.house_reports.specs.balances.Balances.{owed, row_of, settled, sums_of};
-ghost use Rattle.house_reports.specs.balances.Inner.Narrowed.{of_currency, of_operator, of_period, of_provider, size};
+ghost use Rattle.house_reports.specs.balances.Inner.Narrowed.{of_currency, of_operator, of_provider, size};
 
 use super::booking::Booking;
+use super::settled::Settlements;
 use exact_money::Amount;
 use ocpi_types::{Currency, Party};
 use std::alloc::{AllocError, Global};
@@ -25,7 +26,7 @@ pub struct Row {
     pub key: RowKey,
     /// CDRs less Credit CDRs.
     pub owed: Amount,
-    /// The part of the debts that settlements ended.
+    /// The part of it that is settled.
     pub settled: Amount,
     /// Owed less settled.
     pub outstanding: Amount,
@@ -46,16 +47,16 @@ fn owed(bookings: &[Booking]) -> i128
     total
 }
 
-// Returns the part of the debts that settlements ended.
-fn settled(bookings: &[Booking]) -> i128
+// Returns the part of it that is settled.
+fn settled(settlements: &Settlements, bookings: &[Booking]) -> i128
     requires { size bookings.now < 2 ^ 63 }
-    ensures value { result ≡ settled bookings.now }
+    ensures value { result ≡ settled settlements.now bookings.now }
     ensures bound { unsigned_abs result ≤ size bookings.now }
 {
     let mut total = 0;
     let mut rest = bookings;
     while let Some((booking, later)) = rest.split_first() {
-        if booking.is_settled {
+        if settlements.is_settled(booking) {
             total += i128::from(booking.amount.amount().ten_thousandths());
         }
         rest = later;
@@ -80,12 +81,12 @@ fn left_of(owed: i128, settled: i128) -> Amount
 }
 
 #[tactic(auto, using(crate::proofs::balances::SizeLemmas::open_small))]
-fn sums_of(key: RowKey, bookings: &[Booking]) -> Row
+fn sums_of(settlements: &Settlements, key: RowKey, bookings: &[Booking]) -> Row
     requires { size bookings.now < 2 ^ 63 }
-    ensures { result ≡ sums_of key bookings.now }
+    ensures { result ≡ sums_of settlements.now key bookings.now }
 {
     let owed = owed(bookings);
-    let settled = settled(bookings);
+    let settled = settled(settlements, bookings);
     Row {
         key,
         owed: amount_of(owed),
@@ -95,27 +96,14 @@ fn sums_of(key: RowKey, bookings: &[Booking]) -> Row
 }
 
 /// Returns the row of the bookings of one key, if there are any.
-pub fn row_of(key: RowKey, bookings: &[Booking]) -> Option<Row>
+pub fn row_of(settlements: &Settlements, key: RowKey, bookings: &[Booking]) -> Option<Row>
     requires { size bookings.now < 2 ^ 63 }
-    ensures { option_to_list result ≡ row_of key bookings.now }
+    ensures { option_to_list result ≡ row_of settlements.now key bookings.now }
 {
     match bookings.split_first() {
-        Some(_) => Some(sums_of(key, bookings)),
+        Some(_) => Some(sums_of(settlements, key, bookings)),
         None => None,
     }
-}
-
-pub fn of_period(
-    alloc: Global,
-    bookings: &[Booking],
-    period: u64,
-) -> Result<Vec<Booking>, AllocError>
-    ensures { IfOk result (λ found. found.items ≡ of_period period bookings.now) }
-{
-    let found = bookings.iter().copied();
-    found
-        .filter(|booking| booking.period == period)
-        .collect(alloc)
 }
 
 pub fn of_currency(

@@ -1,81 +1,113 @@
-//! Printing the statements of a house after its last line.
+//! Printing the order of events and the statements of a house after its last line.
 
+ghost use Rattle.std.specs.Prelude.{◌≡◌, IfErr, IfOk, OnOk, flat_map};
+ghost use Rattle.house_statements.specs.Order.{order_text};
+ghost use Rattle.plain_house.specs.Entries.{book_entries};
+ghost use Rattle.plain_house.specs.Legal.{IsLegal};
+ghost use Rattle.plain_house.specs.Obligations.{obligations};
+ghost use Rattle.house_reports.specs.ended_house.Writing.{IsCutOff};
+ghost use Rattle.house_reports.specs.statements.Inner.Stated.{CanBeStated};
+ghost use Rattle.house_reports.specs.statements.StatementsText.{periods_text, section_text, statements_text};
+
+use super::text::statements;
 use crate::ended_house::{EndedHouse, write_text};
 use command_line::Fault;
-use house_statements::{statement_rows, write_order, write_statement};
-use ocpi_types::Party;
-use plain_house::{Event, legal_lists_can_be_netted};
+use house_statements::write_order;
+use netting_positions::parties_of;
+use ocpi_types::{Config, Party};
+use plain_house::{
+    Event, legal_lists_can_be_netted, obligations_in, period_of, split_first_period,
+};
 use request_lines::Sink;
 use std::alloc::{AllocError, Global};
 
-fn statement_of(
+// Returns the statements of a period, of which these are the events.
+fn period_text(
     alloc: Global,
-    ended: &EndedHouse,
-    party: &Party,
+    config: &Config,
+    events: &[Event],
     period: u64,
-) -> Result<Vec<u8>, AllocError> {
-    let config = ended.config();
-    let events = ended.events();
-    config.is_bounded();
-    legal_lists_can_be_netted();
-    let rows = statement_rows(alloc, config, events, period, party)?;
-    write_statement(alloc, rows.as_slice())
+    parties: &[Party],
+) -> Result<Vec<u8>, AllocError>
+    requires { CanBeStated config.now (obligations 0 (book_entries events.now)) }
+    ensures { IfOk result (λ text. text.items ≡ flat_map (section_text (obligations 0 (book_entries events.now)) period) parties.now) }
+{
+    let owed = obligations_in(alloc, events, 0)?;
+    statements(alloc, config, owed.as_slice(), period, parties)
 }
 
-fn print_statement<W: Sink>(
+// Prints the statements of a period, of which these are the events.
+fn print_period<W: Sink>(
     alloc: Global,
     writer: &mut W,
-    ended: &EndedHouse,
-    party: &Party,
+    config: &Config,
+    events: &[Event],
     period: u64,
-) -> Result<(), Fault<'static>> {
-    let head = format!(in alloc; "statement {period} {party}\n")?;
-    let text = statement_of(alloc, ended, party, period)?;
-    write_text(writer, head.as_bytes())?;
+    parties: &[Party],
+) -> Result<(), Fault<'static>>
+    requires { CanBeStated config.now (obligations 0 (book_entries events.now)) }
+    ensures ok { OnOk result (W.writing.takes writer.old (flat_map (section_text (obligations 0 (book_entries events.now)) period) parties.now) writer.new) }
+    ensures err { IfErr result (λ fault. IsCutOff W.writing (flat_map (section_text (obligations 0 (book_entries events.now)) period) parties.now) writer.old writer.new fault) }
+{
+    let text = period_text(alloc, config, events, period, parties)?;
     write_text(writer, text.as_slice())
 }
 
-fn print_operators<W: Sink>(
+// Prints the statements of so many periods.
+fn print_periods<W: Sink>(
     alloc: Global,
     writer: &mut W,
-    ended: &EndedHouse,
-    period: u64,
-) -> Result<(), Fault<'static>> {
-    for operator in ended.config().operators.as_slice() {
-        print_statement(alloc, writer, ended, &operator.party, period)?;
+    config: &Config,
+    events: &[Event],
+    parties: &[Party],
+    periods: u64,
+) -> Result<(), Fault<'static>>
+    requires { IsLegal config.now events.now }
+    ensures ok { OnOk result (W.writing.takes writer.old (periods_text events.now parties.now periods) writer.new) }
+    ensures err { IfErr result (λ fault. IsCutOff W.writing (periods_text events.now parties.now periods) writer.old writer.new fault) }
+{
+    config.is_bounded();
+    legal_lists_can_be_netted();
+    let mut rest = events;
+    for period in 0..periods {
+        let (first, later) = split_first_period(rest);
+        print_period(alloc, writer, config, first, period, parties)?;
+        rest = later;
     }
     Ok(())
 }
 
-// The statements of the providers that are no operators.
-fn print_providers<W: Sink>(
+// Prints the order of events.
+fn print_order<W: Sink>(
     alloc: Global,
     writer: &mut W,
-    ended: &EndedHouse,
-    period: u64,
-) -> Result<(), Fault<'static>> {
-    let config = ended.config();
-    for provider in config.providers.as_slice() {
-        if !config.is_operator(&provider.party) {
-            print_statement(alloc, writer, ended, &provider.party, period)?;
-        }
-    }
-    Ok(())
+    events: &[Event],
+) -> Result<(), Fault<'static>>
+    ensures ok { OnOk result (W.writing.takes writer.old (order_text events.now) writer.new) }
+    ensures err { IfErr result (λ fault. IsCutOff W.writing (order_text events.now) writer.old writer.new fault) }
+{
+    let text = write_order(alloc, events)?;
+    write_text(writer, text.as_slice())
 }
 
 /// Prints the order of events, and for each closed period the statement of each party.
+///
+/// # Errors
+///
+/// `NoMemory` or `CannotWrite`; a beginning of the text is written.
 pub fn print<W: Sink>(
     alloc: Global,
     writer: &mut W,
     ended: &EndedHouse,
-) -> Result<(), Fault<'static>> {
-    let order = write_order(alloc, ended.events())?;
-    write_text(writer, order.as_slice())?;
-    for event in ended.events() {
-        if let Event::Closed { period } = event {
-            print_operators(alloc, writer, ended, *period)?;
-            print_providers(alloc, writer, ended, *period)?;
-        }
-    }
+) -> Result<(), Fault<'static>>
+    ensures ok { OnOk result (W.writing.takes writer.old (statements_text ended.now.config ended.now.events) writer.new) }
+    ensures err { IfErr result (λ fault. IsCutOff W.writing (statements_text ended.now.config ended.now.events) writer.old writer.new fault) }
+{
+    let config = ended.config();
+    let events = ended.events();
+    let parties = parties_of(alloc, config)?;
+    print_order(alloc, writer, events)?;
+    let periods = period_of(events);
+    print_periods(alloc, writer, config, events, parties.as_slice(), periods)?;
     Ok(())
 }

@@ -6,7 +6,7 @@ use Rattle.house_reports.proofs.balances.row.settled.Given as goal
 
 abbrev pub invariant-loop-booking : goal.invariant-loop-booking
 invariant-loop-booking l = record {
-  value : l.total +ℤ settled l.rest ≡ settled l.bookings;
+  value : l.total +ℤ settled l.settlements l.rest ≡ settled l.settlements l.bookings;
   bound : unsigned_abs l.total + size l.rest ≤ size l.bookings;
 }
 
