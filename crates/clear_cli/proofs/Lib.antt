@@ -1,11 +1,7 @@
-pub mod AskedWords
-pub mod CommandWords
 pub mod FileEnds
 pub mod HouseLemmas
 pub mod OpeningLemmas
 pub mod OutputLemmas
-pub mod PlainWalk
-pub mod ProgramWords
 pub mod ReadingLemmas
 pub mod RecordLemmas
 pub mod ReplayLemmas
@@ -13,6 +9,4 @@ pub mod RunLemmas
 pub mod ScheduleLines
 pub mod StepLines
 pub mod ToldLines
-pub mod Turns
-pub mod WordKinds
 pub mod WritingLemmas

@@ -1,5 +1,4 @@
 -- Words that private contracts and proofs alone use.
-pub mod Commands
 pub mod Making
 pub mod ReadingFile
 pub mod RecordLists

@@ -2,7 +2,7 @@
 
 ghost use Rattle.std.specs.Prelude.{◌≡◌, IfErr};
 
-use command_line::{Fault, read_start};
+use command_line::{Fault, file_path, open_given, read_start};
 use std::fs::{self, File, Metadata};
 use std::io::{self, ErrorKind};
 use std::os::unix::fs::MetadataExt;
@@ -50,18 +50,18 @@ fn if_opened<T>(opened: io::Result<T>) -> Result<Option<T>, Fault<'static>>
     }
 }
 
-/// The file of this path, where it can be opened.
+/// The file of this path, or standard input for `-`, where it can be opened.
 pub fn open_file(rt: &HostRuntime, path: &str) -> Result<Option<File>, Fault<'static>>
     ensures { IfErr result (λ fault. fault ≡ Fault.NoMemory) }
 {
-    if_opened(fs::open(rt, path))
+    if_opened(fs::open(rt, file_path(path)))
 }
 
-/// Opens the file of this path and identifies it. `None` if it cannot be opened.
+/// Opens the file of this path, or standard input for `-`, and identifies it. `None` if it cannot be opened.
 pub fn open_known(rt: &HostRuntime, path: &str) -> Result<Option<KnownFile>, Fault<'static>>
     ensures { IfErr result (λ fault. fault ≡ Fault.NoMemory) }
 {
-    match if_opened(fs::open(rt, path))? {
+    match if_opened(fs::open(rt, file_path(path)))? {
         Some(file) => if_opened(known(file)),
         None => Ok(None),
     }
@@ -72,7 +72,7 @@ pub fn read_known_config<'a>(
     rt: &HostRuntime,
     path: &'a str,
 ) -> Result<(Vec<u8>, FileId), Fault<'a>> {
-    let file = command_line::open_file(rt, path)?;
+    let file = open_given(rt, path)?;
     let Some(KnownFile { file, id }) = if_opened(known(file))? else {
         return Err(Fault::CannotRead { path });
     };

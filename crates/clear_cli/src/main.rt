@@ -17,9 +17,10 @@ mod schedule_file;
 mod schedule_text;
 mod script;
 mod step_line;
+mod usage;
 mod words;
 
-use command_line::{Errors, Fault, Output, given_words, read_config, tell};
+use command_line::{Errors, Fault, Output, given_words, open_given, read_config, read_start, tell};
 use files::{FileId, open_file, open_known, read_known_config};
 use out_folder::{OutFolder, refuse_folder};
 use request_lines::Device;
@@ -74,7 +75,7 @@ fn answer_input<'a>(
 
 // Replays the file of a schedule, and returns the exit status.
 fn replay_file<'a>(rt: &HostRuntime, config: &'a str, path: &'a str) -> Result<u8, Fault<'a>> {
-    let file = read_config(rt, config)?;
+    let file = read_start(rt.alloc(), open_given(rt, config)?, config)?;
     let reader = match open_file(rt, path)? {
         Some(opened) => Some(Device::new(opened)),
         None => None,
@@ -170,7 +171,7 @@ fn perform<'a>(
             folder,
             files,
         } => answer_files(rt, threads, config, folder, files.as_slice())?,
-        Job::Report { words } => return reports::perform(rt, threads, words),
+        Job::Report { words } => return Ok(reports::perform(rt, threads, words)?),
         Job::Help { command } => print_text(rt, help::help(rt.alloc(), command)?.as_str())?,
         Job::Version => print_text(rt, help::version(rt.alloc())?.as_str())?,
     };
@@ -190,8 +191,8 @@ fn main(rt: HostRuntime) -> ExitCode {
     match perform(&rt, &rt, words.as_slice()) {
         Ok(status) => status,
         Err(fault) => {
-            if fault == Fault::Usage {
-                let _ = help::hint(&rt, words.as_slice().get(1).map(|name| name.as_str()));
+            if matches!(fault, Fault::Usage) {
+                let _ = usage::explain(&rt, words.as_slice());
             }
             told(&rt, &fault)
         }

@@ -1,13 +1,17 @@
 //! Commands that tell of a configuration, of CDRs, or of a house after its lines, and those over a store, beside those by which a house
 //! answers.
 
-use crate::help::VERSION;
-use command_line::{Fault, only_word};
+use crate::help::{VERSION, options_of};
+use command_line::{
+    Arguments, CommandOption, Fault, Input, Progress, Watched, file_path, read_file_start,
+    tell_unread_file,
+};
 use house_reports::Lines;
 use input_reports::{Records, print_amount, print_explanation, tell_config};
 use ocpi_types::Zone;
 use re_rating::re_rate;
 use request_lines::Device;
+use std::cell::Cell;
 use std::io::{self, ErrorKind};
 use std::process::ExitCode;
 use std::thread::Threads;
@@ -34,8 +38,8 @@ impl Costs {
     fn of(name: &str) -> Option<Costs> {
         match name {
             "rate" => Some(Costs::Rate),
-            "explain_cost" => Some(Costs::ExplainCost),
-            "re_rate" => Some(Costs::ReRate),
+            "explain_cost" | "explain-cost" => Some(Costs::ExplainCost),
+            "re_rate" | "re-rate" => Some(Costs::ReRate),
             _ => None,
         }
     }
@@ -44,7 +48,7 @@ impl Costs {
 impl Report {
     // What the command of this name is to tell.
     fn of(name: &str) -> Option<Report> {
-        if name == "check_config" {
+        if matches!(name, "check_config" | "check-config") {
             return Some(Report::CheckConfig);
         }
         if let Some(costs) = Costs::of(name) {
@@ -82,73 +86,107 @@ fn tell_costs(
 }
 
 // Reports of the house of the store at this path.
-fn report_store<'a>(
+fn report_store(
     rt: &HostRuntime,
     command: house_reports::Command,
-    options: &[String],
-    store: &'a str,
-) -> Result<ExitCode, Fault<'a>> {
+    arguments: &Arguments<'_>,
+    store: &str,
+) -> Result<ExitCode, Fault<'static>> {
+    let mut progress = Progress::of(rt, arguments)?;
     let (text, config) = match StoreText::open(rt, store) {
         Ok(opened) => opened,
         Err(fault) => return Ok(ExitCode::from(tell_unread(rt, false, store, fault))),
     };
+    if let Ok(bytes) = text.file_bytes() {
+        progress.expect(bytes);
+    }
     let config = config.as_slice();
-    let mut reader = Device::new(text);
-    let done = command.done(rt, options, Lines::Stream { config }, &mut reader);
-    match reader.inner.unread() {
+    let mut reader = Device::new(Watched::new(text, progress));
+    let done = command.done(rt, arguments, Lines::Stream { config }, &mut reader);
+    match reader.inner.inner.unread() {
         Some(fault) => Ok(ExitCode::from(tell_unread(rt, false, store, fault))),
         None => done,
     }
 }
 
-// Reports of a house after the lines of standard input, or of the store that the last two words name.
-fn report_house<'a>(
+// Reports of a house after the lines of standard input.
+fn report_input(
     rt: &HostRuntime,
     command: house_reports::Command,
-    words: &'a [String],
-) -> Result<ExitCode, Fault<'a>> {
-    match words {
-        [_, options @ .., option, store] if option.as_str() == "--store" => {
-            report_store(rt, command, options, store.as_str())
+    arguments: &Arguments<'_>,
+    path: &str,
+) -> Result<ExitCode, Fault<'static>> {
+    let progress = Progress::of(rt, arguments)?;
+    let config = match read_file_start(rt, path) {
+        Ok(config) => config,
+        Err(cause) => return Ok(ExitCode::from(tell_unread_file(rt, path, cause))),
+    };
+    let unread = Cell::new(None);
+    let mut reader = Device::new(Input::watched(rt.stdin(), &unread, progress));
+    let config = config.as_slice();
+    let done = command.done(rt, arguments, Lines::Script { config }, &mut reader);
+    match (done, unread.get()) {
+        (Err(Fault::CannotReadInput), Some(cause)) => {
+            Ok(ExitCode::from(tell_unread_file(rt, "-", cause)))
         }
-        [_, config, options @ ..] => {
-            let config = config.as_str();
-            let lines = Lines::Script { config };
-            command.done(rt, options, lines, &mut Device::new(rt.stdin()))
-        }
+        (done, _) => done,
+    }
+}
+
+// Reports of a house after the lines of standard input, or of a store.
+fn report_house(
+    rt: &HostRuntime,
+    command: house_reports::Command,
+    arguments: &Arguments<'_>,
+) -> Result<ExitCode, Fault<'static>> {
+    match (arguments.words(), arguments.value_of(CommandOption::Store)) {
+        ([], Some(store)) => report_store(rt, command, arguments, store),
+        ([config], None) => report_input(rt, command, arguments, *config),
         _ => Err(Fault::Usage),
     }
 }
 
-// Reports of the configuration at this path, and whether the hub of a store could change to it, if the last two words name one.
-fn report_config<'a>(rt: &HostRuntime, words: &'a [String]) -> Result<ExitCode, Fault<'a>> {
-    let [first @ .., option, store] = words else {
-        return tell_config(rt, words);
+// Reports of the configuration at a path, and whether the hub of a store could change to it, if one is given.
+fn report_config(rt: &HostRuntime, arguments: &Arguments<'_>) -> Result<ExitCode, Fault<'static>> {
+    let [config] = arguments.words() else {
+        return Err(Fault::Usage);
     };
-    if option.as_str() != "--store" {
-        return tell_config(rt, words);
-    }
-    let of_config = tell_config(rt, first)?;
+    let bytes = match read_file_start(rt, file_path(*config)) {
+        Ok(bytes) => bytes,
+        Err(cause) => return Ok(ExitCode::from(tell_unread_file(rt, *config, cause))),
+    };
+    let of_config = tell_config(rt, bytes.as_slice())?;
+    let Some(store) = arguments.value_of(CommandOption::Store) else {
+        return Ok(of_config);
+    };
     if of_config == ExitCode::from(1) {
         return Ok(of_config);
     }
-    match check_change(rt, only_word(first)?, store.as_str())? {
+    match check_change(rt, bytes.as_slice(), store)? {
         0 => Ok(of_config),
         status => Ok(ExitCode::from(status)),
     }
 }
 
+// Returns the zone of the words, the command's name first.
+fn zone_of(words: &[String]) -> Option<Zone> {
+    match words {
+        [_, zone] => Zone::read(zone.as_str()),
+        [_, end, zone] if end.as_str() == "--" => Zone::read(zone.as_str()),
+        _ => None,
+    }
+}
+
 // Reports the error, unless the reader of the output has gone, and returns the exit status.
 fn told(rt: &HostRuntime, done: io::Result<u8>) -> ExitCode {
-    let fault = match done {
+    let _ = match done {
         Ok(status) => return ExitCode::from(status),
         Err(error) => match error.kind() {
             ErrorKind::BrokenPipe => return ExitCode::from(1),
-            ErrorKind::OutOfMemory => "no memory",
-            _ => "cannot read or write",
+            ErrorKind::OutOfMemory => eprintln!(rt; "clear: no memory"),
+            _ => eprintln!(rt; "clear: cannot read or write: {error}"),
         },
     };
-    let _ = eprintln!(rt; "clear: {fault}");
     ExitCode::from(1)
 }
 
@@ -157,19 +195,29 @@ fn told(rt: &HostRuntime, done: io::Result<u8>) -> ExitCode {
 /// # Errors
 ///
 /// The fault that ends the report early. If the reader of the output has gone, the error is not reported: the status is returned.
-pub fn perform<'a>(
+pub fn perform(
     rt: &HostRuntime,
     threads: &(impl Threads + Sync),
-    words: &'a [String],
-) -> Result<ExitCode, Fault<'a>> {
-    match words.first().and_then(|name| Report::of(name.as_str())) {
-        Some(Report::CheckConfig) => report_config(rt, words),
-        Some(Report::House(command)) => report_house(rt, command, words),
-        Some(Report::Store(command)) => command.done(rt, VERSION, words),
-        Some(Report::Costs(costs)) => match only_word(words).ok().and_then(Zone::read) {
+    words: &[String],
+) -> Result<ExitCode, Fault<'static>> {
+    let [name, behind @ ..] = words else {
+        return Err(Fault::Usage);
+    };
+    let Some(report) = Report::of(name.as_str()) else {
+        return Err(Fault::Usage);
+    };
+    if let Report::Costs(costs) = report {
+        return match zone_of(words) {
             Some(zone) => Ok(told(rt, tell_costs(rt, threads, costs, &zone))),
             None => Err(Fault::Usage),
-        },
-        None => Err(Fault::Usage),
+        };
+    }
+    let options = options_of(rt.alloc(), name.as_str())?;
+    let arguments = Arguments::read(rt.alloc(), options.as_slice(), behind)?;
+    match report {
+        Report::CheckConfig => report_config(rt, &arguments),
+        Report::House(command) => report_house(rt, command, &arguments),
+        Report::Store(command) => command.done(rt, VERSION, &arguments),
+        Report::Costs(_) => Err(Fault::Usage),
     }
 }
