@@ -10,6 +10,10 @@ from clear_service.json_text import object_of
 
 BEGINNING = b'{"status_code":1000,"answer":"'
 
+# The last member of the answer that `clear keep --causes` and `clear stream --causes` write of a refusal 1 to 12. These bytes are in no
+# other answer: a quote inside a string has a backslash before it.
+CAUSE = b',"cause":{'
+
 
 @dataclass(frozen=True)
 class RefusalStatus:
@@ -61,6 +65,12 @@ REFUSALS = tuple(
 BY_NUMBER = {row.number: row for row in REFUSALS}
 
 
+def without_cause(line: bytes) -> bytes:
+    """The answer line as docs/FORMATS.md has it, without the cause of a refusal."""
+    place = line.find(CAUSE)
+    return line if place < 0 else line[:place] + b"}"
+
+
 def name_of(line: bytes) -> str:
     """The name of the answer or the refusal on the line."""
     return line.split(b'"', NAME + 1)[NAME].decode()
@@ -83,7 +93,7 @@ def number_of(part: bytes) -> int:
 
 @dataclass(frozen=True)
 class Answer:
-    """An answer line without its newline."""
+    """An answer line without its newline; that of a refusal may have a cause."""
 
     line: bytes
 
@@ -118,10 +128,37 @@ class Answer:
         return self.refusal.clearing_http if self.is_refusal else 200
 
     @property
+    def plain(self) -> bytes:
+        """The answer line without a cause."""
+        return without_cause(self.line)
+
+    @property
     def message(self) -> str:
-        """The refusal's name with its own values, as `OverLimit: exposure 30.2500, limit 30.0000`."""
-        values = [f"{name} {value}" for name, value in self.members.items() if name not in PLAIN]
-        return self.name + (": " + ", ".join(values) if values else "")
+        """The refusal's name with its own values and its cause.
+
+        As `OverLimit: exposure 30.2500, limit 30.0000`, or
+        `Field: token.valid: of a wrong kind or out of bounds, found null, expected true or false`.
+        """
+        cause = self.members.get("cause", {})
+        own = [name for name in self.members if name not in PLAIN and (name != "field" or not cause)]
+        parts = [", ".join(f"{name} {self.members[name]}" for name in own), cause_text(cause)]
+        said = "; ".join(part for part in parts if part)
+        return f"{self.name}: {said}" if said else self.name
 
 
-PLAIN = ("status_code", "refusal", "number", "at")
+PLAIN = ("status_code", "refusal", "number", "at", "cause")
+
+
+def cause_text(cause: dict[str, str]) -> str:
+    """The cause of a refusal: the member, what is wrong with it, what it has, and what it is compared with.
+
+    A column is one of the line that the service has made, so it is left out.
+    """
+    place = cause.get("place", "")
+    head = ("" if not place or place.startswith("column ") else f"{place}: ") + cause.get("cause", "")
+    values = [
+        f"{text} {cause[name]}"
+        for name, text in (("found", "found"), ("against", "expected"))
+        if name in cause
+    ]
+    return ", ".join([head, *values])

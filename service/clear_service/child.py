@@ -11,9 +11,10 @@ from asyncio import StreamWriter
 from asyncio.streams import FlowControlMixin
 from asyncio.subprocess import PIPE, Process
 from collections import deque
-from collections.abc import AsyncIterator, Sequence
+from collections.abc import AsyncIterator, Callable, Sequence
 
 PIECE = 1 << 18
+OPTIONS = ("--causes", "--progress=json")  # of `keep` and `stream`, as far as a program has them
 PIPE_BYTES = 1 << 20  # as many as the program takes at once, so that few syncs are for many lines
 
 
@@ -21,11 +22,33 @@ class ChildEnded(Exception):
     """The child ended or closed its output."""
 
 
-class Child:
-    """A started process. Its standard error is read all the time, and its last lines are kept."""
+class PipeEnd:
+    """The end of a pipe to which a loop writes.
 
-    def __init__(self, process: Process, writer: StreamWriter) -> None:
+    uvloop closes the descriptor and then this object. A second `close` of the number would be that of a file which another thread has
+    opened in the meantime, so there is none.
+    """
+
+    def __init__(self, descriptor: int, loop: asyncio.AbstractEventLoop) -> None:
+        self._descriptor = descriptor
+        self._is_closed_by_loop = type(loop).__module__.startswith("uvloop")
+
+    def fileno(self) -> int:
+        """The descriptor."""
+        return self._descriptor
+
+    def close(self) -> None:
+        """Closes the descriptor, if the loop has not."""
+        if not self._is_closed_by_loop:
+            os.close(self._descriptor)
+
+
+class Child:
+    """A started process. Its standard error is read all the time. Its last lines are kept, but for those that `takes` takes."""
+
+    def __init__(self, process: Process, writer: StreamWriter, takes: Callable[[bytes], bool]) -> None:
         assert process.stdout is not None and process.stderr is not None
+        self._takes = takes
         self._process, self._input = process, writer
         self._output, self._errors = process.stdout, process.stderr
         self._rest = b""
@@ -33,7 +56,7 @@ class Child:
         self._listener = asyncio.create_task(self._listen())
 
     @classmethod
-    async def start(cls, words: Sequence[str]) -> Child:
+    async def start(cls, words: Sequence[str], takes: Callable[[bytes], bool] = lambda line: False) -> Child:
         """Starts the program. Raises OSError."""
         reading, writing = os.pipe()
         with contextlib.suppress(OSError):
@@ -46,8 +69,8 @@ class Child:
         finally:
             os.close(reading)
         loop = asyncio.get_running_loop()
-        transport, protocol = await loop.connect_write_pipe(FlowControlMixin, open(writing, "wb", 0))
-        return cls(process, StreamWriter(transport, protocol, None, loop))
+        transport, protocol = await loop.connect_write_pipe(FlowControlMixin, PipeEnd(writing, loop))
+        return cls(process, StreamWriter(transport, protocol, None, loop), takes)
 
     @property
     def pid(self) -> int:
@@ -56,7 +79,8 @@ class Child:
 
     async def _listen(self) -> None:
         while line := await self._errors.readline():
-            self._said.append(line.decode(errors="replace").strip()[:500])
+            if not self._takes(line):
+                self._said.append(line.decode(errors="replace").strip()[:500])
 
     async def write(self, text: bytes) -> None:
         """Writes lines, each with its newline. Raises ChildEnded."""
@@ -116,8 +140,10 @@ class Child:
             self._process.kill()
 
 
-async def output_of(words: Sequence[str], given: bytes = b"", seconds: float = 600) -> tuple[int, bytes, str]:
-    """Runs a program to its end: its status, output, and what it wrote on standard error. It is killed after so long."""
+async def output_of(
+    words: Sequence[str], given: bytes = b"", seconds: float | None = 600
+) -> tuple[int, bytes, str]:
+    """Runs a program to its end: its status, output, and what it wrote on standard error. It is killed after so long, if there is a limit."""
     with tempfile.TemporaryFile() as file:
         file.write(given)
         file.seek(0)
@@ -130,3 +156,23 @@ async def output_of(words: Sequence[str], given: bytes = b"", seconds: float = 6
             process.kill()
         raise
     return process.returncode or 0, out, err.decode(errors="replace").strip()
+
+
+async def options_of(program: str, command: str) -> list[str]:
+    """Those of the service's options that the command of this program has. Raises OSError."""
+    _, out, _ = await output_of([program, command, "--help"], seconds=10)
+    return options_in(out.decode(errors="replace"))
+
+
+def options_in(help_text: str) -> list[str]:
+    """Those of the service's options that are in the help of a command."""
+    return [option for option in OPTIONS if option.partition("=")[0] in help_text]
+
+
+async def version_of(program: str) -> str:
+    """What the program says of its version; nothing if it cannot be run."""
+    try:
+        _, out, _ = await output_of([program, "--version"], seconds=10)
+    except OSError:
+        return ""
+    return out.decode(errors="replace").strip()

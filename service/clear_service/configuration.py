@@ -2,6 +2,8 @@
 
 from __future__ import annotations
 
+from collections.abc import Iterator
+from functools import cached_property
 from typing import Any, NamedTuple
 
 from clear_service.lines import folded
@@ -17,7 +19,20 @@ def ten_thousandths(amount: str) -> int:
     return int(amount.replace(".", ""))
 
 
+LARGEST_COUNTS = {"cdrs": 100_000, "tariffs": 10_000, "entries": 10_000_000}  # docs/FORMATS.md, section 2
 SMALLEST_HOLD = written(1)  # the hold of a provider without a row for the currency
+
+
+def differences(given: object, found: object, path: str = "") -> Iterator[str]:
+    """The paths of the members in which two configurations differ, in their order."""
+    if isinstance(given, dict) and isinstance(found, dict):
+        for name in {**given, **found}:
+            yield from differences(given.get(name), found.get(name), f"{path}.{name}" if path else name)
+    elif isinstance(given, list) and isinstance(found, list) and len(given) == len(found):
+        for nth, (one, other) in enumerate(zip(given, found)):
+            yield from differences(one, other, f"{path}[{nth}]")
+    elif given != found:
+        yield path
 
 
 class Party(NamedTuple):
@@ -47,6 +62,7 @@ class Configuration:
     """
 
     def __init__(self, members: dict[str, Any]) -> None:
+        self.members = members
         self.currencies: list[str] = members["currencies"]
         self.operators = {folded(item["party"]): item["party"] for item in members["operators"]}
         self.providers = {folded(item["party"]): item["party"] for item in members["providers"]}
@@ -88,6 +104,20 @@ class Configuration:
         """The operators for which the platform acts, as configured and in that order."""
         parties = self.parties_of(platform)
         return [party for key, party in self.operators.items() if key in parties]
+
+    @property
+    def platforms(self) -> list[str]:
+        """The names of the platforms."""
+        return [str(item["name"]) for item in self._platforms.values()]
+
+    def count_limit(self, name: str) -> int:
+        """The limit of a count of the house, by the member of `limits`."""
+        return int((self.members.get("limits") or {}).get(name) or LARGEST_COUNTS[name])
+
+    @cached_property
+    def places(self) -> dict[str, int]:
+        """The folded parties by their place: the operators in the order of the configuration, and then the providers."""
+        return {party: nth for nth, party in enumerate([*self.operators, *self.providers])}
 
     def spelled(self, party: str) -> str | None:
         """The party as answers write it, or None if it is not configured."""

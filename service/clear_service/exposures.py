@@ -9,8 +9,6 @@ from collections import Counter
 from collections.abc import Iterator
 from dataclasses import dataclass
 
-from clear_service.configuration import ten_thousandths
-from clear_service.lines import folded
 from clear_service.registers import Registers
 
 
@@ -30,10 +28,7 @@ def exposures(registers: Registers) -> Iterator[Exposure]:
     if registers.configuration is None:
         return
     configuration = registers.configuration
-    debts = registers.owed.debts()
-    holds: Counter[tuple[str, str]] = Counter()
-    for hold in registers.holds.values():
-        holds[folded(hold.provider), hold.currency] += ten_thousandths(hold.amount)
+    debts, holds = Counter(registers.owed.debts), Counter(registers.held)
     for key in sorted({*debts, *holds, *configuration.limits}):
         provider, currency = key
         limit = configuration.limits.get(key, 0)

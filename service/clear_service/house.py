@@ -3,18 +3,33 @@
 from __future__ import annotations
 
 import asyncio
+import hashlib
+import json
+import logging
 import time
-from collections.abc import Sequence
+from collections.abc import Callable, Sequence
 from dataclasses import dataclass, field
+from functools import cached_property
+from itertools import islice
+from pathlib import Path
 
 from clear_service.answers import Answer
-from clear_service.configuration import Configuration
-from clear_service.engine import Engine, Unavailable
+from clear_service.configuration import Configuration, differences
+from clear_service.engine import Engine
 from clear_service.json_text import text_of
-from clear_service.lines import folded, request_line
-from clear_service.registers import Hold, Registers
+from clear_service.lines import RELEASED_BY, folded, request_line
+from clear_service.pace import Pace
+from clear_service.registers import Hold, HubRelease, Registers
+from clear_service.rows import Reads
 from clear_service.senders import Sender
 from clear_service.settings import Settings
+from clear_service.shares import Shares
+from clear_service.waiting import Unavailable
+
+
+log = logging.getLogger("clear_service")
+
+DIFFERENCES = 5  # members of a configuration that are named
 
 
 @dataclass
@@ -24,11 +39,15 @@ class House:
     engine: Engine
     registers: Registers
     settings: Settings
+    shares: Shares
+    pace: Pace = field(default_factory=Pace)
+    reads: Reads = field(default_factory=Reads)
     began: float = field(default_factory=time.time)
+    config_differs: list[str] = field(default_factory=list)
+    more_warnings: list[Callable[[], list[str]]] = field(default_factory=list)
+    _changing: dict[str, asyncio.Lock] = field(default_factory=dict)
     _statements: dict[tuple[int, str], tuple[int, Answer]] = field(default_factory=dict)
     _exposures: dict[tuple[str, str], tuple[tuple[int, int], Answer]] = field(default_factory=dict)
-    _balances: tuple[int, bytes] = (-1, b"")
-    _balancing: asyncio.Lock = field(default_factory=asyncio.Lock)
 
     @property
     def configuration(self) -> Configuration:
@@ -36,6 +55,10 @@ class House:
         if not self.registers.are_complete:
             raise Unavailable("the house is starting")
         return self.registers.in_force
+
+    def changing(self, party: str) -> asyncio.Lock:
+        """One change at a time of an object that was read before, among those of a folded party."""
+        return self._changing.setdefault(party, asyncio.Lock())
 
     async def ask(
         self, platform: str, do: str, members: Sequence[tuple[str, bytes]], request_id: str | None = None
@@ -96,21 +119,74 @@ class House:
             self._exposures[key] = (state, answer)
         return answer
 
-    async def balances(self) -> bytes:
-        """The output of `clear balances` over all lines so far. One call at a time runs the program."""
-        async with self._balancing:
-            lines = self.registers.lines
-            if self._balances[0] != lines:
-                self._balances = (lines, await self.engine.balances())
-            return self._balances[1]
+    def warnings(self) -> list[str]:
+        """What somebody should look at: counts near their limits, tokens near their quotas, peers that cannot be called."""
+        near = [
+            f"{party} has {count} of {limit} {name}"
+            for name, party, count, limit in self.registers.near_limits()
+        ]
+        more = [warning for warnings in self.more_warnings for warning in warnings()]
+        return [*near, *self.shares.quotas.warnings(), *more]
 
-    async def release(self, holds: Sequence[Hold]) -> list[Answer]:
-        """Releases holds, each by a platform that acts for its operator."""
-        lines = []
-        for hold in holds:
-            platform = self.configuration.platform_for(hold.operator) or ""
-            names = ("operator", "provider", "reference")
-            lines.append(
-                request_line(platform, "release", [(name, text_of(getattr(hold, name))) for name in names])
+    @cached_property
+    def _given(self) -> object:
+        return json.loads(Path(self.settings.config).read_text(encoding="utf-8"))
+
+    def differing(self, configuration: Configuration) -> list[str]:
+        """The first members in which the file CONFIG is not this configuration."""
+        try:
+            return list(islice(differences(self._given, configuration.members), DIFFERENCES))
+        except (OSError, ValueError) as error:
+            return [f"CONFIG cannot be read: {error}"]
+
+    def compare(self, configuration: Configuration) -> None:
+        """Warns if the file CONFIG is not the configuration that is in force from now on."""
+        self.config_differs = self.differing(configuration)
+        if self.config_differs:
+            config = self.settings.config
+            log.warning(
+                "%s is not the configuration in force, first in %s; a hub applies it by the line that `clear configure %s HUB` prints",
+                config,
+                ", ".join(self.config_differs),
+                config,
             )
+
+    def released(self, sender: Sender, request_id: str | None) -> Sequence[HubRelease]:
+        """What was released for the hub under this request id."""
+        if request_id is None:
+            return ()
+        return self.registers.hub_releases.get((folded(sender.platform), request_id), ())
+
+    def release_of(self, hold: Hold) -> HubRelease:
+        """The release of a hold by a platform that acts for its operator."""
+        platform = self.configuration.platform_for(hold.operator) or ""
+        return HubRelease(platform, hold.operator, hold.provider, hold.reference)
+
+    async def release(
+        self,
+        sender: Sender,
+        request_id: str | None,
+        releases: Sequence[HubRelease],
+        one_of_many: bool = False,
+    ) -> list[Answer]:
+        """Releases holds for a hub. Each line says for which one, and has a request id that is made of the hub's.
+
+        Of several lines of a request each has an id of its own.
+        """
+        by: dict[str, str] = {"platform": sender.platform}
+        if request_id is not None:
+            by["request_id"] = request_id
+        lines = []
+        for each in releases:
+            line_id = None
+            if request_id is not None:
+                line_id = hub_id(folded(sender.platform), request_id, *[each.reference][: int(one_of_many)])
+            members = [(name, text_of(getattr(each, name))) for name in HubRelease.NAMES]
+            members.append((RELEASED_BY, text_of(by)))
+            lines.append(request_line(each.platform, "release", members, line_id))
         return [Answer(line) for line in await self.answers(lines)]
+
+
+def hub_id(*parts: str) -> str:
+    """The request id of a line that the service sends by another platform for a hub: that platform's own ids are others."""
+    return "hub-" + hashlib.sha256("\n".join(parts).encode()).hexdigest()[:40]

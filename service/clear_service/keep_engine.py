@@ -1,8 +1,11 @@
 """The engine over a child `clear keep`, with a durable store in a folder.
 
 Lines are pipelined to the child, and one task reads the answers in their order. The child syncs all lines that it has
-read before it writes their answers. When it ends, what waits is unavailable, and it is started again after a pause. A
-child that answers nothing though lines wait is killed.
+read before it writes their answers. When it ends, what waits is unavailable, and it is started again after a pause. It is
+not started if `clear check` refuses the store, or if the store is not the one that was opened first.
+
+A child first answers the kept lines again, which takes as long as it takes. From then on, a child that answers nothing
+though lines wait is killed.
 """
 
 from __future__ import annotations
@@ -14,24 +17,27 @@ import logging
 import time
 from collections.abc import Sequence
 
-from clear_service.child import Child, ChildEnded, output_of
-from clear_service.engine import EngineState, Unavailable, Waiting
+from clear_service.child import Child, ChildEnded, options_of, output_of, version_of
+from clear_service.engine import EngineState
 from clear_service.lines import may_take_long
 from clear_service.registers import Registers
 from clear_service.settings import Settings
+from clear_service.shares import Shares
 from clear_service.store_file import StoreError, StoreFile, TimeMarks
+from clear_service.waiting import Unavailable, Waiting, Window
 
 log = logging.getLogger("clear_service")
 
 FIRST_PAUSE = 0.1
 STEADY = 10.0  # seconds after which a child counts as one that runs
-WATCH = 0.25  # seconds between two looks at whether the child answers
+WATCH = 0.25  # seconds between two looks at the store and at whether the child answers
+WINDOW = Window(1_024, 1 << 20, 64, 1 << 16)
 
 
 class KeepEngine:
     """One child `clear keep` at a time."""
 
-    def __init__(self, settings: Settings, registers: Registers) -> None:
+    def __init__(self, settings: Settings, registers: Registers, shares: Shares) -> None:
         self._settings = settings
         self._registers = registers
         self._store = StoreFile(settings.store)
@@ -39,7 +45,7 @@ class KeepEngine:
         self._runner: asyncio.Task[None] | None = None
         self._child: Child | None = None
         self._stopping = False
-        self.waiting = Waiting(settings.queue_lines, settings.queue_bytes)
+        self.waiting = Waiting(shares, WINDOW)
         self.state = EngineState("keep")
 
     async def start(self) -> None:
@@ -60,18 +66,22 @@ class KeepEngine:
         self._store.close()
         self._times.close()
 
-    async def line(self, number: int) -> bytes:
-        """The answered line of this number, from 1."""
-        return self._store.line(number)
+    @property
+    def is_ready(self) -> bool:
+        """Whether the child answers."""
+        return self.waiting.is_answered
 
-    async def balances(self) -> bytes:
-        """The output of `clear balances` over the store."""
-        status, out, err = await output_of(
-            [self._settings.program, "balances", "--store", self._settings.store]
-        )
-        if status != 0:
-            raise Unavailable(f"balances: {err}")
-        return out
+    @property
+    def store_bytes(self) -> int:
+        """The bytes of the answered lines in the store."""
+        return self._store.size
+
+    async def line(self, number: int) -> bytes:
+        """The answered line of this number, from 1. Raises Unavailable."""
+        try:
+            return self._store.line(number)
+        except StoreError as error:
+            raise Unavailable(str(error)) from None
 
     async def _run(self) -> None:
         pause = FIRST_PAUSE
@@ -84,7 +94,6 @@ class KeepEngine:
             except Exception as error:
                 log.exception("the engine failed")
                 self.state.last_end = repr(error)
-            self.state.ready = False
             self.waiting.close("the house is starting again")
             if self._stopping:
                 return
@@ -97,50 +106,67 @@ class KeepEngine:
             await asyncio.sleep(pause)
 
     async def _run_child(self) -> None:
-        child = await Child.start(await self._words())
+        await self._check_store()
+        answered = len(self._store)
+        first = str(max(answered - 1, 0))
+        options = await options_of(self._settings.program, "keep")
+        words = [self._settings.program, "keep", self._settings.store, "--from", first, *options]
+        child = await Child.start(words, self._progressed)
         self._child = child
         try:
-            kept = json.loads(await child.first_line())["kept"]
+            self.state.kept = int(json.loads(await child.first_line())["kept"])
+            self.state.replayed = 0
             self.state.starts += 1
             self.state.details = {"pid": child.pid}
-            await self._answer(child, int(kept))
+            await self._answer(child, answered)
         finally:
             child.kill()
             await child.stop(1)
             self._child = None
 
-    async def _words(self) -> list[str]:
-        """The child's command line. A store that is there goes on under its own configuration."""
-        settings = self._settings
-        status, out, _ = await output_of([settings.program, "check", settings.store])
-        if status != 0:
-            return [
-                settings.program,
-                "keep",
-                settings.config,
-                settings.store,
-                "--from",
-                str(len(self._store)),
-            ]
-        self.state.torn = bool(json.loads(out)["torn"])
-        return [settings.program, "keep", settings.store, "--from", str(len(self._store))]
+    def _progressed(self, line: bytes) -> bool:
+        """Whether the line on standard error says how far the child is; the state has it then."""
+        if not line.startswith(b'{"progress":'):
+            return False
+        progress = json.loads(line)
+        if progress["progress"] == "answered" and not self.is_ready:
+            self.state.replayed = max(self.state.replayed, progress["lines"])
+        return True
 
-    async def _answer(self, child: Child, kept: int) -> None:
-        """First the answers to the kept lines that are not in the registers, then those to new lines."""
+    async def _check_store(self) -> None:
+        """The store has to be there, whole, and the one that was opened first. Raises StoreError."""
+        self._store.check_in_place()
+        status, out, err = await output_of(
+            [self._settings.program, "check", self._settings.store], seconds=None
+        )
+        if status != 0:
+            raise StoreError(err or f"`check` of the store ended with status {status}")
+        self.state.version = await version_of(self._settings.program)
+        self.state.torn = bool(json.loads(out)["torn"])
+
+    async def _answer(self, child: Child, answered: int) -> None:
+        """First the answers to kept lines, then those to new ones.
+
+        The child writes the first answer when it has replayed the lines before it. So it is asked for that to the last answered line
+        again, which is known already.
+        """
+        kept = self.state.kept
         self._store.open()
         self._times.open()
-        if not len(self._store):
+        if not answered:
             self._registers.begin(self._store.record["config"])
-        if kept < len(self._store):
-            raise StoreError(f"the store keeps {kept} lines, and {len(self._store)} were answered")
+        if kept < answered:
+            raise StoreError(f"the store keeps {kept} lines, and {answered} were answered")
+        known = min(answered, 1)
         tasks: list[asyncio.Task[None]] = []
         try:
-            if kept == len(self._store):
+            if not kept:
                 tasks = self._open(child)
             async for answers in child.pieces():
+                answers, known = answers[known:], max(0, known - len(answers))
                 to_kept = answers[: max(0, kept - len(self._store))]
                 self._follow(to_kept)
-                if not tasks and kept == len(self._store):
+                if not tasks and kept == len(self._store) and not known:
                     tasks = self._open(child)
                 self._settle(answers[len(to_kept) :])
                 await asyncio.sleep(0)
@@ -150,20 +176,22 @@ class KeepEngine:
 
     def _open(self, child: Child) -> list[asyncio.Task[None]]:
         """Takes requests from now on; the tasks that write lines to the child and watch it."""
-        self._registers.are_complete = True
+        self._registers.complete()
+        self.state.replayed = self.state.kept
         self.waiting.open()
-        self.state.ready = True
         return [asyncio.create_task(self._write(child)), asyncio.create_task(self._watch(child))]
 
     def _follow(self, answers: Sequence[bytes]) -> None:
         """Answers to kept lines, which the registers do not have yet."""
         for number, answer in enumerate(answers, len(self._store) + 1):
             self._registers.fold(number, self._store.read_next(), answer, self._times.of(number))
+        self.state.replayed = len(self._store)
 
     def _settle(self, answers: Sequence[bytes]) -> None:
         """Answers to new lines."""
         if not answers:
             return
+        self._store.check_in_place()
         lines = self.waiting.next_lines(len(answers))
         first = self._store.passed(lines)
         answered = self._times.mark(first)
@@ -174,17 +202,26 @@ class KeepEngine:
     async def _write(self, child: Child) -> None:
         with contextlib.suppress(ChildEnded):
             while True:
-                await child.write(b"".join([batch.text for batch in await self.waiting.take()]))
+                await child.write(b"\n".join([*await self.waiting.take(), b""]))
 
     async def _watch(self, child: Child) -> None:
-        """Kills the child if it answers nothing though lines wait."""
-        seconds = self._settings.answer_seconds
+        """Kills the child if its store is gone, or if it answers nothing though lines wait."""
         while True:
             await asyncio.sleep(WATCH)
-            line = self.waiting.stuck_line(seconds)
-            if line is not None and not may_take_long(line):
+            try:
+                self._store.check_in_place()
+            except StoreError as error:
+                self.waiting.close(str(error))
+                child.kill(str(error))
+                return
+            if self._hangs():
                 # A service that was paused itself first reads what the child has answered.
                 await asyncio.sleep(WATCH)
-                if self.waiting.stuck_line(seconds) is not None:
+                if self._hangs():
+                    seconds = self._settings.answer_seconds
                     child.kill(f"it answered nothing for {seconds} seconds and was killed")
                     return
+
+    def _hangs(self) -> bool:
+        line = self.waiting.stuck_line(self._settings.answer_seconds)
+        return line is not None and not may_take_long(line)

@@ -12,6 +12,8 @@ from clear_service.json_text import NotJson, object_of, text_of
 from clear_service.settings import LONGEST_LINE
 
 
+PIECE = 1 << 17  # bytes of a body that are read together
+RELEASED_BY = "released_by"  # the member of a line by which the service releases a hold for a hub; no sender may write it
 COMMAND = re.compile(rb'"do"\s*:\s*"([a-z_]{1,20})"')
 COMMANDS = {
     name.encode(): name
@@ -19,9 +21,9 @@ COMMANDS = {
 }
 
 # What begins a small letter from a to z that is written as an escape of JSON.
-ESCAPED = (b"\\u006", b"\\u007")
+ESCAPED = (b"\\u005", b"\\u006", b"\\u007")
 
-# A line that changes the configuration has the command's name, plain or with one of its letters as an escape.
+# What a line that changes the configuration has somewhere: the command's name, plain or with one of its letters as an escape.
 LONG = (b"configure", *ESCAPED)
 
 
@@ -42,7 +44,12 @@ def command_of(line: bytes) -> str:
 
 def may_take_long(line: bytes) -> bool:
     """Whether the line may change the configuration, which takes the house as long as all its lines did."""
-    return any(part in line for part in LONG)
+    if not any(part in line for part in LONG):
+        return False
+    try:
+        return object_of(line).get("do") == "configure"
+    except NotJson:
+        return False
 
 
 def in_one_line(body: bytes) -> bytes:
@@ -84,27 +91,34 @@ class BulkLines:
         self._beginning = b"{" + self._name + b","
 
     def read(self, body: bytes, most: int) -> list[bytes]:
-        """The lines of the body, at most `most`. A line without a platform gets the sender's.
+        """The lines of the body, at most `most`. Raises LineError as `pieces` does."""
+        return [line for lines in self.pieces(body, most) for line in lines]
+
+    def pieces(self, body: bytes, most: int) -> Iterator[list[bytes]]:
+        """The lines of the body, at most `most`, some at a time. A line without a platform gets the sender's.
 
         Raises LineError for the first line that is too long, is no JSON object, or names another platform.
         """
-        lines = body.split(b"\n")
-        if not lines[-1]:
-            lines.pop()
-        if len(lines) > most:
+        if body.count(b"\n") + (body[-1:] not in (b"", b"\n")) > most:
             raise LineError(413, f"more than {most} lines")
-        if self._are_plainly_ours(body, lines):
-            return lines
-        return list(self._checked(lines))
+        place, number = 0, 1
+        while place < len(body):
+            end = body.find(b"\n", place + PIECE) + 1 or len(body)
+            piece = body[place:end]
+            lines = piece.split(b"\n")
+            if not lines[-1]:
+                lines.pop()
+            yield lines if self._are_plainly_ours(piece, lines) else list(self._checked(lines, number))
+            place, number = end, number + len(lines)
 
     def _are_plainly_ours(self, body: bytes, lines: list[bytes]) -> bool:
         """Whether each line is plainly ours and no line too long, by a few looks at all of them."""
         begin = all([line.startswith(self._beginning) for line in lines])
         return begin and self._are_named(body, len(lines)) and max(map(len, lines), default=0) <= LONGEST_LINE
 
-    def _checked(self, lines: list[bytes]) -> Iterator[bytes]:
-        for number, line in enumerate(lines, 1):
-            if not self._is_plainly_ours(line):
+    def _checked(self, lines: list[bytes], first: int) -> Iterator[bytes]:
+        for number, line in enumerate(lines, first):
+            if len(line) <= LONGEST_LINE and not self._is_plainly_ours(line):
                 line = self._ours(number, line)
             if len(line) > LONGEST_LINE:
                 raise LineError(413, f"line {number} is longer than {LONGEST_LINE} bytes")
@@ -115,14 +129,21 @@ class BulkLines:
         return line.startswith(self._beginning) and self._are_named(line, 1)
 
     def _are_named(self, text: bytes, count: int) -> bool:
-        """Whether at most so many members of the text are named `platform`. With an escape, the name has one for a small letter."""
-        return text.count(b'"platform"') == count and not any(part in text for part in ESCAPED)
+        """Whether so many members of the text are named `platform` and none `released_by`.
+
+        With an escape, such a name has one for a small letter, or for its underscore.
+        """
+        if RELEASED_BY.encode() in text or any(part in text for part in ESCAPED):
+            return False
+        return text.count(b'"platform"') == count
 
     def _ours(self, number: int, line: bytes) -> bytes:
         try:
             members = object_of(line)
         except NotJson:
             raise LineError(400, f"line {number} is no JSON object") from None
+        if RELEASED_BY in members:
+            raise LineError(403, f"line {number} has the member {RELEASED_BY}, which only the service writes")
         if "platform" not in members:
             return self._with_platform(line, bool(members))
         named = members["platform"]

@@ -13,10 +13,11 @@ from fastapi import APIRouter, Request
 from starlette.responses import Response
 
 from clear_service.child import output_of
-from clear_service.clearing import may_see, reader_of
-from clear_service.engine import Unavailable
+from clear_service.lists import reader_of, sight_of
+from clear_service.waiting import Unavailable
 from clear_service.house import House
 from clear_service.json_text import member_text
+from clear_service.lines import folded
 from clear_service.registers import CdrEntry
 from clear_service.responses import (
     AMOUNT,
@@ -29,6 +30,7 @@ from clear_service.responses import (
     json_response,
     list_of,
     schema,
+    sender_of,
 )
 
 router = APIRouter()
@@ -110,22 +112,24 @@ SENDER = schema(
     {
         "platform": TEXT,
         "hub": FLAG,
-        **{name: list_of(TEXT) for name in ("currencies", "operators", "providers")},
+        **{name: list_of(TEXT) for name in ("currencies", "operators", "providers", "warnings")},
     }
 )
 
 
 @router.get("/clearing/sender", tags=["Clearing"], responses=described(SENDER))
 async def get_sender(request: Request) -> Response:
-    """The platform of the token, whether it is a hub, and the configured currencies and parties."""
+    """The platform of the token, whether it is a hub, the currencies, and its parties with their counterparts; for a hub all parties."""
     house, sender = reader_of(request)
     configuration = house.configuration
-    shown = {
+    seen = None if configuration.is_hub(sender.platform) else house.registers.dealt_with(sender.platform)
+    shown: dict[str, object] = {
+        "warnings": house.warnings() if seen is None else [],
         "platform": sender.platform,
         "hub": configuration.is_hub(sender.platform),
         "currencies": configuration.currencies,
-        "operators": list(configuration.operators.values()),
-        "providers": list(configuration.providers.values()),
+        "operators": [party for key, party in configuration.operators.items() if seen is None or key in seen],
+        "providers": [party for key, party in configuration.providers.items() if seen is None or key in seen],
     }
     return json_response(shown)
 
@@ -154,13 +158,14 @@ async def get_cdr_with_price(request: Request, operator: str, id: str) -> Respon
     A Credit CDR has no rows: its amount is that of the CDR that it credits. A hub may read each CDR, and another platform
     those of its parties.
     """
-    house, sender = reader_of(request)
+    house, sight = sight_of(request)
     entry = house.registers.cdrs.find(operator, id)
-    if entry is None or not may_see(house, sender, entry.operator, entry.provider):
+    if entry is None or not sight.of(folded(entry.operator), folded(entry.provider)):
         raise Problem(404, "no CDR of this operator has this id")
     shown = asdict(entry)
-    del shown["number"]
-    return json_response({**shown, "rows": [] if entry.credits else await cost_rows(house, entry)})
+    del shown["number"], shown["updated"]
+    async with house.reads.turn(sender_of(request).digest):
+        return json_response({**shown, "rows": [] if entry.credits else await cost_rows(house, entry)})
 
 
 async def cost_rows(house: House, entry: CdrEntry) -> list[dict[str, str]]:

@@ -1,4 +1,4 @@
-"""The database of a house: its tables, its sessions, and the copy of its lines as a store."""
+"""The database of a house: its tables and its sessions."""
 
 from __future__ import annotations
 
@@ -11,7 +11,7 @@ from typing import Any, NamedTuple
 import psycopg
 from psycopg import AsyncConnection
 
-from clear_service.lines import LONG
+from clear_service.lines import LONG, may_take_long
 
 SCHEMA = Path(__file__).with_name("schema.sql")
 FORMAT = 1
@@ -27,9 +27,13 @@ OURS: dict[str, Any] = {
     "tcp_user_timeout": 25_000,
     "connect_timeout": 10,
 }
+# The lines of a table are read by their key, also where the server has no statistics yet, as after a load of many lines: a plan that
+# reads a table or an index from its beginning would take longer with each line. The server takes what is switched off to be so costly that
+# it would compile each query with its JIT compiler, which takes a second.
 THEIRS = (
     "set tcp_keepalives_idle = 10; set tcp_keepalives_interval = 5; "
-    "set tcp_keepalives_count = 3; set tcp_user_timeout = 25000"
+    "set tcp_keepalives_count = 3; set tcp_user_timeout = 25000; "
+    "set enable_seqscan = off; set enable_hashjoin = off; set enable_mergejoin = off; set jit = off"
 )
 
 
@@ -42,10 +46,8 @@ STATE = """
 
 
 MAY_TAKE_LONG = """
-    select exists (
-        select from (select line from requests where number > %s order by number limit %s) as next, unnest(%s::bytea[]) as part
-        where position(part in line) > 0
-    )"""
+    select line from requests where number > %(before)s and number <= %(before)s + %(count)s
+    and exists (select from unnest(%(parts)s::bytea[]) as part where position(part in line) > 0) order by number"""
 
 
 class State(NamedTuple):
@@ -59,12 +61,22 @@ class DatabaseError(Exception):
     """The database is not that of a house."""
 
 
+def is_begun(dsn: str) -> bool:
+    """Whether the database has the tables. Raises psycopg.Error."""
+    with psycopg.connect(dsn, **OURS) as session:
+        return _has_tables(session)
+
+
+def _has_tables(session: psycopg.Connection[Any]) -> bool:
+    row = session.execute("select to_regclass('public.house') is not null").fetchone()
+    return row is not None and bool(row[0])
+
+
 def prepare(dsn: str, configuration: str) -> None:
-    """Makes the tables if the database has none, with this configuration. Raises psycopg.Error and DatabaseError."""
+    """Makes the tables if the database has none, with this configuration. Raises psycopg.Error."""
     with psycopg.connect(dsn, **OURS) as session:
         session.execute("select pg_advisory_xact_lock(%s)", (MAKING,))
-        row = session.execute("select to_regclass('public.house') is not null").fetchone()
-        if row is not None and not row[0]:
+        if not _has_tables(session):
             session.execute(SCHEMA.read_text(encoding="utf-8").encode())
             session.execute(
                 "insert into house (format, configuration) values (%s, %s)", (FORMAT, configuration)
@@ -74,7 +86,8 @@ def prepare(dsn: str, configuration: str) -> None:
 def configuration_of(dsn: str) -> str:
     """The configuration under which the house begins. Raises psycopg.Error and DatabaseError."""
     with psycopg.connect(dsn, **OURS) as session:
-        row = session.execute("select format, configuration from house").fetchone()
+        found = session.execute("select format, configuration from house") if _has_tables(session) else None
+        row = found.fetchone() if found is not None else None
     if row is None or row[0] != FORMAT:
         raise DatabaseError("the database has no house of this format")
     return str(row[1])
@@ -93,10 +106,15 @@ async def state_of(session: AsyncConnection[Any]) -> State:
     return State(*row)
 
 
-async def may_take_long(session: AsyncConnection[Any], answered: int) -> bool:
+async def one_may_take_long(session: AsyncConnection[Any], answered: int) -> bool:
     """Whether one of the lines that a worker answers together, after so many, may take long. Raises psycopg.Error."""
-    row = await (await session.execute(MAY_TAKE_LONG, (answered, AT_ONCE, list(LONG)))).fetchone()
-    return row is not None and bool(row[0])
+    found = await session.execute(
+        MAY_TAKE_LONG, {"before": answered, "count": AT_ONCE, "parts": list(LONG)}, binary=True
+    )
+    async for row in found:
+        if may_take_long(bytes(row[0])):
+            return True
+    return False
 
 
 async def connect(dsn: str, name: str) -> AsyncConnection[Any]:

@@ -9,42 +9,42 @@ from __future__ import annotations
 
 import asyncio
 import contextlib
-import json
 import logging
 import os
 import signal
 import sys
-import tempfile
 import time
 import uuid
 from asyncio.subprocess import PIPE, Process
-from pathlib import Path
 from typing import Any, NamedTuple
 
 import psycopg
 from psycopg import AsyncConnection
 
-from clear_service.child import output_of
-from clear_service.engine import EngineState, Unavailable, Waiting
+from clear_service.engine import EngineState
+from clear_service.child import version_of
+from clear_service.json_text import with_numbers
 from clear_service.postgres_database import (
     AT_ONCE,
     DatabaseError,
     configuration_of,
     connect,
-    may_take_long,
     notified,
-    prepare,
+    one_may_take_long,
     state_of,
     worker_name,
 )
 from clear_service.registers import Registers
 from clear_service.settings import REPOSITORY, Settings
+from clear_service.shares import Shares
+from clear_service.waiting import Unavailable, Waiting, Window
 
 log = logging.getLogger("clear_service")
 
 SECONDS = 1.0  # after which the follower asks again without a notification
 FIRST_PAUSE = 0.1
 STEADY = 10.0  # seconds after which a worker counts as one that runs
+WINDOW = Window(1_000, 1 << 20, 250, 1 << 18)
 
 # The next answers with their requests in one row, as a driver in Python takes longer for rows than for bytes. No line has a newline.
 ANSWERED = """
@@ -53,8 +53,11 @@ ANSWERED = """
         string_agg(sender, E'\\n' order by number), string_agg(floor(extract(epoch from sent))::bigint::text, E'\\n' order by number)
     from (
         select number, requests.line as request, answers.line as answer, sender, sent
-        from answers join requests using (number) where number > %s order by number limit %s
+        from answers join requests using (number)
+        where answers.number > %(before)s and answers.number <= %(before)s + %(count)s
+            and requests.number > %(before)s and requests.number <= %(before)s + %(count)s
     ) as next"""
+AGAIN = "start the service again"
 ANSWERED_UP_TO = "select coalesce(max(number), 0) from answers"
 
 
@@ -70,7 +73,9 @@ class Answered(NamedTuple):
 
 async def answered(session: AsyncConnection[Any], before: int) -> list[Answered]:
     """Some of the answers after so many. Raises DatabaseError if there is a gap."""
-    row = await (await session.execute(ANSWERED, (before, AT_ONCE), binary=True)).fetchone()
+    row = await (
+        await session.execute(ANSWERED, {"before": before, "count": AT_ONCE}, binary=True)
+    ).fetchone()
     if row is None or row[0] == 0:
         return []
     count, first, last, lines, answers, senders, seconds = row
@@ -88,7 +93,7 @@ async def answered(session: AsyncConnection[Any], before: int) -> list[Answered]
 class PostgresEngine:
     """A front end, and by the setting `worker` a worker process beside it."""
 
-    def __init__(self, settings: Settings, registers: Registers) -> None:
+    def __init__(self, settings: Settings, registers: Registers, shares: Shares) -> None:
         self._settings = settings
         self._registers = registers
         self._runner: asyncio.Task[None] | None = None
@@ -96,10 +101,11 @@ class PostgresEngine:
         self._process: Process | None = None
         self._looked = 0.0
         self._answered = (0, 0.0)
-        self._copy = StoreCopy(settings)
         self._reader: AsyncConnection[Any] | None = None
         self._reading = asyncio.Lock()
-        self.waiting = Waiting(settings.queue_lines, settings.queue_bytes)
+        self._has_worker = False
+        self._bytes = 0
+        self.waiting = Waiting(shares, WINDOW)
         self.state = EngineState("postgresql")
 
     async def start(self) -> None:
@@ -119,7 +125,16 @@ class PostgresEngine:
                     await task
         if self._reader is not None:
             await self._reader.close()
-        self._copy.remove()
+
+    @property
+    def is_ready(self) -> bool:
+        """Whether some worker has the lock, and requests of this service are answered."""
+        return self._has_worker and self.waiting.is_answered
+
+    @property
+    def store_bytes(self) -> int:
+        """The bytes of the requests that are answered."""
+        return self._bytes
 
     async def line(self, number: int) -> bytes:
         """The request of this number. Raises Unavailable."""
@@ -131,16 +146,14 @@ class PostgresEngine:
                 row = await found.fetchone()
             except psycopg.Error as error:
                 raise Unavailable(f"the database: {error}") from None
+            except asyncio.CancelledError:
+                # A session with half a query would take no other one.
+                if self._reader is not None:
+                    await self._reader.close()
+                raise
         if row is None:
             raise Unavailable(f"there is no request {number}")
         return bytes(row[0])
-
-    async def balances(self) -> bytes:
-        """The output of `clear balances` over a copy of the requests as a store."""
-        try:
-            return await self._copy.balances()
-        except psycopg.Error as error:
-            raise Unavailable(f"the database: {error}") from None
 
     async def _run(self) -> None:
         pause = FIRST_PAUSE
@@ -161,11 +174,12 @@ class PostgresEngine:
             pause = min(pause * 2, self._settings.longest_pause)
 
     async def _begin(self) -> None:
-        """The tables, and the configuration under which the house begins."""
+        """The configuration under which the house begins."""
         if self._registers.configuration is None:
-            dsn, path = self._settings.store, Path(self._settings.config)
-            await asyncio.to_thread(prepare, dsn, path.read_text(encoding="utf-8"))
-            self._registers.begin(json.loads(await asyncio.to_thread(configuration_of, dsn)))
+            self.state.version = await version_of(self._settings.program)
+            self._registers.begin(
+                with_numbers((await asyncio.to_thread(configuration_of, self._settings.store)).encode())
+            )
 
     async def _follow(self) -> None:
         """Sends what is queued under a new name, and follows the answers, until a session fails."""
@@ -174,16 +188,15 @@ class PostgresEngine:
         async with await connect(self._settings.store, "follower") as session:
             row = await (await session.execute(ANSWERED_UP_TO)).fetchone()
             if row is None or row[0] < self._registers.lines:
-                raise DatabaseError(
-                    "the database has fewer answers than this service has seen; start the service again"
-                )
+                raise DatabaseError(f"the database has fewer answers than this service has seen; {AGAIN}")
+            self.state.kept = row[0]
             await session.execute("listen answers")
             while await self._read(session, ""):
-                pass
+                self.state.replayed = self._registers.lines
             self.state.starts += 1
             sender = asyncio.create_task(self._send(name))
             try:
-                self._registers.are_complete = True
+                self._registers.complete()
                 self.waiting.open()
                 while not sender.done():
                     if not await self._read(session, name):
@@ -198,28 +211,33 @@ class PostgresEngine:
         found = await answered(session, self._registers.lines)
         for answer in found:
             self._registers.fold(answer.number, answer.line, answer.answer, answer.seconds)
+        self._bytes += sum(len(answer.line) for answer in found)
         self.waiting.settle([answer.answer for answer in found if answer.sender == name])
         return bool(found)
 
     def _note(self, worker: str | None) -> None:
         """The worker that has the lock. The house answers if there is one."""
-        self.state.ready = worker is not None
+        self._has_worker = worker is not None
         self.state.details["answering"] = worker
 
     async def _look(self, session: AsyncConnection[Any]) -> None:
         """Looks which worker has the lock, about once a second while one has it, and whether it answers if it is this service's."""
         now = time.monotonic()
-        if self.state.ready and now - self._looked < SECONDS / 2:
+        if self._has_worker and now - self._looked < SECONDS / 2:
             return
         self._looked = now
         last_request, worker = await state_of(session)
-        self._note(worker)
         lines = self._registers.lines
+        if last_request < lines:
+            raise DatabaseError(
+                f"the database has {last_request} requests, and {lines} were answered; {AGAIN}"
+            )
+        self._note(worker)
         own = self._process is not None and worker == worker_name(self._process.pid)
         if not own or last_request <= lines or self._answered[0] != lines:
             self._answered = (lines, now)
         elif now - self._answered[1] > self._settings.answer_seconds:
-            if not await may_take_long(session, lines):
+            if not await one_may_take_long(session, lines):
                 self.state.last_end = (
                     f"the worker answered nothing for {self._settings.answer_seconds} seconds and was killed"
                 )
@@ -237,7 +255,7 @@ class PostgresEngine:
         place = 1
         async with await connect(self._settings.store, "sender") as session:
             while True:
-                lines = [line for batch in await self.waiting.take() for line in batch.lines]
+                lines = await self.waiting.take()
                 await session.execute("select send(%s, %s, %s)", (name, place, lines), binary=True)
                 place += len(lines)
 
@@ -254,14 +272,16 @@ class PostgresEngine:
             began = time.monotonic()
             if self._registers.configuration is not None:
                 self._process = process = await asyncio.create_subprocess_exec(
-                    *words, env=environment, stdin=PIPE, start_new_session=True
+                    *words, env=environment, stdin=PIPE, stderr=PIPE, start_new_session=True
                 )
+                said = asyncio.create_task(relay(process))
                 self.state.details["worker"] = process.pid
                 try:
                     await process.wait()
                 finally:
                     self._kill_worker()
                     await process.wait()
+                    said.cancel()
                 log.warning("the worker ended with status %s", process.returncode)
                 pause = (
                     FIRST_PAUSE
@@ -271,49 +291,14 @@ class PostgresEngine:
             await asyncio.sleep(pause)
 
 
-class StoreCopy:
-    """The answered requests as a store in a temporary folder, for the reports of the program. It grows when it is asked."""
-
-    def __init__(self, settings: Settings) -> None:
-        self._settings = settings
-        self._folder: tempfile.TemporaryDirectory[str] | None = None
-        self._lines = 0
-        self._lock = asyncio.Lock()
-
-    async def balances(self) -> bytes:
-        """The output of `clear balances`. Raises Unavailable."""
-        async with self._lock:
-            store = await self._grown()
-            status, out, err = await output_of([self._settings.program, "balances", "--store", store])
-        if status != 0:
-            raise Unavailable(f"balances: {err}")
-        return out
-
-    async def _grown(self) -> str:
-        if self._folder is None:
-            self._folder = tempfile.TemporaryDirectory(prefix="clear-copy-")
-        store = os.path.join(self._folder.name, "store")
-        async with await connect(self._settings.store, "copy") as session:
-            while found := await answered(session, self._lines):
-                await self._append(store, [each.line for each in found])
-        if not os.path.exists(store):
-            await self._append(store, [])
-        return store
-
-    async def _append(self, store: str, lines: list[bytes]) -> None:
-        words = [self._settings.program, "keep", store, "--from", str(self._lines)]
-        if not os.path.exists(store):
-            config = os.path.join(os.path.dirname(store), "config.json")
-            Path(config).write_text(
-                await asyncio.to_thread(configuration_of, self._settings.store), encoding="utf-8"
-            )
-            words = [self._settings.program, "keep", config, store]
-        status, _, err = await output_of(words, b"".join(line + b"\n" for line in lines))
-        if status != 0:
-            raise Unavailable(f"balances: {err}")
-        self._lines += len(lines)
-
-    def remove(self) -> None:
-        """Removes the copy."""
-        if self._folder is not None:
-            self._folder.cleanup()
+async def relay(process: Process) -> None:
+    """Logs what a process writes on standard error, so that it never waits for somebody who reads it."""
+    assert process.stderr is not None
+    while True:
+        try:
+            line = await process.stderr.readline()
+        except ValueError:
+            continue  # A line that is longer than the stream takes.
+        if not line:
+            return
+        log.warning("%s", line.decode(errors="replace").rstrip())

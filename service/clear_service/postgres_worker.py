@@ -2,7 +2,8 @@
 
 Of all workers of a database the one that holds its advisory lock stores answers. The others stand by: each gives its own program the
 requests that have answers, and tries the lock when there are no more of them. A worker gives its program all requests from the first
-one on; if an answer is stored already, the program's has to be the same.
+one on; if an answer is stored already, the program's has to be the same. Answers are stored with the causes of refusals, and compared
+without them.
 
 Answers are stored over the session that holds the lock, and over no other. The server gives the lock to another session only when
 this one has ended with all that it had to commit, and a worker that has lost its session can store nothing any more.
@@ -24,6 +25,8 @@ from typing import Any
 
 import psycopg
 
+from clear_service.answers import without_cause
+from clear_service.child import options_in
 from clear_service.postgres_database import (
     AT_ONCE,
     LOCK,
@@ -40,7 +43,7 @@ SECONDS = 1  # for which a worker waits, at most, before it asks again
 # The next lines of a table in one row, as a driver in Python takes longer for rows than for bytes. No line has a newline.
 NEXT = """
     select count(*), coalesce(min(number), 0), coalesce(max(number), 0), string_agg(line, '\\x0a'::bytea order by number)
-    from (select number, line from {} where number > %s order by number limit %s) as next"""
+    from {} where number > %(before)s and number <= %(before)s + %(count)s"""
 REQUESTS = NEXT.format("requests").encode()
 ANSWERS = NEXT.format("answers").encode()
 STORE = "insert into answers (number, line) select * from unnest(%s::bigint[], %s::bytea[])"
@@ -68,7 +71,7 @@ class Worker:
 
     def _next(self, query: bytes) -> list[bytes]:
         """Some of the next lines of a table. Raises WorkerError if there is a gap."""
-        row = self._session.execute(query, (self._last, AT_ONCE), binary=True).fetchone()
+        row = self._session.execute(query, {"before": self._last, "count": AT_ONCE}, binary=True).fetchone()
         if row is None or row[0] == 0:
             return []
         count, first, last, lines = row
@@ -88,7 +91,7 @@ class Worker:
             return False
         answers = self._answers(lines)
         for number, (answer, old) in enumerate(zip(answers, stored), self._last + 1):
-            if answer != old:
+            if without_cause(answer) != without_cause(old):
                 raise WorkerError(f"the answer to request {number} is not the one that is stored")
         if len(answers) > len(stored):
             self._store(self._last + len(stored) + 1, answers[len(stored) :])
@@ -158,7 +161,9 @@ def start_program(settings: Settings) -> subprocess.Popen[bytes]:
     with open(descriptor, "w", encoding="utf-8") as config:
         config.write(configuration_of(settings.store))
         config.flush()
-        words = [settings.program, "stream", f"/dev/fd/{descriptor}"]
+        shown = subprocess.run([settings.program, "stream", "--help"], stdout=subprocess.PIPE, check=False)
+        options = options_in(shown.stdout.decode(errors="replace"))
+        words = [settings.program, "stream", f"/dev/fd/{descriptor}", *options]
         return subprocess.Popen(words, stdin=subprocess.PIPE, stdout=subprocess.PIPE, pass_fds=[descriptor])
 
 
@@ -175,7 +180,8 @@ def run(settings: Settings) -> None:
 
 def end_with_parent() -> None:
     """Ends this process when its standard input ends, which a service that started it holds open."""
-    sys.stdin.buffer.read()
+    while os.read(0, 4096):
+        pass
     os.kill(os.getpid(), signal.SIGTERM)
 
 

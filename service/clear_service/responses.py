@@ -7,14 +7,14 @@ from typing import Any
 from fastapi import Request
 from starlette.responses import Response
 
-from clear_service.access import Call, now
+from clear_service.access import Call
 from clear_service.answers import Answer
 from clear_service.house import House
 from clear_service.json_text import text_of
+from clear_service.moments import now
+from clear_service.rows import JSON
 from clear_service.senders import Sender
 
-JSON = "application/json"
-CSV = "text/csv; charset=utf-8"
 LINES = "application/jsonl"
 
 
@@ -49,7 +49,7 @@ def house_of(request: Request) -> House:
 
 def answer_response(answer: Answer) -> Response:
     """An answer of the house as it is, with the HTTP status of its row."""
-    return Response(answer.line + b"\n", answer.clearing_status, media_type=JSON)
+    return Response(answer.plain + b"\n", answer.clearing_status, media_type=JSON)
 
 
 def json_response(value: object, status: int = 200) -> Response:
@@ -127,6 +127,7 @@ REASONS = {
     401: "The token is missing or unknown",
     403: "The platform of the token may not do this",
     404: "Not there, or not for this platform",
+    405: "The platform has registered already, or has not",
     408: "The body did not come in time",
     409: "In conflict with the state of the house",
     413: "The body is too long",

@@ -5,8 +5,9 @@ The file is text: each line after a mark `+` and with its newline. The first lin
 
 from __future__ import annotations
 
-import json
+import logging
 import os
+import re
 import time
 from array import array
 from bisect import bisect_right
@@ -15,11 +16,22 @@ from itertools import accumulate
 from pathlib import Path
 from typing import IO, Any
 
+from clear_service.json_text import with_numbers
+
 AHEAD = 1 << 20
+AHEAD_OF_US = 60  # seconds that a clock may have been ahead of ours
+MARK = re.compile(r"([0-9]{1,15}) ([0-9]{1,12})")
+
+log = logging.getLogger("clear_service")
 
 
 class StoreError(Exception):
     """The file is not that of a store, or has fewer lines than it should."""
+
+
+def identity_of(status: os.stat_result) -> tuple[int, int]:
+    """What the file is known by: its device and its number there."""
+    return status.st_dev, status.st_ino
 
 
 class StoreFile:
@@ -30,7 +42,13 @@ class StoreFile:
         self._file: IO[bytes] | None = None
         self._places = array("Q")
         self._end = 0
+        self._identity: tuple[int, int] | None = None
         self.record: dict[str, Any] = {}
+
+    @property
+    def size(self) -> int:
+        """The bytes of the record and the answered lines."""
+        return self._end
 
     def __len__(self) -> int:
         return len(self._places)
@@ -38,16 +56,38 @@ class StoreFile:
     def open(self) -> None:
         """Opens the file, again if it was open, and reads its record the first time. Raises StoreError.
 
-        A file that is opened again shows what was appended, and repaired, in the meantime.
+        A file that is opened again shows what was appended, and repaired, in the meantime. It has to be the same file.
         """
-        self.close()
+        self.check_in_place()
+        before = self._file
         try:
             self._file = open(self._path, "rb", buffering=AHEAD)
+            self._identity = self._identity or identity_of(os.fstat(self._file.fileno()))
             if not self.record:
-                self.record = json.loads(self._line())
+                self.record = with_numbers(self._line())
         except (OSError, ValueError) as error:
             self.close()
             raise StoreError(f"cannot read {self._path}: {error}") from None
+        finally:
+            if before is not None:
+                before.close()
+        self.check_in_place()
+
+    def check_in_place(self) -> None:
+        """Raises StoreError if the file was opened, and was deleted, replaced or shortened since then."""
+        if self._file is None:
+            return
+        try:
+            found = os.stat(self._path)
+        except OSError as error:
+            raise StoreError(f"the store is gone: {error}") from None
+        if identity_of(found) != self._identity or not self._has_end():
+            raise StoreError(f"{self._path} was replaced; start the service again")
+
+    def _has_end(self) -> bool:
+        """Whether the file still has the end of the last line that was read or answered."""
+        assert self._file is not None
+        return not self._end or os.pread(self._file.fileno(), 1, self._end - 1) == b"\n"
 
     def _line(self) -> bytes:
         assert self._file is not None
@@ -91,11 +131,17 @@ class StoreFile:
             self._file = None
 
 
+def for_the_owner(path: str, flags: int) -> int:
+    """Opens a file, which only its owner may read and write if it is made."""
+    return os.open(path, flags, 0o600)
+
+
 class TimeMarks:
     """When lines were answered, to a second: a file beside the store, as the house has no clock.
 
     A mark is a line of text: the number of the first request line that was answered in a second, a space, and the second
-    since 1970. If marks are missing, times are unknown or too early; nothing but the age of holds depends on them.
+    since 1970. A mark that is malformed, out of order or of the future is dropped with a warning, so times may be unknown or too early
+    then; nothing but the age of holds and the refusals of the last hours depend on them. A clock that jumps makes marks as it goes.
     """
 
     def __init__(self, folder: str) -> None:
@@ -109,21 +155,38 @@ class TimeMarks:
         if self._file is not None:
             return
         if self._path.exists():
-            for line in self._path.read_text(encoding="ascii", errors="replace").splitlines():
-                number, _, second = line.partition(" ")
-                if number.isdigit() and second.isdigit():
-                    self._add(int(number), int(second))
-        self._file = open(self._path, "a", encoding="ascii")
+            self._read(self._path.read_text(encoding="ascii", errors="replace"))
+        self._file = open(self._path, "a", encoding="ascii", opener=for_the_owner)
+
+    def _read(self, text: str) -> None:
+        latest = int(time.time()) + AHEAD_OF_US
+        dropped = 0
+        for line in text.splitlines():
+            found = MARK.fullmatch(line)
+            number, second = (int(part) for part in found.groups()) if found else (0, 0)
+            if self._last < number and 0 < second <= latest:
+                self._add(number, second)
+            else:
+                dropped += 1
+        if dropped:
+            log.warning("%s: %d malformed times, or times of the future, are dropped", self._path, dropped)
+        if text and not text.endswith("\n"):
+            with open(self._path, "a", encoding="ascii") as file:
+                file.write("\n")
+
+    @property
+    def _last(self) -> int:
+        return self._numbers[-1] if self._numbers else 0
 
     def _add(self, number: int, second: int) -> None:
-        if not self._numbers or number > self._numbers[-1]:
-            self._numbers.append(number)
-            self._seconds.append(second)
+        self._numbers.append(number)
+        self._seconds.append(second)
 
     def mark(self, number: int) -> float:
         """The line of this number is answered now; returns the time."""
         now = time.time()
-        if self._file is not None and (not self._seconds or int(now) > self._seconds[-1]):
+        is_new = not self._seconds or int(now) != self._seconds[-1]
+        if self._file is not None and is_new and number > self._last and now > 0:
             self._add(number, int(now))
             self._file.write(f"{number} {int(now)}\n")
             self._file.flush()

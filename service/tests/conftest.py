@@ -23,18 +23,21 @@ import httpx
 import hypothesis
 import psycopg
 import pytest
-import uvicorn
 
 SERVICE = Path(__file__).resolve().parents[1]
 sys.path.insert(0, str(SERVICE))
 
 from clear_service.app import create_app  # noqa: E402
-from clear_service.senders import TokenFile  # noqa: E402
+from clear_service.first_start import begin, has_begun  # noqa: E402
+from clear_service.senders import METRICS, TokenFile  # noqa: E402
+from clear_service.server import server_of  # noqa: E402
 from clear_service.settings import Settings, settings_of  # noqa: E402
 
 from examples import CONFIG  # noqa: E402
 
-hypothesis.settings.register_profile("service", database=None, deadline=None)
+hypothesis.settings.register_profile(
+    "service", database=None, deadline=None, suppress_health_check=[hypothesis.HealthCheck.too_slow]
+)
 hypothesis.settings.load_profile("service")
 
 # Modules whose tests say little of the engine: over PostgreSQL the gate leaves them out.
@@ -51,7 +54,7 @@ def free_port() -> int:
         return int(found.getsockname()[1])
 
 
-def wait_until(condition: Callable[[], object], seconds: float = 60.0) -> bool:
+def wait_until(condition: Callable[[], object], seconds: float = 180.0) -> bool:
     """Waits until the condition holds, at most so long; whether it does."""
     until = time.monotonic() + seconds
     while time.monotonic() < until:
@@ -70,6 +73,12 @@ def program_of(pid: object) -> int | None:
     return int(words[0]) if words else None
 
 
+def begin_if_new(settings: Settings) -> None:
+    """Begins the store, as `service/start --new` does, if it is not there."""
+    if not has_begun(settings):
+        begin(settings, new=True)
+
+
 class Service:
     """A service in a thread of this process. `client` sends no token."""
 
@@ -82,6 +91,7 @@ class Service:
         file = TokenFile(str(folder / "tokens"))
         for platform in PLATFORMS:
             self.tokens[platform] = file.add(platform)
+        self.tokens["metrics"] = file.add(METRICS)
         settings = settings_of(str(self.config), store)
         given: dict[str, Any] = {
             "tokens": str(folder / "tokens"),
@@ -90,19 +100,17 @@ class Service:
             **changes,
         }
         self.settings: Settings = replace(settings, **given)
+        begin_if_new(settings)
         self.url = f"http://127.0.0.1:{self.settings.port}"
         self.start()
 
     def start(self) -> None:
         self.app = create_app(self.settings)
-        config = uvicorn.Config(
-            self.app, port=self.settings.port, log_level="error", access_log=False, lifespan="on"
-        )
-        self.server = uvicorn.Server(config)
+        self.server = server_of(self.app, self.settings)
         self.server.install_signal_handlers = lambda: None
         self.thread = threading.Thread(target=self.server.run, daemon=True)
         self.thread.start()
-        self.client = httpx.Client(base_url=self.url, timeout=60)
+        self.client = httpx.Client(base_url=self.url, timeout=180)
         assert wait_until(lambda: self.server.started)
         assert self.is_ready()
 
@@ -116,7 +124,7 @@ class Service:
     def stop(self) -> None:
         self.client.close()
         self.server.should_exit = True
-        self.thread.join(60)
+        self.thread.join(180)
         assert not self.thread.is_alive()
 
     def send(self, platform: str | None, method: str, path: str, **words: Any) -> httpx.Response:

@@ -290,7 +290,7 @@ def test_refusals(service: Service) -> None:
     assert service.get("cpo", "/clearing/refusals?hours=1").json() == counts[:1]
     assert service.get("cpo", "/clearing/refusals?hours=x").status_code == 400
     assert service.get("cpo", "/clearing/refusals?hours=0").json() == []
-    assert service.get("cpo", "/clearing/refusals?hours=" + "9" * 400).json() == counts[:1]
+    assert service.get("cpo", "/clearing/refusals?hours=" + "9" * 400).status_code == 400
 
 
 def test_all_is_there_after_a_restart(make: Make, make_store: MakeStore) -> None:

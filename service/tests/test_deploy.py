@@ -10,12 +10,15 @@ import subprocess
 import time
 from collections.abc import Iterator
 from pathlib import Path
+from urllib.parse import urlsplit
 
 import httpx
 import pytest
+from clear_service.senders import REGISTER, TokenFile
 
 from conftest import SERVICE, Service, free_port, wait_until
 from examples import TARIFF, TOKEN, cdr, line
+from ocpi_peer import OcpiPeer
 from started import Start, start
 
 __all__ = ["start"]
@@ -133,10 +136,10 @@ def test_curl_and_plain_http(behind: tuple[Proxy, Service]) -> None:
     assert plain.status_code == 301
     assert plain.headers["location"] == "https://127.0.0.1/clearing/sender?x=1"
     assert proxy.client.get("/ready").status_code == 200
-    time.sleep(0.2)
-    log = (proxy.folder / "access.log").read_text()
-    assert "/clearing/sender" in log
-    assert not any(token in log for token in service.tokens.values())
+    log = proxy.folder / "access.log"
+    assert wait_until(lambda: "/ready" in log.read_text())
+    assert "/clearing/sender" in log.read_text()
+    assert not any(token in log.read_text() for token in service.tokens.values())
 
 
 def test_a_stopped_service_behind_nginx(behind: tuple[Proxy, Service]) -> None:
@@ -184,8 +187,12 @@ def test_the_service_under_the_filters_of_the_unit(start: Start, tmp_path: Path)
     words = [*before, "/usr/bin/python3", "-c", DENIED]
     assert subprocess.run(words, capture_output=True, check=True).stdout == b"True True True\n"
 
-    service = start("one", tmp_path / "house", before=before)
+    peer = OcpiPeer("CPO", "NL", "CPA", "cpo")
+    (tmp_path / "one").mkdir()
+    token_a = TokenFile(str(tmp_path / "one" / "tokens")).add(REGISTER + "cpo")
+    service = start("one", tmp_path / "house", before=before, peer_hosts=urlsplit(peer.url).netloc)
     assert service.is_ready()
+    peer.register(f"http://127.0.0.1:{service.port}/ocpi/versions", token_a)
     assert service.send("emp", line("put_token", token=TOKEN)).status_code == 200
     service.send("cpo", line("put_tariff", tariff=TARIFF), line("post", cdr=cdr("S1")))
     service.send("hub", line("close", period=0))
@@ -197,12 +204,16 @@ def test_the_service_under_the_filters_of_the_unit(start: Start, tmp_path: Path)
         "cdrs?operator=NL/CPA&id=S1",
     ):
         assert service.get("hub", f"/clearing/{path}").status_code == 200
-    for path in ("/", "/page/page.js", "/metrics", "/openapi.json"):
+    for path in ("/", "/page/page.js", "/openapi.json"):
         assert service.status(path) == 200
+    assert service.get("metrics", "/metrics").status_code == 200
     os.kill(service.house(), signal.SIGKILL)
     assert wait_until(lambda: service.client.get("/health").json()["starts"] == 2)
     assert service.is_ready()
     assert service.get("hub", "/clearing/balances").json()[0]["owed"] == "5.0000"
+    assert wait_until(lambda: peer.names("tokens") == ["U1"]) and peer.faults == []
+    peer.close()
+    assert (tmp_path / "house" / "service-records").stat().st_mode & 0o077 == 0
     assert (tmp_path / "house" / "requests").stat().st_mode & 0o077 == 0
     assert service.stop() in (0, -signal.SIGTERM)
 

@@ -2,14 +2,20 @@
 
 from __future__ import annotations
 
+import asyncio
+import contextlib
 import os
 import signal
 import threading
 import time
 from pathlib import Path
+from typing import Any
 
 import psycopg
 import pytest
+from clear_service.postgres_database import AT_ONCE, MAY_TAKE_LONG, THEIRS
+from clear_service.postgres_engine import ANSWERED
+from clear_service.postgres_worker import ANSWERS, REQUESTS
 
 from conftest import Make, MakeStore, Service, program_of, wait_until
 from examples import AUTHORIZE, CONFIGURATION, TARIFF, TARIFFS, TOKEN, TOKENS, cdr, line
@@ -252,3 +258,87 @@ def test_an_answer_that_is_not_the_stored_one(
     assert again.send("emp", "PUT", TOKENS, json=TOKEN).status_code == 503
     with psycopg.connect(store) as session:
         assert session.execute("select count(*) from answers").fetchone() == (1,)
+
+
+def test_a_read_that_is_cancelled(database: None, make: Make) -> None:
+    """Wherever it is, the next one reads the line."""
+    service = make()
+    service.send("emp", "PUT", TOKENS, json=TOKEN)
+    engine = service.app._app.state.house.engine  # type: ignore[attr-defined]
+
+    async def read() -> None:
+        for steps in range(30):
+            task = asyncio.create_task(engine.line(1))
+            for _ in range(steps):
+                await asyncio.sleep(0.0005)
+            task.cancel()
+            with contextlib.suppress(asyncio.CancelledError):
+                await task
+            assert b"put_token" in await engine.line(1)
+
+    asyncio.run_coroutine_threadsafe(read(), engine._runner.get_loop()).result(180)
+
+
+def test_answers_that_were_stored_without_causes(database: None, make: Make, make_store: MakeStore) -> None:
+    store = make_store()
+    service = make(store)
+    refused = service.send("cpo", "POST", "/ocpi/2.2.1/cdrs", json=cdr(cost=5.02))
+    assert "found 5.020000" in refused.json()["status_message"]
+    service.stop()
+    with psycopg.connect(store) as session:
+        session.execute(
+            "update answers set line = convert_to(regexp_replace(convert_from(line, 'UTF8'), ',\"cause\":.*', '}'), 'UTF8')"
+        )
+        row = session.execute("select line from answers").fetchone()
+    assert row is not None and row[0].endswith(b'"rated":"5.0000"}')
+    assert make(store).send("emp", "PUT", TOKENS, json=TOKEN).status_code == 200
+
+
+def scanned(plan: dict[str, Any]) -> list[tuple[str, int]]:
+    """Each scan of a table in a plan, and how many rows it read."""
+    inner = [found for each in plan.get("Plans", []) for found in scanned(each)]
+    if "Relation Name" not in plan:
+        return inner
+    rows = (plan["Actual Rows"] + plan.get("Rows Removed by Filter", 0)) * plan["Actual Loops"]
+    return [(plan["Node Type"], rows), *inner]
+
+
+def test_lines_are_read_by_their_key_without_statistics(
+    database: None, make: Make, make_store: MakeStore
+) -> None:
+    """After a load of many lines, a look at the next ones reads them alone, though the tables were never analyzed."""
+    store = make_store()
+    make(store).stop()
+    count = 40_000
+    with psycopg.connect(store, autocommit=True) as session:
+        for table in ("requests", "answers"):
+            session.execute(f"alter table {table} set (autovacuum_enabled = false)".encode())
+        session.execute(
+            "insert into requests (number, sender, place, line) select n, 's', n, '{}' from generate_series(1, %s) as n",
+            (count,),
+        )
+        session.execute("insert into answers select n, '{}' from generate_series(1, %s) as n", (count,))
+        session.execute(THEIRS)
+        words = {"before": count - 3, "count": AT_ONCE, "parts": [b"x"]}
+        for query in (ANSWERED, REQUESTS.decode(), ANSWERS.decode(), MAY_TAKE_LONG):
+            row = session.execute(("explain (analyze, format json) " + query).encode(), words).fetchone()
+            assert row is not None
+            assert "JIT" not in row[0][0]
+            found = scanned(row[0][0]["Plan"])
+            assert found and all("Seq Scan" not in kind and rows <= 3 for kind, rows in found), found
+
+
+def test_a_worker_that_loses_its_session(
+    database: None, make: Make, make_store: MakeStore, caplog: pytest.LogCaptureFixture
+) -> None:
+    store = make_store()
+    service = make(store)
+    worker = service.health()["details"]["worker"]
+    with psycopg.connect(store, autocommit=True) as session:
+        session.execute(
+            "select pg_terminate_backend(pid) from pg_stat_activity where application_name like %s",
+            (f"%% {worker}",),
+        )
+    assert wait_until(lambda: service.health()["details"]["worker"] != worker)
+    assert "the worker ended with status 1" in caplog.text and "worker: the database: " in caplog.text
+    assert "Fatal" not in caplog.text and service.is_ready()

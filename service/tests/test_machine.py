@@ -115,6 +115,7 @@ def test_the_image(debian: Path, tmp_path: Path) -> None:
     mounted = ["--volume", f"{etc}:/etc/clear:ro", "--env", f"CLEAR_PORT={port}"]
     start = [*image.config["Entrypoint"], *image.config["Cmd"]]
     token = output([*image.words(*mounted, start[0].replace("start", "tokens")), "add", "emp"]).split()[-1]
+    output([*image.words(*mounted, "/opt/clear/clear"), "keep", *start[1:]])
     check = image.config["Healthcheck"]["Test"]
     for events in (0, 1):
         service = subprocess.Popen([*image.words(*mounted, start[0]), *start[1:]])

@@ -34,10 +34,9 @@ def test_versions(service: Service) -> None:
     assert is_success(details)
     endpoints = details.json()["data"]["endpoints"]
     assert {(row["identifier"], row["role"]) for row in endpoints} == {
-        ("tariffs", "RECEIVER"),
-        ("tokens", "RECEIVER"),
-        ("tokens", "SENDER"),
-        ("cdrs", "RECEIVER"),
+        ("credentials", "SENDER"),
+        ("hubclientinfo", "SENDER"),
+        *((module, role) for module in ("tariffs", "tokens", "cdrs") for role in ("SENDER", "RECEIVER")),
     }
     assert all(row["url"].startswith(service.url + "/ocpi/2.2.1/") for row in endpoints)
 

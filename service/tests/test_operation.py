@@ -5,8 +5,8 @@ from __future__ import annotations
 import json
 import os
 import random
-import shutil
 import signal
+import socket
 import subprocess
 import threading
 import time
@@ -17,7 +17,7 @@ import httpx
 import pytest
 from prometheus_client.parser import text_string_to_metric_families
 
-from conftest import Make, Service, wait_until
+from conftest import Make, Service, free_port, wait_until
 from examples import CONFIGURATION, TOKEN, cdr, changed, credit, line, tariff
 from started import PROGRAM, Start, Started, start
 
@@ -27,7 +27,7 @@ EXPOSURE = line("exposure", provider="NL/MSA", currency="EUR")
 
 def figures(service: Service, name: str) -> dict[tuple[str, ...], float]:
     """The samples of a figure by the values of their labels, in the order of the labels' names."""
-    text = service.get(None, "/metrics").text
+    text = service.get("metrics", "/metrics").text
     found = {}
     for family in text_string_to_metric_families(text):  # type: ignore[no-untyped-call]
         for sample in family.samples:
@@ -166,7 +166,9 @@ def test_a_line_of_the_log_for_each_request(start: Start, tmp_path: Path) -> Non
 def test_health_and_readiness(start: Start, tmp_path: Path) -> None:
     """A service whose program fails is alive and not ready; it is ready when the program can be started."""
     program = tmp_path / "clear"
-    program.write_text("#!/bin/sh\necho 'clear: broken on purpose' >&2\nexit 1\n")
+    program.write_text(
+        "#!/bin/sh\n[ $1 = check_config ] && exit 0\necho 'clear: broken on purpose' >&2\nexit 1\n"
+    )
     program.chmod(0o755)
     service = start("one", tmp_path / "house", str(program))
     assert wait_until(lambda: service.status("/health") == 200)
@@ -175,7 +177,8 @@ def test_health_and_readiness(start: Start, tmp_path: Path) -> None:
     refused = service.send("emp", EXPOSURE)
     assert refused.status_code == 503 and int(refused.headers["retry-after"]) >= 1
 
-    shutil.copy(PROGRAM, tmp_path / "working")
+    (tmp_path / "working").write_text(f"#!/bin/sh\nexec '{PROGRAM}' \"$@\"\n")
+    (tmp_path / "working").chmod(0o755)
     os.replace(tmp_path / "working", program)
     assert service.is_ready()
     assert service.client.get("/health").json()["starts"] == 1
@@ -212,12 +215,10 @@ def test_a_graceful_stop(start: Start, tmp_path: Path) -> None:
     threads = [threading.Thread(target=run) for _ in range(6)]
     for thread in threads:
         thread.start()
-    time.sleep(1)
-    began = time.monotonic()
+    assert wait_until(lambda: len(answered) > 20)
     assert service.stop() in (0, -signal.SIGTERM)
-    assert time.monotonic() - began < 30
     for thread in threads:
-        thread.join(60)
+        thread.join(180)
     assert set(answered) == {40} and set(others) <= {503}
     with pytest.raises(ProcessLookupError):
         os.kill(child, 0)
@@ -290,3 +291,65 @@ def test_backup_and_restore(start: Start, tmp_path: Path) -> None:
     assert reads(earlier)[3:] == whole[3:]
     (again,) = earlier.send("cpo", line("post", cdr=cdr("S1"))).content.splitlines()
     assert json.loads(again)["answer"] == "Repeated"
+
+
+def test_figures_need_a_token_or_an_address(make: Make) -> None:
+    port = free_port()
+    service = make(metrics=f"127.0.0.1:{port}")
+    assert service.get(None, "/metrics").status_code == 401
+    assert service.get("hub", "/metrics").status_code == 403
+    assert service.get("metrics", "/clearing/sender").status_code == 403
+    assert service.get("metrics", "/metrics").status_code == 200
+    beside = httpx.get(f"http://127.0.0.1:{port}/metrics")
+    assert beside.status_code == 200 and "clear_lines 0.0" in beside.text
+    assert httpx.get(f"http://127.0.0.1:{port}/clearing/sender").status_code == 404
+
+
+def test_counts_of_parties_and_their_limits(make: Make, tmp_path: Path) -> None:
+    limits = {"cdrs": 10, "entries": 50}
+    (tmp_path / "config.json").write_text(json.dumps(changed(CONFIGURATION, limits=limits)))
+    service = make(folder=tmp_path)
+    service.lines("emp", line("put_token", token=TOKEN))
+    service.lines("cpo", line("put_tariff", tariff=tariff()))
+    service.lines("cpo", *[line("post", cdr=cdr(f"S{number}", 1, 0.25)) for number in range(9)])
+    assert service.health()["warnings"] == []
+    service.lines("cpo", line("post", cdr=cdr("S9", 1, 0.25)))
+    assert service.health()["warnings"] == ["NL/CPA has 10 of 10 cdrs"]
+    assert service.lines("cpo", line("post", cdr=cdr("S10", 1, 0.25)))[0]["what"] == "Cdrs"
+    assert figures(service, "clear_party_cdrs") == {("NL/CPA",): 10}
+    assert figures(service, "clear_party_tariffs") == {("NL/CPA",): 1}
+    assert figures(service, "clear_party_entries") == {("NL/MSA",): 11}
+    assert figures(service, "clear_party_cdrs_limit") == {(): 10}
+    assert figures(service, "clear_party_entries_limit") == {(): 50}
+    assert figures(service, "clear_store_bytes")[()] > 10 * len(json.dumps(cdr()))
+    assert figures(service, "clear_memory_bytes")[("service",)] > 1e6
+    assert len(figures(service, "clear_version")) == 1
+
+
+UNREAD = """
+import os, sys
+reading, writing = os.pipe()
+os.set_inheritable(reading, True)
+os.dup2(writing, 1)
+os.dup2(writing, 2)
+os.execv(sys.argv[1], sys.argv[1:])
+"""
+
+
+def test_a_log_that_nobody_reads(start: Start, tmp_path: Path) -> None:
+    """Neither it nor clients that do nothing stop the others, or the end after SIGTERM."""
+    service = start("one", tmp_path / "house", before=["/usr/bin/python3", "-c", UNREAD])
+    assert service.is_ready()
+    for _ in range(60):
+        assert service.status("/" + "x" * 4000) == 401
+    assert service.send("emp", EXPOSURE).status_code == 200
+    clients = [socket.create_connection(("127.0.0.1", service.port)) for _ in range(3)]
+    clients[1].sendall(b"POST /clearing/lines HTTP/1.1\r\nHost: x\r\n")
+    head = f"Host: x\r\nAuthorization: Token {service.tokens['emp']}\r\nContent-Length: 100\r\n\r\n"
+    clients[2].sendall(f"POST /clearing/lines HTTP/1.1\r\n{head}".encode())
+    time.sleep(0.2)
+    began = time.monotonic()
+    assert service.stop() in (0, -signal.SIGTERM)
+    assert time.monotonic() - began < 25
+    for client in clients:
+        client.close()

@@ -24,9 +24,11 @@ from typing import Any
 
 import httpx
 import pytest
-from clear_service.senders import TokenFile
+from clear_service.senders import REGISTER, TokenFile
 
 from conftest import SERVICE, Service, wait_until
+from examples import CONFIGURATION, TARIFF, changed, line
+from ocpi_peer import OcpiPeer
 
 selenium = pytest.importorskip("selenium")
 from selenium.common.exceptions import SessionNotCreatedException  # noqa: E402
@@ -542,9 +544,7 @@ def test_a_phone_has_no_sideways_scrolling(hub: Browser) -> None:
         for period, currency in ((0, "EUR"), (1, "EUR"), (2, "EUR")):
             hub.choose(period=period, currency=currency)
             hub.find("NL/CPA", "NIGHT-2")
-            time.sleep(0.2)
-            assert not hub.scrolls_sideways()
-            assert hub.outside() == []
+            assert wait_until(lambda: not hub.scrolls_sideways() and hub.outside() == [])
             width_of_picture = hub.script(
                 "return document.querySelector('.picture').getBoundingClientRect().width"
             )
@@ -572,9 +572,7 @@ def test_large_amounts_fit(hub: Browser) -> None:
     hub.choose(period=2, currency="EUR")
     for width in (320, 360, 700, 1152, 1280):
         hub.resize((width, 780))
-        time.sleep(0.2)
-        assert not hub.scrolls_sideways(), width
-        assert hub.outside() == [], width
+        assert wait_until(lambda: not hub.scrolls_sideways() and hub.outside() == []), width
 
 
 def test_the_page_by_keyboard(browser: Browser, month: Month) -> None:
@@ -698,7 +696,9 @@ def test_the_policy_forbids_what_is_foreign(hub: Browser, month: Month) -> None:
         picture.src = "http://127.0.0.2:9/x.png";
         fetch("http://127.0.0.2:9/").catch(() => {});
         try { document.body.innerHTML = "<p>x"; } catch { seen.add("trusted-types"); }
-        setTimeout(() => done([...seen].sort()), 500);"""
+        let looks = 0;
+        const look = () => seen.size >= 4 || ++looks > 500 ? done([...seen].sort()) : setTimeout(look, 100);
+        look();"""
     )
     assert {"connect-src", "img-src", "style-src-elem", "trusted-types"} <= set(tried)
     hub.said()
@@ -794,6 +794,53 @@ def test_an_empty_house(browser: Browser, tmp_path: Path) -> None:
         service.stop()
 
 
+def test_a_warning_is_shown(browser: Browser, tmp_path: Path) -> None:
+    (tmp_path / "config.json").write_text(json.dumps({**CONFIGURATION, "limits": {"tariffs": 1}}))
+    service = Service(tmp_path, str(tmp_path / "house"))
+    try:
+        service.lines("cpo", line("put_tariff", tariff=TARIFF))
+        browser.open_loaded(service.url, service.tokens["hub"])
+        assert wait_until(lambda: browser.texts("#warnings .problem") == ["NL/CPA has 1 of 1 tariffs"])
+    finally:
+        service.stop()
+
+
+def test_peers_and_what_waits_for_them(browser: Browser, tmp_path: Path) -> None:
+    """A hub sees them; without any, and for another platform, there is no such section."""
+    peer = OcpiPeer("EMSP", "NL", "MSA", "emp")
+    token_a = TokenFile(str(tmp_path / "tokens")).add(REGISTER + "emp")
+    service = Service(tmp_path, str(tmp_path / "house"), peer_hosts=httpx.URL(peer.url).netloc.decode())
+    try:
+        browser.open_loaded(service.url, service.tokens["hub"])
+        assert not browser.one("#peers").is_displayed() and not browser.one("#peers-link").is_displayed()
+        peer.register(f"{service.url}/ocpi/versions", token_a)
+        service.lines("cpo", line("put_tariff", tariff=TARIFF))
+        assert wait_until(lambda: peer.names("tariffs") == ["G1"])
+        browser.refresh()
+        (row,) = browser.rows(".peers")
+        assert row[0] == "emp" and row[1].startswith("connectedlast contact 20") and row[2:] == ["0", "0"]
+        peer.close()
+        service.lines("cpo", line("put_tariff", tariff=changed(TARIFF, id="G2")))
+
+        def is_shown() -> bool:
+            browser.refresh()
+            (row,) = browser.rows(".peers")
+            return row[1].startswith("cannot be called") and "Connect" in row[1] and row[2:] == ["1", "0"]
+
+        assert wait_until(is_shown)
+        assert wait_until(
+            lambda: any("waits for emp" in each for each in browser.texts("#warnings .problem"))
+        )
+        browser.resize(PHONE)
+        assert wait_until(lambda: not browser.scrolls_sideways() and browser.outside() == [])
+        browser.one("#leave").click()
+        browser.open_loaded(service.url, service.tokens["cpo"])
+        assert not browser.one("#peers").is_displayed() and browser.rows(".peers") == []
+    finally:
+        service.stop()
+        peer.close()
+
+
 def test_files_are_sent_once(month: Month) -> None:
     first = httpx.get(month.url + "/page/page.js")
     assert first.headers["content-type"].startswith("text/javascript")
@@ -806,6 +853,7 @@ def test_files_are_sent_once(month: Month) -> None:
 def test_who_the_sender_is(month: Month) -> None:
     hub = month.read("/clearing/sender")
     assert hub == {
+        "warnings": [],
         "platform": "hub",
         "hub": True,
         "currencies": ["EUR", "SEK"],

@@ -8,6 +8,8 @@ import re
 import subprocess
 from pathlib import Path
 
+from clear_service.senders import METRICS, REGISTER
+
 from conftest import SERVICE, free_port
 
 FENCE = re.compile(r"^```(\w*)\n(.*?)^```$", re.MULTILINE | re.DOTALL)
@@ -21,7 +23,7 @@ def test_the_readme(tmp_path: Path) -> None:
         (tmp_path / name).symlink_to(SERVICE if name == "service" else SERVICE.parent / name)
     environment = {**os.environ, "CLEAR_PORT": port}
     done = subprocess.run(
-        ["sh", "-e"], input=script, cwd=tmp_path, env=environment, capture_output=True, text=True, timeout=300
+        ["sh", "-e"], input=script, cwd=tmp_path, env=environment, capture_output=True, text=True, timeout=900
     )
     said = done.stdout + done.stderr
     assert done.returncode == 0, said
@@ -29,4 +31,11 @@ def test_the_readme(tmp_path: Path) -> None:
         if not kind:
             assert text in done.stdout, said
     log = (tmp_path / "house.log").read_text().splitlines()
-    assert {json.loads(each)["platform"] for each in log} == {None, "cpo", "emp", "hub"}
+    assert {json.loads(each)["platform"] for each in log} == {
+        None,
+        "cpo",
+        "emp",
+        "hub",
+        METRICS,
+        REGISTER + "emp",
+    }

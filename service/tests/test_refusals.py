@@ -17,6 +17,7 @@ from examples import (
     CDRS,
     CONFIGURATION,
     FROM,
+    Object,
     TARIFF,
     TARIFFS,
     TOKEN,
@@ -37,6 +38,12 @@ EARLY = cdr(charging_periods=[{**cdr()["charging_periods"][0], "start_date_time"
 OTHER_ID = cdr(charging_periods=[{**cdr()["charging_periods"][0], "tariff_id": "G9"}])
 RESERVED = cdr()
 RESERVED["charging_periods"][0]["dimensions"].append({"type": "RESERVATION_TIME", "volume": 0.1})
+
+
+def no_contract() -> Object:
+    """The token without one of its members."""
+    return {name: value for name, value in TOKEN.items() if name != "contract_id"}
+
 
 PUT_TARIFF = ("cpo", "PUT", TARIFFS, TARIFF)
 PUT_TOKEN = ("emp", "PUT", TOKENS, TOKEN)
@@ -126,12 +133,84 @@ def test_ocpi_request_id_used(service: Service) -> None:
 
 
 def test_ocpi_request_id_too_long(service: Service) -> None:
-    assert is_refused(send(service, PUT_TOKEN, **{"X-Request-ID": "a" * 65}), 2)
+    response = send(service, PUT_TOKEN, **{"X-Request-ID": "a" * 65})
+    assert response.status_code == 400 and "64 printable" in response.json()["status_message"]
+    assert service.health()["lines"] == 0
 
 
 def test_values_of_a_refusal(service: Service) -> None:
-    response = send(service, ("cpo", "POST", CDRS, cdr(cost=5.02)))
-    assert response.json()["status_message"] == "CostMismatch: rated 5.0000"
+    assert send(service, PUT_TARIFF).status_code == 200
+    response = send(service, ("cpo", "POST", CDRS, cdr("S0", 404, 101)))
+    assert response.json()["status_message"] == "OverLimit: exposure 101.0000, limit 100.0000"
+
+
+CAUSES = [
+    (("cpo", "PUT", TARIFFS, DEEP), "Syntax: no JSON"),
+    (
+        ("emp", "PUT", TOKENS, changed(TOKEN, valid=None)),
+        "Field: token.valid: of a wrong kind or out of bounds, found null, expected true or false",
+    ),
+    (("emp", "PUT", TOKENS, no_contract()), "Field: token.contract_id: missing, found nothing, expected"),
+    (("cpo", "POST", CDRS, cdr(party="CPX")), "UnknownParty: cdr: configured as no operator, found NL/CPX"),
+    (
+        ("cpb", "POST", CDRS, cdr()),
+        "NotYours: platform: does not act for the party, found cpb, expected NL/CPA",
+    ),
+    (("cpo", "POST", CDRS, cdr(currency="USD")), "WrongCurrency: cdr.currency: not configured, found USD"),
+    (
+        ("cpo", "POST", CDRS, EARLY),
+        "BadDates: cdr.charging_periods[0].start_date_time: before the moment in front of it, "
+        "found 2024-07-01T09:00:00Z, expected 2024-07-01T10:00:00Z",
+    ),
+    (
+        ("cpo", "POST", CDRS, OTHER_ID),
+        "TariffNotGiven: cdr.charging_periods[0].tariff_id: id of no tariff of the CDR, found G9",
+    ),
+    (
+        ("cpo", "PUT", TARIFFS, TARIFF_POWER),
+        "UnsupportedRestriction: tariff.elements[0].restrictions.max_power: "
+        "bounds on current and power are not supported",
+    ),
+    (
+        ("cpo", "POST", CDRS, RESERVED),
+        "Reservation: cdr.charging_periods[0].dimensions[1].volume: time of reservation, found 0.100000",
+    ),
+    (
+        ("cpo", "POST", CDRS, cdr(total_energy=20.011)),
+        "EnergyMismatch: cdr.total_energy: not the sum of ENERGY, found 20.011000, expected 20.000000",
+    ),
+    (
+        ("cpo", "POST", CDRS, EXPENSIVE),
+        "AmountTooLarge: cdr: rated above the largest amount, expected 100000000.0000",
+    ),
+    (
+        ("cpo", "POST", CDRS, cdr(cost=5.02)),
+        "CostMismatch: rated 5.0000; cdr.total_cost.excl_vat: "
+        "farther from the rated cost than the tolerance, found 5.020000, expected 5.0000",
+    ),
+]
+
+
+@pytest.mark.parametrize(
+    "request_, message", CAUSES, ids=[message.partition(":")[0] for _, message in CAUSES]
+)
+def test_the_cause_of_a_refusal(service: Service, request_: Sent, message: str) -> None:
+    assert send(service, request_).json()["status_message"].startswith(message)
+
+
+def test_a_refusal_that_comes_again_has_its_cause(service: Service) -> None:
+    """Also after a restart; under /clearing answers have no cause."""
+    wrong = ("cpo", "POST", CDRS, cdr(cost=5.02))
+    first = send(service, wrong, **{"X-Request-ID": "a"}).json()["status_message"]
+    assert "found 5.020000" in first
+    assert send(service, wrong, **{"X-Request-ID": "a"}).json()["status_message"] == first
+    service.stop()
+    service.start()
+    assert send(service, wrong, **{"X-Request-ID": "a"}).json()["status_message"] == first
+    (answer,) = service.lines("cpo", line("post", cdr=cdr(cost=5.02)))
+    assert answer == {"status_code": 2000, "refusal": "CostMismatch", "number": 12, "rated": "5.0000"}
+    refused = service.send("cpo", "POST", "/clearing/close", json={"period": 0}).json()
+    assert refused == {"status_code": 2000, "refusal": "NotYours", "number": 4}
 
 
 def test_text_that_is_not_json(service: Service) -> None:

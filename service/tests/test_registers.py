@@ -2,6 +2,8 @@
 
 from __future__ import annotations
 
+import csv
+import io
 import json
 import random
 import subprocess
@@ -11,6 +13,9 @@ from pathlib import Path
 from typing import Any
 
 import pytest
+from clear_service.configuration import written
+from clear_service.lines import folded
+from clear_service.owed import Balances, Debtor, Owed, Pair
 from clear_service.registers import Registers
 from clear_service.settings import settings_of
 
@@ -124,3 +129,73 @@ def test_positions(stream: Stream) -> None:
             ]
             signed = [Decimal(it.amount) * (1 if it.operator == row["party"] else -1) for it in entries]
             assert sum(signed, Decimal(0)) == Decimal(row["net"])
+
+
+def balances(registers: Registers) -> list[list[str]]:
+    """The register's balances, as `clear balances` writes them."""
+    configuration = registers.in_force
+    places = configuration.places
+    found = registers.balances.rows(
+        configuration.currencies, lambda pair: (places[pair.operator], places[pair.provider])
+    )
+    return [
+        [
+            str(each.period),
+            each.currency,
+            *(str(configuration.spelled(party)) for party in each.pair),
+            *(written(amount) for amount in (each.owed, each.settled, each.owed - each.settled)),
+        ]
+        for each in found
+    ]
+
+
+def credited_later(registers: Registers) -> set[Debtor]:
+    """Whose debts a Credit CDR of another period changes, in both periods."""
+    found = set()
+    for each in registers.cdrs.entries():
+        original = registers.cdrs.find(each.operator, each.credits) if each.credits else None
+        if original is not None and original.period != each.period:
+            found |= {original.debtor, each.debtor}
+    return found
+
+
+def test_balances(stream: Stream) -> None:
+    registers, _ = stream.folded()
+    providers = [item["party"] for item in stream.configuration["providers"]]
+    hub = next(item["name"] for item in stream.configuration["platforms"] if item.get("hub"))
+    more = [
+        line(hub, "settle", provider=provider, currency=currency, period=period)
+        for period in range(len(registers.periods))
+        for provider in providers[::2]
+        for currency in stream.configuration["currencies"]
+        if Debtor(folded(provider), currency, period) not in credited_later(registers)
+    ]
+    registers, _ = stream.folded(*more)
+    given = b"".join(each + b"\n" for each in [*stream.lines, *more])
+    printed = output(PROGRAM, "balances", str(stream.config), given=given).decode()
+    header, *rows = csv.reader(io.StringIO(printed))
+    assert header == "period currency operator provider owed settled open".split()
+    assert len(rows) > 10 and any(row[5] != "0.0000" for row in rows)
+    assert balances(registers) == rows
+
+
+def test_a_settlement_squares_the_net() -> None:
+    """What is settled is what was owed in the period, net of Credit CDRs, and nothing is open then."""
+    owed = Owed()
+    sums = Balances(owed)
+    pair, other = Pair("nl/cpa", "nl/msa"), Pair("nl/cpb", "nl/msa")
+    for period, of_pair, amount in (
+        (0, pair, 50_000),
+        (0, other, 70_000),
+        (1, pair, 20_000),
+        (1, pair, -50_000),
+    ):
+        sums.book(period, "EUR", of_pair, amount)
+    owed.settle(Debtor("nl/msa", "EUR", 1))
+    places = {"nl/cpa": 0, "nl/cpb": 1, "nl/msa": 2}
+    rows = sums.rows(["EUR"], lambda it: (places[it.operator], places[it.provider]))
+    assert [(each.period, each.pair.operator, each.owed, each.settled) for each in rows] == [
+        (0, "nl/cpa", 50_000, 0),
+        (0, "nl/cpb", 70_000, 0),
+        (1, "nl/cpa", -30_000, -30_000),
+    ]

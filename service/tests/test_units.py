@@ -2,16 +2,21 @@
 
 from __future__ import annotations
 
+import asyncio
 import json
 import os
 import subprocess
+import time
+from collections.abc import Callable
 from pathlib import Path
 
 import pytest
-from clear_service.configuration import Configuration
+import uvloop
+from clear_service.child import Child, PipeEnd
+from clear_service.configuration import Configuration, differences
 from clear_service.json_text import NotJson, member_text, object_of
 from clear_service.lines import BulkLines, LineError, in_one_line, may_take_long, request_line
-from clear_service.senders import Rates, Sender, Senders, TokenFile
+from clear_service.senders import Rates, Sender, Senders, TokenFile, TokenFileError
 from clear_service.settings import SettingError, settings_of
 from clear_service.store_file import StoreFile, TimeMarks
 from hypothesis import given, settings
@@ -141,7 +146,13 @@ def test_a_number_of_many_digits_is_read() -> None:
 def test_a_line_that_may_take_long() -> None:
     lines = ('{"do":"configure"}', '{"do":"\\u0063onfigure"}', '{"do":"configu\\u0072e"}')
     assert all(may_take_long(each.encode()) for each in lines)
-    assert not may_take_long('{"do":"post","x":"M\\u00fcller"}'.encode())
+    others = (
+        '{"do":"post","x":"M\\u00fcller"}',
+        '{"do":"find","id":"configure","x":"\\u0061"}',
+        "\\u0061",
+        '["configure"]',
+    )
+    assert not any(may_take_long(each.encode()) for each in others)
 
 
 def test_the_last_of_equal_members() -> None:
@@ -177,9 +188,14 @@ def test_settings() -> None:
     made = settings_of("c", "s", {"CLEAR": "p", "CLEAR_PORT": "1", "CLEAR_URL": "u"})
     assert (made.program, made.port, made.url, made.is_postgres) == ("p", 1, "u", False)
     assert settings_of("c", "postgresql:///x", {}).is_postgres
-    for text in ("", "x", "-1", "1.0", "٣"):
+    for text in ("", "x", "-1", "1.0", "٣", "65536"):
         with pytest.raises(SettingError):
             settings_of("c", "s", {"CLEAR_PORT": text})
+    for name in ("CLEAR_TOKEN_LINES", "CLEAR_ANSWER_SECONDS", "CLEAR_DAY_BYTES"):
+        for text in ("0", str(10**12 + 1)):
+            with pytest.raises(SettingError, match=f"{name} has to be from 1 to 1000000000000"):
+                settings_of("c", "s", {name: text})
+    assert settings_of("c", "s", {"CLEAR_HOLD_SECONDS": "0", "CLEAR_WORKER": "0"}).hold_seconds == 0
 
 
 def test_a_configuration() -> None:
@@ -219,3 +235,110 @@ def test_times(tmp_path: Path) -> None:
     again.open()
     assert again.of(1) is None and again.of(3) == again.of(4) == int(now)
     again.close()
+
+
+MARKS = ["5 x", "²3 1700000000", "6 99999999999999999999999", "7 ", "", "8 0", "x", "4 1700000001", "\xff 3"]
+
+
+@pytest.mark.parametrize("malformed", MARKS)
+def test_a_malformed_time_is_dropped(
+    tmp_path: Path, malformed: str, caplog: pytest.LogCaptureFixture
+) -> None:
+    (tmp_path / "service-times").write_text(f"5 1700000000\n{malformed}\n9 1700000009\n")
+    marks = TimeMarks(str(tmp_path))
+    marks.open()
+    assert (marks.of(5), marks.of(8), marks.of(9)) == (1.7e9, 1.7e9, 1.7e9 + 9)
+    assert "dropped" in caplog.text
+    marks.close()
+
+
+def test_a_torn_time(tmp_path: Path) -> None:
+    (tmp_path / "service-times").write_text("5 1700000000\n9 17")
+    for number in (10, 11):
+        marks = TimeMarks(str(tmp_path))
+        marks.open()
+        marks.mark(number)
+        assert marks.of(5) == 1.7e9 and (marks.of(10) or 0) > 1.7e9
+        marks.close()
+
+
+def test_a_clock_that_jumps(tmp_path: Path, monkeypatch: pytest.MonkeyPatch) -> None:
+    marks = TimeMarks(str(tmp_path))
+    marks.open()
+    now = time.time()
+    for number, second in ((1, now), (2, now + 1e9), (3, now + 1), (4, now - 1e8), (5, now + 2)):
+        monkeypatch.setattr(time, "time", lambda: second)
+        marks.mark(number)
+        assert marks.of(number) == int(second)
+    marks.close()
+    monkeypatch.setattr(time, "time", lambda: now + 3)
+    again = TimeMarks(str(tmp_path))
+    again.open()
+    assert [again.of(number) for number in (1, 3, 5)] == [int(now), int(now + 1), int(now + 2)]
+    assert again.of(2) == int(now)
+    again.close()
+
+
+def test_a_file_of_tokens_that_is_not_utf_8(tmp_path: Path, caplog: pytest.LogCaptureFixture) -> None:
+    path = tmp_path / "tokens"
+    token = TokenFile(str(path)).add("cpo")
+    senders = Senders(str(path))
+    senders.load()
+    assert senders.of("Token " + token) is not None
+    path.write_bytes(b"\xff\xfe" + path.read_bytes())
+    with pytest.raises(TokenFileError):
+        Senders(str(path)).load()
+    time.sleep(1.1)
+    assert senders.of("Token " + token) is not None
+    assert "stay as they were" in caplog.text
+
+
+def test_a_digest_that_is_none(tmp_path: Path) -> None:
+    path = tmp_path / "tokens"
+    token = TokenFile(str(path)).add("cpo")
+    path.write_text("é 2024-07-01T00:00:00Z cpo\n" + path.read_text(), encoding="utf-8")
+    senders = Senders(str(path))
+    assert senders.of("Token x") is None and senders.of("Token " + token) is not None
+
+
+def test_differences() -> None:
+    other = {**CONFIGURATION, "tolerance": 5, "currencies": ["EUR", "SEK"]}
+    other["providers"] = [{**CONFIGURATION["providers"][0], "party": "NL/MSB"}]
+    assert list(differences(CONFIGURATION, other)) == ["tolerance", "currencies", "providers[0].party"]
+    assert list(differences(CONFIGURATION, CONFIGURATION)) == []
+
+
+@pytest.mark.parametrize("new_loop", [uvloop.new_event_loop, asyncio.new_event_loop])
+def test_the_pipe_to_a_program_is_closed_once(
+    monkeypatch: pytest.MonkeyPatch, new_loop: Callable[[], asyncio.AbstractEventLoop]
+) -> None:
+    """A file that gets the number of the descriptor when it is closed stays open."""
+    closed: list[int] = []
+    close = PipeEnd.close
+
+    def taken(self: PipeEnd) -> None:
+        with open("/dev/null", "rb") as null:
+            try:
+                os.fstat(self.fileno())
+            except OSError:
+                os.dup2(null.fileno(), self.fileno())
+                closed.append(self.fileno())
+        close(self)
+        if not closed:
+            with pytest.raises(OSError):
+                os.fstat(self.fileno())
+            closed.append(os.open("/dev/null", os.O_RDONLY))
+
+    monkeypatch.setattr(PipeEnd, "close", taken)
+
+    async def work() -> None:
+        child = await Child.start(["/bin/cat"])
+        await child.write(b"a line\n")
+        assert await child.first_line() == b"a line"
+        await child.stop(20)
+        while not closed:
+            await asyncio.sleep(0.01)
+
+    with asyncio.Runner(loop_factory=new_loop) as runner:
+        runner.run(asyncio.wait_for(work(), 60))
+    os.close(closed[0])

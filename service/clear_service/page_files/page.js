@@ -4,6 +4,7 @@ import { cdrBody } from "./cdr.js";
 import { element, offer, table } from "./elements.js";
 import { exposureBody } from "./exposure.js";
 import { owesBody, periodRows, periodsTable } from "./owes.js";
+import { peersBody } from "./peers.js";
 import { MEANINGS } from "./refusals.js";
 import { Failure, isToken, read, readFile, token, withParameters } from "./service.js";
 
@@ -20,7 +21,8 @@ function signOut(message = "") {
     body.replaceChildren();
     body.removeAttribute("aria-busy");
   }
-  for (const id of ["period", "currency", "party", "find-operator"]) at(id).replaceChildren();
+  for (const id of ["period", "currency", "party", "find-operator", "warnings"]) at(id).replaceChildren();
+  hidePeers(true);
   at("find-id").value = "";
   known = { sender: null, periods: null, balances: null };
   showLogin(message);
@@ -113,8 +115,15 @@ async function refresh() {
   refreshes += 1;
   const own = refreshes;
   at("state").textContent = "Loading…";
-  await Promise.all([showPeriods(), showExposure(), showRefusals()]);
+  await Promise.all([showPeriods(), showExposure(), showRefusals(), showPeers(), showWarnings()]);
   if (own === refreshes) at("state").textContent = `as of ${new Date().toLocaleTimeString("en-GB")}`;
+}
+
+/** The warnings of the service: an operator that nears its limit of CDRs, a token that nears its quota. */
+async function showWarnings() {
+  const session = known;
+  const { warnings } = await read("/clearing/sender").catch(() => session.sender ?? { warnings: [] });
+  if (known === session) at("warnings").replaceChildren(...warnings.map((text) => element("p", { class: "problem" }, text)));
 }
 
 async function showPeriods() {
@@ -218,6 +227,22 @@ function refusalsBody(rows) {
     String(row.count),
   ];
   return [table("refusals", "Refused requests and declined authorisations", columns, ordered.map(cellsOf))];
+}
+
+/** The registered platforms, for a hub. Without one there is no such section. */
+async function showPeers() {
+  const session = known;
+  if (!session.sender.hub) return;
+  await fill("peers-body", async () => {
+    const peers = await read("/clearing/peers");
+    if (known === session) hidePeers(peers.length === 0);
+    return peersBody(peers);
+  }, showPeers);
+}
+
+function hidePeers(hidden) {
+  at("peers").hidden = hidden;
+  at("peers-link").hidden = hidden;
 }
 
 function find(event) {
