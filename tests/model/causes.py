@@ -276,7 +276,8 @@ def field_row(value: Json, refused: Refused) -> Row:
     name = refused.values["field"]
     path = refused.path[::-1]
     if path[-2:-1] == ["day_of_week"]:
-        return row(spelled_path(path), UNFIT, written(standing(value, path)), WORDS + " ".join(DAYS))
+        shown = path if int(path[-1]) < 65536 else path[:-1]
+        return row(spelled_path(shown), UNFIT, written(standing(value, path)), WORDS + " ".join(DAYS))
     if not path or path[-1] != name:
         path = ["cdr", *(negative_volume(value["cdr"]) if name == "volume" else [name])]
         bound = "at most 36 characters" if name == "id" else "at least 0"
@@ -474,14 +475,15 @@ class Explainer:
 
     # ---- A house ----
 
-    def event(self, test: Callable[[Event], bool], kinds: str) -> int | None:
-        """The first event of these kinds that passes the test."""
-        before = enumerate(self.house.events[: len(self.lines)])
-        return next((i for i, it in before if it["kind"] in kinds.split() and test(it)), None)
+    def event(self, test: Callable[[Event], bool], kinds: str, first: int = 0) -> int | None:
+        """The first event of these kinds that passes the test, of those from a number on."""
+        events = self.house.events
+        numbers = range(first, len(self.lines))
+        return next((i for i in numbers if events[i]["kind"] in kinds.split() and test(events[i])), None)
 
-    def known_event(self, test: Callable[[Event], bool], kinds: str) -> int:
+    def known_event(self, test: Callable[[Event], bool], kinds: str, first: int = 0) -> int:
         """The same, where there is one."""
-        found = self.event(test, kinds)
+        found = self.event(test, kinds, first)
         assert found is not None
         return found
 
@@ -492,7 +494,7 @@ class Explainer:
 
     def Conflict(self, v: Json, _: Json) -> Row:
         if v["do"] == "put_tariff":
-            return self.other_content("tariff", v["tariff"])
+            return self.other_content("tariff", v["tariff"], "stored with another one")
         i = self.booking(party(v["cdr"]), v["cdr"]["id"])
         stored = self.house.events[i]["cdr"]
         read = rules.cdr_of(v["cdr"])
@@ -515,7 +517,7 @@ class Explainer:
         name = next(name for key, name in names.items() if read.get(key) != stored.get(key))
         return row(f"cdr.{name}", "booked with another one", "", money(self.house.events[i]["amount"]), i)
 
-    def other_content(self, path: str, tariff: Json) -> Row:
+    def other_content(self, path: str, tariff: Json, words: str) -> Row:
         key = (fold(party(tariff)), fold(tariff["id"]), rules.moment(tariff["last_updated"]))
         i = self.event(lambda e: (e["operator"], e["tariff"]["id"], e["tariff"]["updated"]) == key, "Tariff")
         if i is None:
@@ -523,7 +525,7 @@ class Explainer:
         read, stored = rules.tariff_of(tariff), self.house.events[i]["tariff"]
         names = {"currency": "currency", "min": "min_price", "max": "max_price", "elements": "elements"}
         name = next(name for key, name in names.items() if read.get(key) != stored.get(key))
-        return row(f"{path}.{name}", "stored with another one", event=i)
+        return row(f"{path}.{name}", words, event=i)
 
     def TariffNotRegistered(self, v: Json, _: Json) -> Row:
         operator = party(v["cdr"])
@@ -537,7 +539,8 @@ class Explainer:
                 path = f"cdr.tariffs[{i}]"
                 if fold(party(tariff)) != fold(operator):
                     return row(path, "of another operator", party(tariff), operator)
-                return self.other_content(path, tariff)
+                words = "stored with another one; {} and no restrictions differ"
+                return self.other_content(path, tariff, words)
         raise ValueError(v)
 
     def UnknownToken(self, v: Json, _: Json) -> Row:
@@ -571,6 +574,7 @@ class Explainer:
             lambda e: all(e[k] == hold[k] for k in OF_HOLD)
             and (e["kind"] == "Released" or e["currency"] == hold["currency"]),
             "Released Cdr",
+            i + 1,
         )
         if self.house.events[i]["kind"] == "Released":
             return row("reference", "released already", v["reference"], "", i)

@@ -81,8 +81,12 @@ def loosened(config: Config) -> Config:
     for name in BOUND:
         loose.pop(name, None)
     for provider in loose["providers"]:
-        for row in provider.get("limits", []):
-            row["limit"] = 10**15
+        holds = {row["currency"]: row["hold"] for row in provider.get("limits", [])}
+        # without a row a provider has a hold of 0.0001
+        provider["limits"] = [
+            {"currency": currency, "limit": 10**15, "hold": holds.get(currency, 1)}
+            for currency in loose["currencies"]
+        ]
     parties = [x["party"] for x in loose["operators"] + loose["providers"]]
     loose["tolerance"] = 10**12
     loose["platforms"] = [{"name": "hub", "parties": parties, "hub": True}]
@@ -146,11 +150,22 @@ class Stream(House):
         if key and key in self.remembered:
             first, answer = self.remembered[key]
             return answer if first == line else refused("RequestIdUsed", 30, 2000)
-        is_known = any(fold(p["name"]) == platform for p in self.config["platforms"])
+        is_allowed = self.has_hub(platform) if is_change else self.admits(line)
         answer = self.configure(value) if is_change else super().answer(line)
-        if key and is_known:
+        if key and is_allowed:
             self.remembered[key] = line, answer
         return answer
+
+    def has_hub(self, platform: str) -> bool:
+        return any(fold(p["name"]) == platform and p.get("hub", False) for p in self.config["platforms"])
+
+    def admits(self, line: str) -> bool:
+        """Whether no refusal of the line and the configuration alone, 1 to 12, is the answer to the request."""
+        try:
+            self.admit(request_of(line))
+        except Refused:
+            return False
+        return True
 
     def authorize(self, r: Request) -> Answered:
         name, values = super().authorize(r)
@@ -170,7 +185,7 @@ class Stream(House):
     def configure(self, value: Json) -> str:
         change = self.change_of(value)
         platform, config = change["platform"], change["config"]
-        if not any(fold(p["name"]) == platform and p.get("hub") for p in self.config["platforms"]):
+        if not self.has_hub(platform):
             return early(Refused("NotYours"))
         at, new = len(self.events), Stream(json.loads(dumped(config)))
         outside = first_otherwise(new, copy.deepcopy(self.events))
@@ -260,6 +275,12 @@ def holds(rng: random.Random, config: Config) -> None:
         row["hold"] = rng.choice([row["hold"]] * 3 + [1, 100000, 250000])
 
 
+def no_rows(rng: random.Random, config: Config) -> None:
+    provider = rng.choice(config["providers"])
+    row: LimitRow = {"currency": "EUR", "limit": 2000000, "hold": rng.choice([1, 200000])}
+    provider["limits"] = [] if provider.get("limits") else [row]
+
+
 def pair_limits(rng: random.Random, config: Config) -> None:
     config["version"] = 2
     config["pair_limits"] = [
@@ -288,7 +309,10 @@ def tolerance(rng: random.Random, config: Config) -> None:
 
 
 def sizes(rng: random.Random, config: Config) -> None:
-    config["limits"] = {"order": rng.choice([3, 20, 60, 1000]), "entries": rng.choice([4, 30, 1000])}
+    config["limits"] = {
+        "order": rng.choice([*range(3, 60, 3), 1000]),
+        "entries": rng.choice([4, 30, 1000]),
+    }
 
 
 def no_sizes(rng: random.Random, config: Config) -> None:
@@ -360,6 +384,7 @@ def consistent(config: Config) -> Config:
 CHANGES = (
     limits,
     holds,
+    no_rows,
     pair_limits,
     no_pair_limits,
     window,

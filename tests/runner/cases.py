@@ -7,7 +7,8 @@ error, and to end with the number in `status`. A file that is not there means no
 `errors_to` goes there and is not compared.
 
 A suite with an argument runs the cases that are `script CONFIG`, with that argument in place of `script`, and wants its program's name
-instead of `clear` on standard error. Other command lines are those of `clear` alone.
+instead of `clear` on standard error; for the argument `stream` it wants `stderr_of_stream`, if that is there. Other command lines are
+those of `clear` alone.
 """
 
 from __future__ import annotations
@@ -73,6 +74,7 @@ def wrong_with(suite: Suite, program: Path, folder: Path) -> list[str] | None:
             if words[:1] != ["script"] or len(words) != 2 or words[1].startswith("-"):
                 return None
             words = [*suite.arguments, *words[1:]]
+            wanted_errors = bytes_of(folder / f"stderr_of_{suite.arguments[0]}", wanted_errors)
             wanted_errors = re.sub(rb"(?m)^clear: ", f"{suite.program}: ".encode(), wanted_errors)
         output_to, errors_to = path_in(folder, "output_to"), path_in(folder, "errors_to")
         ran = run(

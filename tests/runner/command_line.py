@@ -3,6 +3,7 @@
 from __future__ import annotations
 
 import argparse
+import os
 import sys
 import time
 from collections.abc import Callable, Sequence
@@ -11,6 +12,7 @@ from pathlib import Path
 
 from runner.cases import run_cases
 from runner.commands import run_command
+from runner.ending import Ended, end_all_at_signals, end_by
 from runner.folders import run_folders
 from runner.growths import run_growths
 from runner.programs import Programs
@@ -38,20 +40,26 @@ def words_of(words: Sequence[str]) -> argparse.Namespace:
     """What the command line asks for."""
     parser = argparse.ArgumentParser(
         prog="tests/run",
-        description="Runs the tests over the programs that are built in this tree.",
+        description="Runs the tests over the programs that are built in this tree; over release/clear if clear is not built.",
     )
     parser.add_argument(
         "names",
         nargs="*",
         metavar="NAME",
-        help="a suite, or SUITE/CASE; all suites if there is none",
+        help="a suite, or SUITE/CASE; if there is none, all suites that need no proof",
     )
     parser.add_argument("--list", action="store_true", help="print the table of suites")
-    parser.add_argument("--jobs", type=int, default=1, metavar="N", help="suites at once")
+    parser.add_argument(
+        "--jobs",
+        type=int,
+        default=os.cpu_count() or 1,
+        metavar="N",
+        help="suites at once, as many as processors if it is not given",
+    )
     parser.add_argument(
         "--require-all",
         action="store_true",
-        help="a suite whose program is not built fails",
+        help="all suites, also those that prove something; a suite whose program is not built fails",
     )
     parser.add_argument(
         "--program",
@@ -71,14 +79,44 @@ def words_of(words: Sequence[str]) -> argparse.Namespace:
     return parser.parse_args(list(words))
 
 
-def chosen(names: Sequence[str], suites: dict[str, Suite], programs: Programs) -> list[tuple[Suite, str]]:
-    """The suites of these names, each with the case that is asked for; or all suites, but for those of programs that have to be given."""
-    known = [it.name for it in suites.values() if not it.program or programs.is_known(it.program)]
-    pairs = [(name.partition("/")[0], name.partition("/")[2]) for name in names or known]
+def named(names: Sequence[str], suites: dict[str, Suite]) -> list[tuple[Suite, str]]:
+    """The suites of these names, each with the case that is asked for."""
+    pairs = [(name.partition("/")[0], name.partition("/")[2]) for name in names]
     unknown = [name for name, _ in pairs if name not in suites]
     if unknown:
         raise BadTable(f"no suite {', '.join(unknown)}: tests/run --list prints them")
     return [(suites[name], case) for name, case in pairs]
+
+
+def leave_out(suites: list[Suite], programs: Programs) -> list[Suite]:
+    """The suites that need no proof; prints which others are left out and why."""
+    proving = [it.name for it in suites if it.proves]
+    lacking: dict[str, list[str]] = {}
+    left = []
+    for suite in suites:
+        missing = programs.missing(suite.program, suite.arguments)
+        if missing and not suite.proves:
+            lacking.setdefault(", ".join(missing), []).append(suite.name)
+        elif not suite.proves:
+            left.append(suite)
+    if proving:
+        print(f"left out, since they prove or compile with the kit: {' '.join(proving)}")
+    for program, names in lacking.items():
+        print(f"left out, since {program} is not built here: {' '.join(names)}")
+    if proving or lacking:
+        print(".ci/run proves and builds what they need, and runs them", flush=True)
+    return left
+
+
+def chosen(
+    names: Sequence[str], suites: dict[str, Suite], programs: Programs, require_all: bool
+) -> list[tuple[Suite, str]]:
+    """The suites of these names, each with the case that is asked for. Without names: those that need no proof, or all if all are required;
+    not those of programs that have to be given."""
+    if names:
+        return named(names, suites)
+    known = [it for it in suites.values() if not it.program or programs.is_known(it.program)]
+    return [(suite, "") for suite in (known if require_all else leave_out(known, programs))]
 
 
 def run_suite(suite: Suite, case: str, programs: Programs, require_all: bool) -> tuple[Suite, Outcome | None]:
@@ -135,13 +173,20 @@ def main(words: Sequence[str]) -> int:
             width = max(map(len, suites))
             print("\n".join(f"{name:{width}}  {suite.shows}" for name, suite in suites.items()))
             return 0
-        programs = Programs(asked.proved.resolve(), dict(asked.program))
-        return run_all(
-            chosen(asked.names, suites, programs),
-            programs,
-            asked.jobs,
-            asked.require_all,
-        )
+        end_all_at_signals()
+        programs = Programs(asked.proved.resolve(), dict(asked.program), not asked.require_all)
+        of_clear = programs.of_clear() if not programs.missing("clear", ()) else ""
+        if of_clear:
+            print(of_clear, flush=True)
+        suites_of = chosen(asked.names, suites, programs, asked.require_all)
+        status = run_all(suites_of, programs, asked.jobs, asked.require_all)
+        if status and of_clear:
+            print(of_clear)
+        return status
     except BadTable as error:
         print(f"tests/run: {error}", file=sys.stderr)
         return 2
+    except Ended as ended:
+        print("tests/run: ended by a signal", file=sys.stderr)
+        end_by(ended)
+        return 128 + ended.number

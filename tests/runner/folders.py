@@ -4,7 +4,8 @@ The program runs in a copy of the folder with the configuration `config.json`, t
 line; for a script `NAME.sh` the copy has what it writes as NAME. `out` is empty but for the links that `links` names, each with its
 target after a space, or the file or folder of that name in the case. The program has to write `printed` on standard output and `stderr` on
 standard error, and to end with the number in `status`. `out` has to hold the files of `wanted`, and those that `lines` names, each with so many
-lines, or any number for a hyphen; no others. With `args`, one a line, these are the arguments in place of `run config.json out FILE..`.
+lines, or any number for a hyphen; no others. With `args`, one a line, these are the arguments in place of `run config.json out FILE..`. Standard
+input is the path in `input_from`, or nothing.
 """
 
 from __future__ import annotations
@@ -13,7 +14,7 @@ import shutil
 import tempfile
 from pathlib import Path
 
-from runner.cases import made_by
+from runner.cases import made_by, path_in
 from runner.comparing import bytes_of, differences, lines_of, status_of
 from runner.programs import Programs, run
 from runner.suites import TESTS, Outcome, Suite
@@ -72,7 +73,8 @@ def wrong_with(suite: Suite, program: Path, folder: Path) -> list[str]:
             "out",
             *files,
         ]
-        ran = run([str(program), *words], case, None, (suite.stack, suite.memory))
+        given = path_in(case, "input_from")
+        ran = run([str(program), *words], case, given, (suite.stack, suite.memory))
         wrong = differences(bytes_of(case / "printed"), ran.output, "standard output")
         wrong += differences(bytes_of(case / "stderr"), ran.errors, "standard error")
         if ran.status != status_of(case):

@@ -30,6 +30,7 @@ class Suite:
     stack: int = 0
     memory: int = 0
     alone: bool = False
+    proves: bool = False
 
 
 @dataclass
@@ -62,6 +63,7 @@ def suite_of(name: str, row: dict[str, object]) -> Suite:
         "stack",
         "memory",
         "alone",
+        "proves",
     }
     if set(row) - known or row.get("kind") not in KINDS or not row.get("shows"):
         raise BadTable(f"suite {name}: {', '.join(sorted(set(row) - known)) or 'no kind or nothing shown'}")
@@ -82,6 +84,7 @@ def suite_of(name: str, row: dict[str, object]) -> Suite:
         stack=stack,
         memory=memory,
         alone=bool(row.get("alone", False)),
+        proves=bool(row.get("proves", False)),
     )
 
 
