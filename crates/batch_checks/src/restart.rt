@@ -1,9 +1,12 @@
-ghost use Rattle.std.specs.Prelude.{IsTrue, IfOk};
+ghost use Rattle.std.specs.Prelude.{◌≡◌, ◌⊎◌, ◌++◌, IsTrue, IfOk};
 ghost use Rattle.sqlite_disk.specs.Disk.{Only};
+ghost use Rattle.kept_batches.specs.Batch.{lines_of};
 ghost use Rattle.kept_batches.specs.Log.{IsSettled};
+ghost use Rattle.kept_batches.specs.Recovery.{disk_of};
+ghost use Rattle.kept_batches.specs.Verdict.{kept_in};
 
 use crate::failure::Failure;
-use kept_batches::{Batch, KeepError, Log, Recovery};
+use kept_batches::{Batch, KeepError, Log, Recovery, verdict_is_right};
 use sqlite_disk::{Crash, Disk};
 use std::alloc::Global;
 use std::io;
@@ -32,7 +35,9 @@ pub fn opened<D: Disk + Drop>(
 
 /// The log of a recovery.
 pub fn finished<D: Disk + Drop>(recovery: Recovery<D>) -> Result<Log<D>, KeepError>
-    ensures { IfOk result (λ log. IsSettled D.Disk log) }
+    ensures settled { IfOk result (λ log. IsSettled D.Disk log) }
+    ensures lines { IfOk result (λ log. IsTrue (D.Disk.is_clean log.disk) → kept_in (D.Disk.seen log.disk) ≡ kept_in (D.Disk.seen (disk_of recovery))) }
+    ensures clean { IfOk result (λ log. IsTrue (D.Disk.is_clean log.disk) → IsTrue (D.Disk.is_clean (disk_of recovery))) }
 {
     match recovery.finish() {
         Ok(log) => Ok(log),
@@ -56,7 +61,8 @@ pub fn batch_of(alloc: Global, text: &[u8]) -> Result<Batch, Failure> {
 }
 
 /// Appends a batch, crashes at whatever moment the disk stops, and recovers. Returns whether the
-/// batch was acknowledged, and the log.
+/// batch was acknowledged, and the log: it has the lines from before, or these with the batch; with
+/// the batch if it was acknowledged.
 pub fn restarted<D: Crash + Drop>(
     alloc: Global,
     mut log: Log<D>,
@@ -64,7 +70,12 @@ pub fn restarted<D: Crash + Drop>(
 ) -> Result<(bool, Log<D>), KeepError>
     requires { IsSettled D.Disk log }
     ensures settled { IfOk result (λ found. IsSettled D.Disk found.1) }
+    ensures either { IfOk result (λ found. IsTrue (D.Disk.is_clean found.1.disk)
+        → (kept_in (D.Disk.seen found.1.disk) ≡ kept_in (D.Disk.seen log.disk)) ⊎ (kept_in (D.Disk.seen found.1.disk) ≡ kept_in (D.Disk.seen log.disk) ++ lines_of batch.old)) }
+    ensures acknowledged { IfOk result (λ found. IsTrue found.0 → IsTrue (D.Disk.is_clean found.1.disk)
+        → kept_in (D.Disk.seen found.1.disk) ≡ kept_in (D.Disk.seen log.disk) ++ lines_of batch.old) }
 {
+    verdict_is_right();
     let is_acknowledged = log.append(batch).is_ok();
     let mut disk = log.disk;
     disk.crash();

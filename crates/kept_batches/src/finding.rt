@@ -10,11 +10,11 @@ use crate::log::MOST_BATCH_BYTES;
 
 /// A batch at the front of a text.
 #[derive(Clone, Copy)]
-pub(crate) struct Found {
+pub struct Found {
     /// The number of bytes of its lines.
-    pub(crate) size: usize,
+    pub size: usize,
     /// The head after them.
-    pub(crate) head: [u8; 32],
+    pub head: [u8; 32],
 }
 
 fn number_in(text: &[u8]) -> usize

@@ -19,10 +19,12 @@ mod writes;
 
 pub use batch::Batch;
 pub use error::KeepError;
+pub use finding::Found;
 pub use heads::{first_head, head_after, next_head};
 pub use laws::{
     appends_survive, beginnings_survive, cuts_survive, heads_collide, keeps_one, marks_survive,
     one_byte_tells, place_is_right, receipts_hold, verdict_is_right, windows_suffice,
 };
-pub use log::Log;
-pub use recovery::{Recovery, Unrecovered};
+pub use log::{Log, MOST_BATCH_BYTES};
+pub use looking::{Look, look_on};
+pub use recovery::{MOST_WINDOW, Recovery, Unrecovered};

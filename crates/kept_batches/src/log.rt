@@ -12,7 +12,8 @@ use sqlite_disk::Disk;
 
 const MOST_FILE_BYTES: usize = 1 << 60;
 
-pub(crate) const MOST_BATCH_BYTES: usize = 16_777_216;
+/// The most bytes of lines that a batch may have, each line with its `+` and its newline.
+pub const MOST_BATCH_BYTES: usize = 16_777_216;
 
 /// A settled file of lines. `Recovery::finish` returns one.
 #[derive(Drop)]

@@ -9,7 +9,7 @@ use crate::writes::{OPEN, SHUT};
 
 /// What comes next in a file.
 #[derive(Clone, Copy)]
-pub(crate) enum Look {
+pub enum Look {
     /// A batch that counts.
     Batch(Found),
     /// The last batch, whole, after a mark that is neither open nor shut.
@@ -48,8 +48,9 @@ pub(crate) fn find_marked(head: &[u8; 32], text: &[u8]) -> Option<Found>
     find_batch(head, after_mark(text))
 }
 
-/// What a text is from its mark on, after lines of this head.
-pub(crate) fn look_on(head: &[u8; 32], text: &[u8]) -> Look
+/// What a text is from its mark on, after lines of this head. It is the end of a file, or a part of it that begins there and has 16,777,300
+/// bytes; of a shorter part only a batch that counts is told for sure.
+pub fn look_on(head: &[u8; 32], text: &[u8]) -> Look
     ensures { IsLook head.now text.now result }
 {
     let mark = mark_in(text);

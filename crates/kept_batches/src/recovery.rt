@@ -25,8 +25,8 @@ use std::alloc::Global;
 // The number of bytes of a read, unless the next batch has more.
 const CHUNK: usize = 1 << 16;
 
-// With its marks, a batch has no more bytes; one more tells whether the file ends there.
-const MOST_WINDOW: usize = 16_777_300;
+/// With its marks, a batch has no more bytes; one more tells whether the file ends there.
+pub const MOST_WINDOW: usize = 16_777_300;
 
 /// Reads the lines of a file that a crash may have left, one after another. It compares a batch with
 /// its head before it lends a line of it. It changes nothing until `finish`, and it needs memory for
@@ -458,7 +458,7 @@ impl<D: Disk> Recovery<D> {
         ensures calm { IfOk result (λ log. D.Disk.faults log.disk ≡ D.Disk.faults (disk_of self)) }
         ensures failed { IfErr result (λ e. IsDiskError e.cause → MoreFaults (D.Disk.faults (disk_of self)) (D.Disk.faults e.disk)) }
         ensures damaged { IfErr result (λ e. (at : ℕ) → e.cause ≡ KeepError.Damaged at → IsTrue (D.Disk.is_clean e.disk) → damage_in (D.Disk.seen (disk_of self)) ≡ Some at) }
-        ensures untouched { IfErr result (λ e. (at : ℕ) → e.cause ≡ KeepError.Damaged at → OnlyReads D.Disk (disk_of self) e.disk) }
+        ensures untouched { IfErr result (λ e. (IsDiskError e.cause → ⊥) → OnlyReads D.Disk (disk_of self) e.disk) }
         ensures full { IfErr result (λ e. e.cause ≡ KeepError.Full → ⊥) }
     {
         let read = self.skip();
