@@ -1,8 +1,3 @@
 mod Parsing
-mod Ends
-mod Batches
-mod Steps
-mod Crash
-mod Repairs
 mod Windows
 mod Reading

@@ -7,12 +7,12 @@ use Rattle.std.proofs.lemmas.List.Elements.{All-nil, All-cons, All-head, All-tai
 use Rattle.std.proofs.lemmas.Bool.{cases_eq, eqb-true}
 use Rattle.std.proofs.lemmas.Bool.Decides.{nat_tests}
 use Rattle.std.specs.List.{All}
-use Rattle.kept_lines.specs.File.{IsLine, kept_from, kept_in, marked, file_of}
+use Rattle.kept_lines.specs.File.{IsLine, kept_from, kept_in, marked}
 
 abbrev pub NoNewline : ℕ → Type 0
 NoNewline byte = byte ≢ 10
 
-pub begins : (byte : ℕ) (text : List ℕ) → byte ≡ 43 → kept_in (byte ∷ text) ≡ kept_from (Some []) text
+begins : (byte : ℕ) (text : List ℕ) → byte ≡ 43 → kept_in (byte ∷ text) ≡ kept_from (Some []) text
 begins byte text is = grind (arith, nat_tests)
 
 pub closed : (byte : ℕ) (text : List ℕ) → byte ≢ 43 → kept_in (byte ∷ text) ≡ []
@@ -43,7 +43,7 @@ pub kept_in-line : (line rest : List ℕ) → IsLine line → kept_in (43 ∷ li
 kept_in-line line rest is = ended [] line rest is
 
 -- whole lines, and then those that the rest keeps
-pub kept_in-marked : (lines : List (List ℕ)) (rest : List ℕ) → All IsLine lines → kept_in (marked lines ++ rest) ≡ lines ++ kept_in rest
+kept_in-marked : (lines : List (List ℕ)) (rest : List ℕ) → All IsLine lines → kept_in (marked lines ++ rest) ≡ lines ++ kept_in rest
 kept_in-marked [] rest are = refl
 kept_in-marked (line ∷ lines) rest are =
     ap (λ (t : List ℕ). kept_in (43 ∷ t)) (append_assoc line (10 ∷ marked lines) rest)
@@ -53,20 +53,10 @@ kept_in-marked (line ∷ lines) rest are =
 pub kept_in_nothing : (lines : List (List ℕ)) (rest : List ℕ) → All IsLine lines → kept_in rest ≡ [] → kept_in (marked lines ++ rest) ≡ lines
 kept_in_nothing lines rest are none = kept_in-marked lines rest are ∙ ap (λ (l : List (List ℕ)). lines ++ l) none ∙ append-nil lines
 
--- a mark that is not open ends them, whatever comes after it
-pub kept_in_closed : (lines : List (List ℕ)) (mark : ℕ) (rest : List ℕ) → All IsLine lines → mark ≢ 43 → kept_in (marked lines ++ mark ∷ rest) ≡ lines
-kept_in_closed lines mark rest are shut = kept_in_nothing lines (mark ∷ rest) are (closed mark rest shut)
-
-pub kept_in-file_of : (lines : List (List ℕ)) → All IsLine lines → kept_in (file_of lines) ≡ lines
-kept_in-file_of lines are = kept_in_closed lines 45 [] are (omega arith)
-
 pub marked-append : (xs ys : List (List ℕ)) → marked (xs ++ ys) ≡ marked xs ++ marked ys
 marked-append [] ys = refl
 marked-append (x ∷ xs) ys =
     ap (λ (t : List ℕ). 43 ∷ x ++ 10 ∷ t) (marked-append xs ys) ∙ ap (λ (t : List ℕ). 43 ∷ t) (sym (append_assoc x (10 ∷ marked xs) (marked ys)))
-
-pub file_of-append : (xs ys : List (List ℕ)) → file_of (xs ++ ys) ≡ marked xs ++ file_of ys
-file_of-append xs ys = ap (λ (t : List ℕ). t ++ 45 ∷ []) (marked-append xs ys) ∙ append_assoc (marked xs) (marked ys) (45 ∷ [])
 
 -- a text is its lines, and an end that keeps none
 pub record Parts (text : List ℕ) (lines : List (List ℕ)) : Type 0 where
@@ -133,6 +123,3 @@ line_split text i first =
     sym (take-append-drop i text)
     ∙ ap (λ (l : List ℕ). take i text ++ l) (drop_more text i 0 first.0.high)
     ∙ ap (λ (b : ℕ). take i text ++ b ∷ drop (i + 1) text) (eqb-true (get_or text i 0) 10 first.1)
-
-pub no_newline : (text : List ℕ) → IsFirstByte (is_byte 10) text None → IsLine text
-no_newline text first = All-from_get_or NoNewline text 0 (λ k below is. first k (omega arith) below (eq-eqb (get_or text k 0) 10 is))

@@ -1,5 +1,5 @@
 -- The lines that a file keeps.
-use Rattle.std.specs.Prelude.{◌≡◌, ◌≢◌, ◌⊎◌, ◌<◌, ◌≤◌, ℕ, List, length, [], ◌∷◌, ◌++◌, if◌then◌else◌, ◌==◌, Option, None, Some}
+use Rattle.std.specs.Prelude.{◌≡◌, ◌≢◌, ◌<◌, ◌≤◌, ℕ, List, length, [], ◌∷◌, ◌++◌, if◌then◌else◌, ◌==◌, Option, None, Some}
 use Rattle.std.specs.List.{All}
 
 -- a line has no newline, 10
@@ -21,39 +21,11 @@ abbrev pub marked : List (List ℕ) → List ℕ
 marked [] = []
 marked (line ∷ lines) = 43 ∷ line ++ 10 ∷ marked lines
 
--- the file of these lines: marked, and then a closed mark, 45
-abbrev pub file_of : List (List ℕ) → List ℕ
-file_of lines = marked lines ++ 45 ∷ []
-
--- the file keeps these lines, without the batch or with all of it
-abbrev pub IsBeforeOrAfter : List (List ℕ) → List (List ℕ) → List ℕ → Type 0
-IsBeforeOrAfter lines batch file = (kept_in file ≡ lines) ⊎ (kept_in file ≡ lines ++ batch)
-
--- the file has more than its lines and a closed mark
-abbrev pub HasTornEnd : List ℕ → Type 0
-HasTornEnd file = (file ≢ marked (kept_in file)) × (file ≢ file_of (kept_in file))
-
 -- a line begins here, and has no newline among its first bytes, which are more than the limit
 abbrev pub BeginsTooLong : ℕ → List ℕ → Type 0
 BeginsTooLong limit text = (begun after : List ℕ) × (text ≡ 43 ∷ begun ++ after) × IsLine begun × (limit < length begun)
-
--- such a line comes after whole lines
-abbrev pub HasTooLongLine : ℕ → List ℕ → Type 0
-HasTooLongLine limit file = (front rest : List ℕ) × (file ≡ front ++ rest) × (front ≡ marked (kept_in front)) × BeginsTooLong limit rest
 
 -- what comes after the lines of an intact file: nothing, or a closed mark and no more bytes than a batch has after its first mark
 abbrev pub MayEnd : List ℕ → Type 0
 MayEnd [] = Unit {0}
 MayEnd (mark ∷ after) = (mark ≡ 45) × (length after ≤ 3145728)
-
--- the file is its lines and such an end, as a crash leaves it
-abbrev pub IsIntact : List ℕ → Type 0
-IsIntact file = (end : List ℕ) × (file ≡ marked (kept_in file) ++ end) × MayEnd end
-
--- what comes after the lines, from this byte of the file on, is no such end
-abbrev pub HasDamage : ℕ → List ℕ → Type 0
-HasDamage at file = (rest : List ℕ) × (file ≡ marked (kept_in file) ++ rest) × (length (marked (kept_in file)) ≡ at) × (MayEnd rest → ⊥)
-
--- the lines, some byte in the place of a mark, and the batch after its first mark
-abbrev pub HasSomeMark : List (List ℕ) → List (List ℕ) → List ℕ → Type 0
-HasSomeMark lines batch file = (mark : ℕ) × (after : List ℕ) × (file_of batch ≡ 43 ∷ after) × (file ≡ marked lines ++ mark ∷ after)

@@ -1,3 +1,2 @@
 -- Words that only private contracts and proofs use.
-pub mod End
 pub mod Window

@@ -5,26 +5,20 @@ use std::alloc::AllocError;
 use std::io;
 use thiserror::Error;
 
-/// Why lines were not read, or not kept.
+/// Why lines were not read.
 #[derive(Clone, Copy, Debug, Error)]
 pub enum KeepError {
     #[error("out of memory")]
     Memory,
-    /// A call on the disk has failed, as on a full one.
+    /// A call on the disk has failed.
     #[error("{0}")]
     Disk(io::Error),
-    /// The file has 2^60 bytes.
-    #[error("the file is full")]
-    Full,
     /// The file has a line that is longer than the caller's limit.
     #[error("a line of the file is too long")]
     TooLong,
     /// What comes after the lines of the file, from this byte on, is neither nothing nor a closed mark with at most the bytes of a batch.
     #[error("the file is damaged at byte {0}")]
     Damaged(usize),
-    /// The batch has more bytes than one may have.
-    #[error("a batch is too large")]
-    LargeBatch,
 }
 
 impl From<AllocError> for KeepError {

@@ -1,16 +1,10 @@
-//! Lines of bytes in a file that a person can read. Each batch of lines is on the disk before it is acknowledged.
+//! Reads the lines of a store of format 1, and changes nothing.
 #![tactic(auto)]
 
-mod batch;
 mod error;
-mod log;
 mod marks;
 mod recovery;
-mod repair;
 mod window;
 
-pub use batch::Batch;
 pub use error::KeepError;
-pub use log::Log;
-pub use marks::MOST_BATCH_BYTES;
-pub use recovery::{Recovery, Unrecovered};
+pub use recovery::Recovery;

@@ -1,18 +1,17 @@
 // The bytes between lines.
-ghost use Rattle.std.specs.Prelude.{◌≡◌, ◌≢◌, ◌↔◌, ◌+◌, ◌<◌, ◌∷◌, [], length, slice_index, IfSome, IsNone, IsTrue};
+ghost use Rattle.std.specs.Prelude.{◌≡◌, ◌↔◌, ◌+◌, ◌<◌, length, slice_index, IfSome, IsNone, IsTrue};
 ghost use Rattle.kept_lines.specs.Inner.Window.{BeginsLine, BeginsNoLine, MayEndBy};
 
 use memchr::memchr;
 
-pub(crate) const OPEN: u8 = b'+';
+const OPEN: u8 = b'+';
 
-pub(crate) const CLOSED: u8 = b'-';
+const CLOSED: u8 = b'-';
 
-pub(crate) const NEWLINE: u8 = b'\n';
+const NEWLINE: u8 = b'\n';
 
-/// How many bytes a batch may have after its first mark: the whole lines of a part of a line and a read call of 1,048,576 bytes each,
-/// with a mark for each newline that was read.
-pub const MOST_BATCH_BYTES: usize = 3_145_728;
+// How many bytes may come after a closed mark: those of one batch, which a crash has left there.
+const MOST_BATCH_BYTES: usize = 3_145_728;
 
 /// The number of bytes of the line that a text begins with, without its mark and its newline.
 pub(crate) fn line_length(text: &[u8]) -> Option<usize>
@@ -44,24 +43,4 @@ pub(crate) fn may_end(text: &[u8], left: usize) -> bool
         return true;
     };
     mark == CLOSED && left <= MOST_BATCH_BYTES + 1
-}
-
-/// Whether what comes after the lines of a file is more than a closed mark.
-pub(crate) fn is_torn(rest: &[u8]) -> bool
-    ensures { IsTrue result ↔ (rest.now ≢ []) × (rest.now ≢ CLOSED ∷ []) }
-{
-    let Some((&mark, after)) = rest.split_first() else {
-        return false;
-    };
-    mark != CLOSED || !after.is_empty()
-}
-
-/// Whether what comes after the lines of a file begins with a mark that is not open.
-pub(crate) fn is_shut(rest: &[u8]) -> bool
-    ensures { IsTrue result ↔ (0 < length rest.now) × (slice_index rest.now 0 ≢ OPEN) }
-{
-    let Some((&mark, _after)) = rest.split_first() else {
-        return false;
-    };
-    mark != OPEN
 }

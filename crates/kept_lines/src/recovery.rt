@@ -1,24 +1,20 @@
-ghost use Rattle.std.specs.Prelude.{◌≡◌, ◌⊎◌, ◌↔◌, ◌+◌, ◌-◌, ◌<◌, ◌≤◌, ◌^◌, ◌∷◌, [], ℕ, List, length, drop, take, IsTrue, IfOk, OnOk, OnErr, IfErr, IsErrOf, IfSome, IsNone, MatchResult, false};
+ghost use Rattle.std.specs.Prelude.{◌≡◌, ◌+◌, ◌<◌, ◌≤◌, ◌^◌, ◌∷◌, [], ℕ, length, drop, take, IsTrue, IfOk, OnOk, OnErr, IfErr, IsErrOf, IfSome, IsNone, false};
 ghost use Rattle.sqlite_disk.specs.Disk.{Only, MoreFaults};
-ghost use Rattle.kept_lines.specs.File.{BeginsTooLong, HasDamage, HasTooLongLine, HasTornEnd, IsIntact, MayEnd, kept_in};
-ghost use Rattle.kept_lines.specs.Reading.{IsFrontOf, OnlyReads};
-ghost use Rattle.kept_lines.specs.Log.{IsSettled, IsDiskError};
+ghost use Rattle.kept_lines.specs.File.{BeginsTooLong, MayEnd, kept_in};
+ghost use Rattle.kept_lines.specs.Reading.{IsDiskError, IsFrontOf, OnlyReads};
 ghost use Rattle.kept_lines.specs.Inner.Window.{IsWindow, IsPlace, BeginsLine, BeginsNoLine};
-ghost use Rattle.kept_lines.specs.Inner.End.{IsEnd, IsShut, IsSafe};
 
-use crate::log::MOST_BYTES;
-use crate::marks::{begins_too_long, is_shut, is_torn, line_length, may_end};
-use crate::repair::repair;
+use crate::KeepError;
+use crate::marks::{begins_too_long, line_length, may_end};
 use crate::window::{file_length, read_window};
-use crate::{KeepError, Log};
 use sqlite_disk::Disk;
 use std::alloc::Global;
 
 // The number of bytes of a read. If the next line has more, a read takes these beside the longest line.
 const CHUNK: usize = 1 << 16;
 
-/// Reads the lines of a file that a crash may have left, one after another. It changes nothing until
-/// `finish`, and it needs memory for a chunk and the longest line, however long the file is.
+/// Reads the lines of a file that a crash may have left, one after another. It changes nothing, and it
+/// needs memory for a chunk and the longest line, however long the file is.
 #[derive(Drop)]
 pub struct Recovery<D: Disk> {
     disk: D,
@@ -38,13 +34,6 @@ pub struct Recovery<D: Disk> {
     ghost line_is: { (line ≤ line_end) × (line_end ≤ length window.items) },
     ghost fits: { begin + length window.items < 2 ^ 64 },
     ghost bounded: { length window.items ≤ limit + 65536 },
-}
-
-/// Why a recovery failed, and its disk.
-#[derive(Drop)]
-pub struct Unrecovered<D: Disk> {
-    pub disk: D,
-    pub cause: KeepError,
 }
 
 impl<D: Disk> Recovery<D> {
@@ -108,8 +97,6 @@ impl<D: Disk> Recovery<D> {
         ensures too_long { IsErrOf result KeepError.TooLong → IsTrue (D.Disk.is_clean (disk_of self.new)) → BeginsTooLong (limit_of self.old) (unread self.old) }
         ensures damaged { (at : ℕ) → IsErrOf result (KeepError.Damaged at) → IsTrue (D.Disk.is_clean (disk_of self.new))
             → (at ≡ place_of self.old) × (lines_left self.old ≡ []) × (MayEnd (unread self.old) → ⊥) }
-        ensures full { IsErrOf result KeepError.Full → ⊥ }
-        ensures large { IsErrOf result KeepError.LargeBatch → ⊥ }
     {
         let Some(count) = self.find()? else {
             if begins_too_long(&self.window[self.next..], self.limit) {
@@ -134,13 +121,6 @@ impl<D: Disk> Recovery<D> {
         &self.window[self.line..self.line_end]
     }
 
-    /// What comes after the lines, when `next_line` found no more: all of it, or a front that is longer than a line may be.
-    pub fn shown(&self) -> &[u8]
-        ensures { result.now ≡ shown self.now }
-    {
-        &self.window[self.next..]
-    }
-
     // Refuses what the window shows, and no line begins, unless a file may end so.
     fn check_end(&mut self) -> Result<(), KeepError>
         requires { IsTrue (D.Disk.is_clean (disk_of self.old)) → IsFrontOf (limit_of self.old) (unread self.old) (shown self.old) }
@@ -153,9 +133,7 @@ impl<D: Disk> Recovery<D> {
         ensures reads { OnlyReads D.Disk (disk_of self.old) (disk_of self.new) }
         ensures calm { OnOk result (D.Disk.faults (disk_of self.new) ≡ D.Disk.faults (disk_of self.old)) }
         ensures failed { IfErr result (λ e. IsDiskError e → MoreFaults (D.Disk.faults (disk_of self.old)) (D.Disk.faults (disk_of self.new))) }
-        ensures full { IsErrOf result KeepError.Full → ⊥ }
         ensures too_long { IsErrOf result KeepError.TooLong → ⊥ }
-        ensures large { IsErrOf result KeepError.LargeBatch → ⊥ }
     {
         let place = self.begin + self.next;
         let length = file_length(&mut self.disk)?;
@@ -176,10 +154,8 @@ impl<D: Disk> Recovery<D> {
         ensures reads { OnlyReads D.Disk (disk_of self.old) (disk_of self.new) }
         ensures calm { OnOk result (D.Disk.faults (disk_of self.new) ≡ D.Disk.faults (disk_of self.old)) }
         ensures failed { IfErr result (λ e. IsDiskError e → MoreFaults (D.Disk.faults (disk_of self.old)) (D.Disk.faults (disk_of self.new))) }
-        ensures full { IsErrOf result KeepError.Full → ⊥ }
         ensures too_long { IsErrOf result KeepError.TooLong → ⊥ }
         ensures damaged { (at : ℕ) → IsErrOf result (KeepError.Damaged at) → ⊥ }
-        ensures large { IsErrOf result KeepError.LargeBatch → ⊥ }
     {
         if let Some(count) = line_length(&self.window[self.next..]) {
             return Ok(Some(count));
@@ -201,10 +177,8 @@ impl<D: Disk> Recovery<D> {
         ensures reads { OnlyReads D.Disk (disk_of self.old) (disk_of self.new) }
         ensures calm { OnOk result (D.Disk.faults (disk_of self.new) ≡ D.Disk.faults (disk_of self.old)) }
         ensures failed { IfErr result (λ e. IsDiskError e → MoreFaults (D.Disk.faults (disk_of self.old)) (D.Disk.faults (disk_of self.new))) }
-        ensures full { IsErrOf result KeepError.Full → ⊥ }
         ensures too_long { IsErrOf result KeepError.TooLong → ⊥ }
         ensures damaged { (at : ℕ) → IsErrOf result (KeepError.Damaged at) → ⊥ }
-        ensures large { IsErrOf result KeepError.LargeBatch → ⊥ }
     {
         self.begin += self.next;
         self.next = 0;
@@ -221,112 +195,9 @@ impl<D: Disk> Recovery<D> {
         ensures reads { OnlyReads D.Disk (disk_of self.old) (disk_of self.new) }
         ensures calm { OnOk result (D.Disk.faults (disk_of self.new) ≡ D.Disk.faults (disk_of self.old)) }
         ensures failed { IfErr result (λ e. IsDiskError e → MoreFaults (D.Disk.faults (disk_of self.old)) (D.Disk.faults (disk_of self.new))) }
-        ensures full { IsErrOf result KeepError.Full → ⊥ }
         ensures too_long { IsErrOf result KeepError.TooLong → ⊥ }
         ensures damaged { (at : ℕ) → IsErrOf result (KeepError.Damaged at) → ⊥ }
-        ensures large { IsErrOf result KeepError.LargeBatch → ⊥ }
     {
         self.read(self.limit.saturating_add(CHUNK))
-    }
-
-    /// Reads on to the end of the file, and returns whether it has more than its lines and a closed mark.
-    pub fn has_torn_end(&mut self) -> Result<bool, KeepError>
-        ensures value { IfOk result (λ torn. IsTrue (D.Disk.is_clean (disk_of self.new)) → (IsTrue torn ↔ HasTornEnd (D.Disk.seen (disk_of self.old)))) }
-        ensures intact { OnOk result (IsTrue (D.Disk.is_clean (disk_of self.new)) → IsIntact (D.Disk.seen (disk_of self.old))) }
-        ensures limit { limit_of self.new ≡ limit_of self.old }
-
-        ensures reads { OnlyReads D.Disk (disk_of self.old) (disk_of self.new) }
-
-        // It fails for these causes only, and if an allocation fails.
-        ensures calm { OnOk result (D.Disk.faults (disk_of self.new) ≡ D.Disk.faults (disk_of self.old)) }
-        ensures failed { IfErr result (λ e. IsDiskError e → MoreFaults (D.Disk.faults (disk_of self.old)) (D.Disk.faults (disk_of self.new))) }
-        ensures too_long { IsErrOf result KeepError.TooLong → IsTrue (D.Disk.is_clean (disk_of self.new)) → HasTooLongLine (limit_of self.old) (D.Disk.seen (disk_of self.old)) }
-        ensures damaged { (at : ℕ) → IsErrOf result (KeepError.Damaged at) → IsTrue (D.Disk.is_clean (disk_of self.new)) → HasDamage at (D.Disk.seen (disk_of self.old)) }
-        ensures large { IsErrOf result KeepError.LargeBatch → ⊥ }
-        ensures full { IsErrOf result KeepError.Full → ⊥ }
-    {
-        self.skip()?;
-        Ok(is_torn(&self.window[self.next..]))
-    }
-
-    // Goes past all lines, and has in the window what comes after them.
-    fn skip(&mut self) -> Result<(), KeepError>
-        ensures none { OnOk result (IsTrue (D.Disk.is_clean (disk_of self.new)) → lines_left self.new ≡ []) }
-        ensures may_end { OnOk result (IsTrue (D.Disk.is_clean (disk_of self.new)) → MayEnd (unread self.new)) }
-        ensures intact { OnOk result (IsTrue (D.Disk.is_clean (disk_of self.new)) → IsIntact (D.Disk.seen (disk_of self.old))) }
-        ensures front { OnOk result (IsTrue (D.Disk.is_clean (disk_of self.new)) → IsFrontOf (limit_of self.old) (unread self.new) (drop self.new.next self.new.window.items)) }
-        ensures limit { limit_of self.new ≡ limit_of self.old }
-        ensures reads { OnlyReads D.Disk (disk_of self.old) (disk_of self.new) }
-        ensures calm { OnOk result (D.Disk.faults (disk_of self.new) ≡ D.Disk.faults (disk_of self.old)) }
-        ensures failed { IfErr result (λ e. IsDiskError e → MoreFaults (D.Disk.faults (disk_of self.old)) (D.Disk.faults (disk_of self.new))) }
-        ensures too_long { IsErrOf result KeepError.TooLong → IsTrue (D.Disk.is_clean (disk_of self.new)) → HasTooLongLine (limit_of self.old) (D.Disk.seen (disk_of self.old)) }
-        ensures damaged { (at : ℕ) → IsErrOf result (KeepError.Damaged at) → IsTrue (D.Disk.is_clean (disk_of self.new)) → HasDamage at (D.Disk.seen (disk_of self.old)) }
-        ensures large { IsErrOf result KeepError.LargeBatch → ⊥ }
-        ensures full { IsErrOf result KeepError.Full → ⊥ }
-    {
-        while self.next_line()? {}
-        self.fill()
-    }
-
-    // Where the lines end, and whether a mark that is not open comes next.
-    fn end(&mut self) -> Result<(usize, bool), KeepError>
-        ensures lines { IfOk result (λ found. IsTrue (D.Disk.is_clean (disk_of self.new)) → IsEnd (D.Disk.seen (disk_of self.old)) found.0) }
-        ensures shut { IfOk result (λ found. IsTrue found.1 → IsTrue (D.Disk.is_clean (disk_of self.new)) → IsShut (D.Disk.seen (disk_of self.old)) found.0) }
-        ensures safe { IfOk result (λ found. found.1 ≡ false → IsTrue (D.Disk.is_clean (disk_of self.new)) → IsSafe (D.Disk.seen (disk_of self.old)) found.0) }
-        ensures intact { OnOk result (IsTrue (D.Disk.is_clean (disk_of self.new)) → IsIntact (D.Disk.seen (disk_of self.old))) }
-        ensures fits { IfOk result (λ found. found.0 < 2 ^ 60) }
-        ensures reads { OnlyReads D.Disk (disk_of self.old) (disk_of self.new) }
-        ensures calm { OnOk result (D.Disk.faults (disk_of self.new) ≡ D.Disk.faults (disk_of self.old)) }
-        ensures failed { IfErr result (λ e. IsDiskError e → MoreFaults (D.Disk.faults (disk_of self.old)) (D.Disk.faults (disk_of self.new))) }
-        ensures too_long { IsErrOf result KeepError.TooLong → IsTrue (D.Disk.is_clean (disk_of self.new)) → HasTooLongLine (limit_of self.old) (D.Disk.seen (disk_of self.old)) }
-        ensures damaged { (at : ℕ) → IsErrOf result (KeepError.Damaged at) → IsTrue (D.Disk.is_clean (disk_of self.new)) → HasDamage at (D.Disk.seen (disk_of self.old)) }
-        ensures large { IsErrOf result KeepError.LargeBatch → ⊥ }
-        ensures full { IsErrOf result KeepError.Full → IsTrue (D.Disk.is_clean (disk_of self.new)) → 2 ^ 60 ≤ length (D.Disk.seen (disk_of self.old)) }
-    {
-        self.skip()?;
-        let end = self.begin + self.next;
-        if end >= MOST_BYTES {
-            return Err(KeepError::Full);
-        }
-        Ok((end, is_shut(&self.window[self.next..])))
-    }
-
-    /// Reads on to the end of the file, repairs the end, and returns the log of its lines. This may
-    /// be cut short at any moment, and recovered again.
-    pub fn finish(mut self) -> Result<Log<D>, Unrecovered<D>>
-        ensures settled { IfOk result (λ log. IsSettled D.Disk log) }
-        ensures intact { IfOk result (λ log. IsTrue (D.Disk.is_clean log.disk) → IsIntact (D.Disk.seen (disk_of self))) }
-        ensures lines { IfOk result (λ log. IsTrue (D.Disk.is_clean log.disk) → kept_in (D.Disk.seen log.disk) ≡ kept_in (D.Disk.seen (disk_of self))) }
-
-        // A disk may stop at any of its calls, so this covers a crash at any moment of this call.
-        ensures any_moment { IfErr result (λ e. IsTrue (D.Disk.is_clean e.disk) → (c : List ℕ) → D.Disk.may_leave e.disk c → kept_in c ≡ kept_in (D.Disk.seen (disk_of self))) }
-
-        // Only a call on the disk that fails may come after a change.
-        ensures untouched { IfErr result (λ e. IsDiskError e.cause ⊎ OnlyReads D.Disk (disk_of self) e.disk) }
-
-        ensures clean { MatchResult result (λ log. IsTrue (D.Disk.is_clean log.disk) → IsTrue (D.Disk.is_clean (disk_of self)))
-            (λ e. IsTrue (D.Disk.is_clean e.disk) → IsTrue (D.Disk.is_clean (disk_of self))) }
-
-        // It fails for these causes only, and if an allocation fails.
-        ensures calm { IfOk result (λ log. D.Disk.faults log.disk ≡ D.Disk.faults (disk_of self)) }
-        ensures failed { IfErr result (λ e. IsDiskError e.cause → MoreFaults (D.Disk.faults (disk_of self)) (D.Disk.faults e.disk)) }
-        ensures too_long { IfErr result (λ e. e.cause ≡ KeepError.TooLong → IsTrue (D.Disk.is_clean e.disk) → HasTooLongLine (limit_of self) (D.Disk.seen (disk_of self))) }
-        ensures damaged { IfErr result (λ e. (at : ℕ) → e.cause ≡ KeepError.Damaged at → IsTrue (D.Disk.is_clean e.disk) → HasDamage at (D.Disk.seen (disk_of self))) }
-        ensures large { IfErr result (λ e. e.cause ≡ KeepError.LargeBatch → ⊥) }
-        ensures full { IfErr result (λ e. e.cause ≡ KeepError.Full → IsTrue (D.Disk.is_clean e.disk) → 2 ^ 60 ≤ length (D.Disk.seen (disk_of self))) }
-    {
-        let found = self.end();
-        let mut disk = self.disk;
-        let (end, is_shut) = match found {
-            Ok((end, is_shut)) => (end, is_shut),
-            Err(cause) => return Err(Unrecovered { disk, cause }),
-        };
-        match repair(&mut disk, end, is_shut) {
-            Ok(()) => Ok(Log { disk, end }),
-            Err(error) => Err(Unrecovered {
-                disk,
-                cause: KeepError::Disk(error),
-            }),
-        }
     }
 }

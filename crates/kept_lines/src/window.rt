@@ -1,7 +1,6 @@
 ghost use Rattle.std.specs.Prelude.{◌≡◌, ◌+◌, ◌<◌, ◌≤◌, ◌^◌, ℕ, [], length, take, drop, IsTrue, OnOk, OnErr, IfErr, IfOk, IsErrOf};
 ghost use Rattle.sqlite_disk.specs.Disk.{MoreFaults};
-ghost use Rattle.kept_lines.specs.Log.{IsDiskError};
-ghost use Rattle.kept_lines.specs.Reading.{OnlyReads};
+ghost use Rattle.kept_lines.specs.Reading.{IsDiskError, OnlyReads};
 
 use crate::KeepError;
 use sqlite_disk::Disk;
@@ -22,10 +21,8 @@ pub(crate) fn read_window<D: Disk>(
     ensures reads { OnlyReads D.Disk disk.old disk.new }
     ensures calm { OnOk result (D.Disk.faults disk.new ≡ D.Disk.faults disk.old) }
     ensures failed { IfErr result (λ e. IsDiskError e → MoreFaults (D.Disk.faults disk.old) (D.Disk.faults disk.new)) }
-    ensures full { IsErrOf result KeepError.Full → ⊥ }
     ensures too_long { IsErrOf result KeepError.TooLong → ⊥ }
     ensures damaged { (at : ℕ) → IsErrOf result (KeepError.Damaged at) → ⊥ }
-    ensures large { IsErrOf result KeepError.LargeBatch → ⊥ }
 {
     let read = fill_window(disk, begin, most, window);
     if read.is_err() {
@@ -49,10 +46,8 @@ fn fill_window<D: Disk>(
     ensures reads { OnlyReads D.Disk disk.old disk.new }
     ensures calm { OnOk result (D.Disk.faults disk.new ≡ D.Disk.faults disk.old) }
     ensures failed { IfErr result (λ e. IsDiskError e → MoreFaults (D.Disk.faults disk.old) (D.Disk.faults disk.new)) }
-    ensures full { IsErrOf result KeepError.Full → ⊥ }
     ensures too_long { IsErrOf result KeepError.TooLong → ⊥ }
     ensures damaged { (at : ℕ) → IsErrOf result (KeepError.Damaged at) → ⊥ }
-    ensures large { IsErrOf result KeepError.LargeBatch → ⊥ }
 {
     let length = disk.len()?.saturating_sub(begin).min(most);
     window.resize(length, 0)?;
@@ -69,10 +64,8 @@ pub(crate) fn file_length<D: Disk>(disk: &mut D) -> Result<usize, KeepError>
     ensures reads { OnlyReads D.Disk disk.old disk.new }
     ensures calm { OnOk result (D.Disk.faults disk.new ≡ D.Disk.faults disk.old) }
     ensures failed { IfErr result (λ e. IsDiskError e → MoreFaults (D.Disk.faults disk.old) (D.Disk.faults disk.new)) }
-    ensures full { IsErrOf result KeepError.Full → ⊥ }
     ensures too_long { IsErrOf result KeepError.TooLong → ⊥ }
     ensures damaged { (at : ℕ) → IsErrOf result (KeepError.Damaged at) → ⊥ }
-    ensures large { IsErrOf result KeepError.LargeBatch → ⊥ }
 {
     Ok(disk.len()?)
 }
