@@ -1,5 +1,5 @@
 -- New lines that are kept and answered.
-use Rattle.std.proofs.Common.{◌≡◌, ◌≢◌, ◌⊎◌, inl, inr, ⊎_elim, ℕ, ◌+◌, ◌-◌, ◌<◌, ◌≤◌, List, [], ◌∷◌, ◌++◌, length, map, take, drop, Option, Result, Ok, Err, refl, sym, ◌∙◌, ap, subst, arith, append_assoc, length-append}
+use Rattle.std.proofs.Common.{◌≡◌, ◌≢◌, ◌⊎◌, inl, inr, ⊎_elim, ℕ, ◌+◌, ◌-◌, ◌<◌, ◌≤◌, List, [], ◌∷◌, ◌++◌, length, map, take, drop, Option, None, Result, Ok, Err, refl, sym, ◌∙◌, ap, subst, arith, append_assoc, length-append}
 use Rattle.std.specs.List.{All, flat_map}
 use Rattle.std.specs.Prelude.{IfErr, IsErr, IsTrue, MatchResult, OnOk}
 use Rattle.std.proofs.lemmas.List.{append-nil, drop_all, drop_at, flat_map_more, map-append, take_all, take_at}
@@ -11,10 +11,12 @@ use Rattle.sqlite_disk.specs.Disk.{Only}
 use Rattle.sqlite_disk.specs.declared.Disk.{Ghosts}
 use Rattle.request_lines.specs.Answering.{Rule}
 use Rattle.request_lines.specs.Lines.{AreLines, HasNoNewline, with_newline}
-use Rattle.kept_lines.specs.File.{IsBeforeOrAfter, kept_in}
-use Rattle.kept_lines.specs.Reading.{OnlyReads}
-use Rattle.kept_lines.specs.declared.error.KeepError.{KeepError}
-use Rattle.kept_lines.specs.declared.error.KeepError.TheVariants as error
+use Rattle.kept_batches.specs.File.{IsBeforeOrAfter, Keeps}
+use Rattle.kept_batches.specs.Verdict.{Verdict, VerdictIsRight, accepted, damage_in, damaged_at, kept_in, readable, verdict}
+use Rattle.kept_batches.specs.Verdict.Verdict.{accepts, damage}
+use Rattle.kept_batches.specs.Reading.{OnlyReads}
+use Rattle.kept_batches.specs.declared.error.KeepError.{KeepError}
+use Rattle.kept_batches.specs.declared.error.KeepError.TheVariants as error
 use Rattle.kept_answers.specs.Faults.{IsOtherCount, of_disk}
 use Rattle.kept_answers.specs.Inner.UnderWay.{IsUnderWay}
 use Rattle.kept_answers.specs.Keeping.{FitsKept, IsStoreAnswered, IsStoreSent, answers_had, greeting}
@@ -94,11 +96,15 @@ lines_and_part text rest whole is are none = record { joined = is; whole_have_no
 pub none_lost : (seen : List ℕ) (may_leave : List ℕ → Type 0) (new : List (List ℕ)) → Only seen may_leave → AreKept may_leave (kept_in seen) new 0
 none_lost seen may_leave new only file left = (0, omega arith, omega arith, ap kept_in (only file left) ∙ sym (append-nil (kept_in seen)))
 
+-- the lines that a file keeps are those that it is found to keep
+kept_as : VerdictIsRight → (file : List ℕ) (lines : List (List ℕ)) → Keeps file lines → kept_in file ≡ lines
+kept_as right file lines keeps = ap accepted ((right file lines).1 keeps)
+
 -- all of the batch or none
-pub whole_or_none : (before new : List (List ℕ)) (file : List ℕ) → IsBeforeOrAfter before new file → (count : ℕ) × (0 ≤ count) × (count ≤ length new) × (kept_in file ≡ before ++ take count new)
-whole_or_none before new file left = ⊎_elim
-    (λ none. (0, omega arith, omega arith, none ∙ sym (append-nil before)))
-    (λ all. (length new, omega arith, omega arith, all ∙ ap (λ (l : List (List ℕ)). before ++ l) (sym (take-length new))))
+pub whole_or_none : VerdictIsRight → (before new : List (List ℕ)) (file : List ℕ) → IsBeforeOrAfter before new file → (count : ℕ) × (0 ≤ count) × (count ≤ length new) × (kept_in file ≡ before ++ take count new)
+whole_or_none right before new file left = ⊎_elim
+    (λ none. (0, omega arith, omega arith, kept_as right file before none ∙ sym (append-nil before)))
+    (λ all. (length new, omega arith, omega arith, kept_as right file (before ++ new) all ∙ ap (λ (l : List (List ℕ)). before ++ l) (sym (take-length new))))
     left
 
 -- all of it
@@ -107,6 +113,14 @@ all_kept seen may_leave before new count only is few file left =
     (length new, few, omega arith, ap kept_in (only file left) ∙ is ∙ ap (λ (l : List (List ℕ)). before ++ l) (sym (take-length new)))
 
 -- ---- lines that a store keeps
+
+all_read : (found : Verdict) → damaged_at found ≡ None → readable found ≡ accepted found
+all_read (accepts lines) whole = refl
+all_read (damage place before) whole = absurd (cc)
+
+-- all lines that can be read of a file that is not damaged are kept
+pub all_readable : (file : List ℕ) → damage_in file ≡ None → readable (verdict file) ≡ kept_in file
+all_readable file whole = all_read (verdict file) whole
 
 -- the first of the lines that are done, and the others
 pub first_done : (count : ℕ) (lines done left : List (List ℕ)) → lines ≡ done ++ left → length done ≡ count → (take count lines ≡ done) × (drop count lines ≡ left)
@@ -175,9 +189,7 @@ pub never_other : (e : KeepError) → IsOtherCount (of_disk e) → ⊥
 never_other error.Memory other = other
 never_other (error.Disk cause) other = other
 never_other error.Full other = other
-never_other error.TooLong other = other
 never_other (error.Damaged at) other = other
-never_other error.LargeBatch other = other
 
 pub on_ok_then : {T E P Q : Type 0} (result : Result T E) → OnOk result P → (P → Q) → OnOk result Q
 on_ok_then (Ok x) holds then = then holds
@@ -329,24 +341,23 @@ nothing_of_store rule start [] from = refl
 nothing_of_store rule start (first ∷ lines) from = inl refl
 
 pub greeting_begun : {A : Type 0} (rule : Rule A) (start : A) (file : List (List ℕ)) (first : List ℕ) (lines : List (List ℕ)) (from : Option ℕ) (kept : ℕ) (sent : List ℕ)
-    → file ≡ first ∷ lines → kept ≡ length lines → FitsKept from kept → Begins sent (greeting kept) → IsStoreSent rule start file from sent
+    → file ≡ first ∷ lines → kept ≡ length lines → FitsKept from kept → Begins sent (greeting first lines) → IsStoreSent rule start file from sent
 greeting_begun rule start file first lines from kept sent is size few begins =
-    subst (λ (l : List (List ℕ)). IsStoreSent rule start l from sent) (sym is) (inr (subst (FitsKept from) size few, inl (subst (λ (n : ℕ). Begins sent (greeting n)) size begins)))
+    subst (λ (l : List (List ℕ)). IsStoreSent rule start l from sent) (sym is) (inr (subst (FitsKept from) size few, inl begins))
 
 pub answers_begun : {A : Type 0} (rule : Rule A) (start : A) (file : List (List ℕ)) (first : List ℕ) (lines : List (List ℕ)) (from : Option ℕ) (had kept : ℕ) (greeted after : List ℕ)
-    → file ≡ first ∷ lines → kept ≡ length lines → had ≡ answers_had from → FitsKept from kept → greeted ≡ greeting kept → (after ≡ []) ⊎ HasResent rule start lines had after → IsStoreSent rule start file from (greeted ++ after)
+    → file ≡ first ∷ lines → kept ≡ length lines → had ≡ answers_had from → FitsKept from kept → greeted ≡ greeting first lines → (after ≡ []) ⊎ HasResent rule start lines had after → IsStoreSent rule start file from (greeted ++ after)
 answers_begun rule start file first lines from had kept greeted after is size had_is few greets then =
-    let all : greeted ≡ greeting (length lines) = greets ∙ ap greeting size in
     subst (λ (l : List (List ℕ)). IsStoreSent rule start l from (greeted ++ after)) (sym is) (inr (
       subst (FitsKept from) size few,
       ⊎_elim
-          (λ none. inl ([], sym all ∙ sym (append-nil greeted) ∙ ap (λ (l : List ℕ). greeted ++ l) (sym none) ∙ sym (append-nil (greeted ++ after))))
-          (λ sent. inr (after, ap (λ (l : List ℕ). l ++ after) all, subst (λ (n : ℕ). HasResent rule start lines n after) had_is sent))
+          (λ none. inl ([], sym greets ∙ sym (append-nil greeted) ∙ ap (λ (l : List ℕ). greeted ++ l) (sym none) ∙ sym (append-nil (greeted ++ after))))
+          (λ sent. inr (after, ap (λ (l : List ℕ). l ++ after) greets, subst (λ (n : ℕ). HasResent rule start lines n after) had_is sent))
           then,
     ))
 
 pub store_answered : {A : Type 0} (rule : Rule A) (start end : A) (file : List (List ℕ)) (first : List ℕ) (lines : List (List ℕ)) (from : Option ℕ) (had kept : ℕ) (greeted after : List ℕ)
-    → file ≡ first ∷ lines → kept ≡ length lines → had ≡ answers_had from → FitsKept from kept → greeted ≡ greeting kept → AreResent rule start lines had after end → IsStoreAnswered rule start file from (greeted ++ after) end
+    → file ≡ first ∷ lines → kept ≡ length lines → had ≡ answers_had from → FitsKept from kept → greeted ≡ greeting first lines → AreResent rule start lines had after end → IsStoreAnswered rule start file from (greeted ++ after) end
 store_answered rule start end file first lines from had kept greeted after is size had_is few greets then =
     subst (λ (l : List (List ℕ)). IsStoreAnswered rule start l from (greeted ++ after) end) (sym is)
-    (subst (FitsKept from) size few, (after, ap (λ (l : List ℕ). l ++ after) (greets ∙ ap greeting size), subst (λ (n : ℕ). AreResent rule start lines n after end) had_is then))
+    (subst (FitsKept from) size few, (after, ap (λ (l : List ℕ). l ++ after) greets, subst (λ (n : ℕ). AreResent rule start lines n after end) had_is then))

@@ -3,7 +3,7 @@ use Rattle.std.proofs.Common.{◌≡◌, ⊎_elim, inl, inr, subst, Option, None
 use Rattle.std.proofs.lemmas.List.{append-nil, length-take-le, take-append-drop, take-append-le}
 use Rattle.std.proofs.Math.Seq.{take-add}
 use Rattle.request_lines.specs.Answering.{Rule}
-use Rattle.kept_lines.specs.File.{kept_in}
+use Rattle.kept_batches.specs.Verdict.{kept_in}
 use Rattle.kept_answers.specs.Keeping.{FitsKept, answers_had, greeting}
 use Rattle.kept_answers.specs.Runs.{AreRuns, HasRun, HaveCome, IsDetermined, KeptIsARun, LeadsOneWay, Run, RunsAreOne, all_received, count_received, last_left}
 
@@ -32,7 +32,7 @@ module _ {A : Type 0} (rule : Rule A) (leads : LeadsOneWay rule) (start : A) (fi
 
   -- some came, of lines that are left
   some_came : (had count : ℕ) (run : Run) (so_far : List ℕ) (middle : A) → count ≤ length run.new → had ≤ length run.before → had + run.received ≤ length run.before + count
-      → kept_in run.left ≡ first ∷ (run.before ++ take count run.new) → rule.answers start (take had run.before) so_far middle → HaveCome rule start had run → Left had run so_far
+      → kept_in run.left ≡ first ∷ (run.before ++ take count run.new) → rule.answers start (take had run.before) so_far middle → HaveCome rule start first had run → Left had run so_far
   some_came had count run so_far middle within few enough kept so come =
       let lines = run.before ++ take count run.new in
       let size : length lines ≡ length run.before + count = length-append run.before (take count run.new) ∙ ap (λ (n : ℕ). length run.before + n) (length-take-le count run.new within) in
@@ -52,8 +52,8 @@ module _ {A : Type 0} (rule : Rule A) (leads : LeadsOneWay rule) (start : A) (fi
         same = subst (λ (l : List (List ℕ)). rule.answers start l (so_far ++ run.came) come.end) (sym parts) joined;
       }
 
-  no_greeting : (kept : ℕ) (xs ys : List ℕ) → [] ≡ (greeting kept ++ xs) ++ ys → ⊥
-  no_greeting kept xs ys is = absurd (cc)
+  no_greeting : (lines : List (List ℕ)) (xs ys : List ℕ) → [] ≡ (greeting first lines ++ xs) ++ ys → ⊥
+  no_greeting lines xs ys is = absurd (cc)
 
   left_by : (had : ℕ) (run : Run) (so_far : List ℕ) (middle : A) → HasRun rule start first had run → rule.answers start (take had run.before) so_far middle → Left had run so_far
   left_by had run so_far middle ran so = ⊎_elim
@@ -63,7 +63,7 @@ module _ {A : Type 0} (rule : Rule A) (leads : LeadsOneWay rule) (start : A) (fi
       (ran.promised.kept.leaves run.left refl))
       (λ some. ⊎_elim
       (λ leaves. some_came had leaves.0 run so_far middle leaves.1 ran.promised.few (omega (arith, leaves.2, some.0)) leaves.3 so some.1)
-      (λ nothing. absurd (no_greeting (length run.before) run.came some.1.began.0 (sym nothing.0 ∙ some.1.began.1)))
+      (λ nothing. absurd (no_greeting run.before run.came some.1.began.0 (sym nothing.0 ∙ some.1.began.1)))
       (ran.promised.kept.leaves run.left refl))
       ran.came
 

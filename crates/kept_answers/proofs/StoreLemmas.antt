@@ -5,7 +5,7 @@ use Rattle.std.proofs.lemmas.List.{append-nil, drop-append-le, length-drop, take
 use Rattle.std.proofs.Math.Seq.{take-append-add}
 use Rattle.sqlite_disk.specs.Disk.{Only}
 use Rattle.request_lines.specs.Answering.{Rule}
-use Rattle.kept_lines.specs.File.{kept_in}
+use Rattle.kept_batches.specs.Verdict.{kept_in}
 use Rattle.kept_answers.specs.Keeping.{IsAllKept, IsKept, IsStoreAnswered, IsStoreSent, FitsKept, answers_had, greeting}
 use Rattle.kept_answers.specs.Kept.{AreAnswered}
 use Rattle.kept_answers.proofs.KeptLemmas.{all_kept, answers_sent}
@@ -52,7 +52,7 @@ kept_of_store rule start may_leave (first ∷ before) from sent (inr (fits, inr 
             end = then.end;
             answered_before = subst (λ (l : List (List ℕ)). rule.answers start (take (answers_had from) l) resent.had resent.middle) (sym (append-nil before)) resent.answered_before;
             answered_after = subst (λ (l : List (List ℕ)). rule.answers resent.middle (take then.answered (drop (answers_had from) l)) then.text then.end) (sym (append-nil before)) then.answers;
-            written = (then.written.0, ap (λ (l : List ℕ). greeting (length before) ++ l) then.written.1 ∙ sym (append_assoc (greeting (length before)) after then.written.0) ∙ ap (λ (l : List ℕ). l ++ then.written.0) (sym is));
+            written = (then.written.0, ap (λ (l : List ℕ). greeting first before ++ l) then.written.1 ∙ sym (append_assoc (greeting first before) after then.written.0) ∙ ap (λ (l : List ℕ). l ++ then.written.0) (sym is));
           },
         );
         leaves = λ file left. inl (0, omega arith, omega (arith, few, then.within, length-drop (answers_had from) before), same file left ∙ ap (λ (l : List (List ℕ)). first ∷ l) (sym (append-nil before)));
@@ -90,8 +90,8 @@ module _ {A : Type 0} (rule : Rule A) (more : (a b c : A) (ls ms : List (List �
                   (more _ _ _ _ _ _ _ resent.answered_after then.answers);
               written = (
                 then.written.0,
-                ap (λ (l : List ℕ). greeting (length before) ++ (after ++ l)) then.written.1
-                    ∙ sym (append_assoc (greeting (length before)) after (sent ++ then.written.0))
+                ap (λ (l : List ℕ). greeting first before ++ (after ++ l)) then.written.1
+                    ∙ sym (append_assoc (greeting first before) after (sent ++ then.written.0))
                     ∙ ap (λ (l : List ℕ). l ++ (sent ++ then.written.0)) (sym is)
                     ∙ sym (append_assoc sent_before sent then.written.0),
               );
@@ -111,7 +111,7 @@ module _ {A : Type 0} (rule : Rule A) (more : (a b c : A) (ls ms : List (List �
         kept,
         (
           after ++ sent,
-          ap (λ (l : List ℕ). l ++ sent) is ∙ append_assoc (greeting (length before)) after sent,
+          ap (λ (l : List ℕ). l ++ sent) is ∙ append_assoc (greeting first before) after sent,
           record {
             had = resent.had;
             middle = resent.middle;

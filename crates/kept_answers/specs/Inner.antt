@@ -1,2 +1,3 @@
 -- Words that only private contracts and proofs use.
 pub mod UnderWay
+pub mod Greeted

@@ -1,12 +1,15 @@
 -- A store whose lines are answered: those that it keeps again, and then new ones.
 use Rattle.std.specs.Prelude.{◌≡◌, ◌≤◌, ◌+◌, ◌⊎◌, ℕ, List, [], ◌∷◌, ◌++◌, length, take, drop, codes, decimal, Option, None, Some, unwrap_or}
 use Rattle.request_lines.specs.Answering.{Rule}
-use Rattle.kept_lines.specs.File.{kept_in}
+use Rattle.hex.specs.Hex.{encode_lower}
+use Rattle.kept_batches.specs.Heads.{head}
+use Rattle.kept_batches.specs.Verdict.{kept_in}
 use Rattle.kept_answers.specs.Kept.{AreResent, Begins, HasResent}
 
--- the first line that is sent: how many lines the store keeps
-abbrev pub greeting : ℕ → List ℕ
-greeting kept = codes "{\"kept\":" ++ decimal kept ++ codes "}\n"
+-- the first line that is sent: how many lines the store keeps, and the head after its first record and them
+abbrev pub greeting : List ℕ → List (List ℕ) → List ℕ
+greeting first lines =
+    codes "{\"kept\":" ++ (decimal (length lines) ++ (codes ",\"head\":\"" ++ (encode_lower (head (first ∷ lines)) ++ codes "\"}\n")))
 
 -- how many answers the client has, by what it says
 abbrev pub answers_had : Option ℕ → ℕ
@@ -23,33 +26,33 @@ HasOtherCount from [] = ⊥
 HasOtherCount from (first ∷ lines) = FitsKept from (length lines) → ⊥
 
 -- what was sent begins the greeting and the answers to the lines after the first `from`
-abbrev pub GreetsAndAnswers : {A : Type 0} → Rule A → A → List (List ℕ) → ℕ → List ℕ → Type 0
-GreetsAndAnswers rule start lines from sent =
-    Begins sent (greeting (length lines))
-    ⊎ ((after : List ℕ) × (sent ≡ greeting (length lines) ++ after) × HasResent rule start lines from after)
+abbrev pub GreetsAndAnswers : {A : Type 0} → Rule A → A → List ℕ → List (List ℕ) → ℕ → List ℕ → Type 0
+GreetsAndAnswers rule start first lines from sent =
+    Begins sent (greeting first lines)
+    ⊎ ((after : List ℕ) × (sent ≡ greeting first lines ++ after) × HasResent rule start lines from after)
 
 -- nothing was sent, or the store has a first record, and what was sent is of the lines after it
 abbrev pub IsStoreSent : {A : Type 0} → Rule A → A → List (List ℕ) → Option ℕ → List ℕ → Type 0
 IsStoreSent rule start [] from sent = sent ≡ []
 IsStoreSent rule start (first ∷ lines) from sent =
-    (sent ≡ []) ⊎ (FitsKept from (length lines) × GreetsAndAnswers rule start lines (answers_had from) sent)
+    (sent ≡ []) ⊎ (FitsKept from (length lines) × GreetsAndAnswers rule start first lines (answers_had from) sent)
 
 -- all was sent
 abbrev pub IsStoreAnswered : {A : Type 0} → Rule A → A → List (List ℕ) → Option ℕ → List ℕ → A → Type 0
 IsStoreAnswered rule start [] from sent end = ⊥
 IsStoreAnswered rule start (first ∷ lines) from sent end =
     FitsKept from (length lines)
-    × ((after : List ℕ) × (sent ≡ greeting (length lines) ++ after) × AreResent rule start lines (answers_had from) after end)
+    × ((after : List ℕ) × (sent ≡ greeting first lines ++ after) × AreResent rule start lines (answers_had from) after end)
 
 -- what was sent begins the greeting and the answers to the lines after the first `from`, of which the first `answered` were begun
-pub record HasAnswered {A : Type 0} (rule : Rule A) (start : A) (kept : ℕ) (lines : List (List ℕ)) (from answered : ℕ) (sent : List ℕ) : Type 0 where
+pub record HasAnswered {A : Type 0} (rule : Rule A) (start : A) (greeted : List ℕ) (lines : List (List ℕ)) (from answered : ℕ) (sent : List ℕ) : Type 0 where
   pub had : List ℕ
   pub middle : A
   pub text : List ℕ
   pub end : A
   pub answered_before : rule.answers start (take from lines) had middle
   pub answered_after : rule.answers middle (take answered (drop from lines)) text end
-  pub written : Begins sent (greeting kept ++ text)
+  pub written : Begins sent (greeted ++ text)
 
 -- a content that a crash may leave: the record that begins the store, the lines from before, and of the new ones at least those whose
 -- answers were begun
@@ -60,7 +63,7 @@ Leaves first before new begun file =
 -- Of a store's lines and the new ones: what was sent, none but of the greeting or the answers to some lines, and what a crash may leave.
 pub record HasKept {A : Type 0} (rule : Rule A) (start : A) (may_leave : List ℕ → Type 0) (first : List ℕ) (before new : List (List ℕ)) (from : ℕ) (sent : List ℕ) : Type 0 where
   pub answered : ℕ
-  pub is_sent : Begins sent (greeting (length before)) ⊎ ((from ≤ length before) × HasAnswered rule start (length before) (before ++ new) from answered sent)
+  pub is_sent : Begins sent (greeting first before) ⊎ ((from ≤ length before) × HasAnswered rule start (greeting first before) (before ++ new) from answered sent)
   pub leaves : (file : List ℕ) → may_leave file → Leaves first before new (from + answered) file ⊎ ((sent ≡ []) × (kept_in file ≡ first ∷ before))
 
 -- nothing was sent, and a crash leaves the store's lines as they are
@@ -79,4 +82,4 @@ abbrev pub IsAllKept : {A : Type 0} → Rule A → A → List ℕ → List (List
 IsAllKept rule start file [] new from sent end = ⊥
 IsAllKept rule start file (first ∷ before) new from sent end =
     (kept_in file ≡ first ∷ (before ++ new))
-    × ((after : List ℕ) × (sent ≡ greeting (length before) ++ after) × AreResent rule start (before ++ new) (answers_had from) after end)
+    × ((after : List ℕ) × (sent ≡ greeting first before ++ after) × AreResent rule start (before ++ new) (answers_had from) after end)

@@ -1,7 +1,7 @@
 -- What a kept stream promises: a line is on the disk before a byte of its answer is written.
 use Rattle.std.specs.Prelude.{◌≡◌, ◌≤◌, ℕ, List, ◌++◌, length, take, drop}
 use Rattle.request_lines.specs.Answering.{Rule}
-use Rattle.kept_lines.specs.File.{kept_in}
+use Rattle.kept_batches.specs.Verdict.{kept_in}
 
 -- the file stands for the lines from before and the first `count` of the new ones
 abbrev pub HasKept : List (List ℕ) → List (List ℕ) → ℕ → List ℕ → Type 0

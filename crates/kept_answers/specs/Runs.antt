@@ -3,7 +3,7 @@ use Rattle.std.specs.Prelude.{◌≡◌, ◌≤◌, ◌+◌, ◌⊎◌, ℕ, Lis
 use Rattle.ocpi_types.specs.declared.config.Config.{Config}
 use Rattle.request_lines.specs.Answering.{Rule}
 use Rattle.request_lines.specs.Script.{answers_to, script_rule}
-use Rattle.kept_lines.specs.File.{kept_in}
+use Rattle.kept_batches.specs.Verdict.{kept_in}
 use Rattle.kept_answers.specs.Keeping.{HasKept, IsKept, answers_had, greeting}
 use Rattle.kept_answers.specs.Kept.{Begins}
 
@@ -35,18 +35,18 @@ pub record IsRunKept {A : Type 0} (rule : Rule A) (start : A) (first : List ℕ)
   pub kept : HasKept rule start (λ file. file ≡ run.left) first run.before run.new had run.sent
 
 -- after the first `had` answers, those to the next lines came to the client whole: after the greeting they begin what was sent
-pub record HaveCome {A : Type 0} (rule : Rule A) (start : A) (had : ℕ) (run : Run) : Type 0 where
+pub record HaveCome {A : Type 0} (rule : Rule A) (start : A) (first : List ℕ) (had : ℕ) (run : Run) : Type 0 where
   pub text : List ℕ
   pub middle : A
   pub end : A
   pub answered_before : rule.answers start (take had run.before) text middle
   pub answered : rule.answers middle (take run.received (drop had (run.before ++ run.new))) run.came end
-  pub began : Begins (greeting (length run.before) ++ run.came) run.sent
+  pub began : Begins (greeting first run.before ++ run.came) run.sent
 
 -- a run, and what came to the client: nothing, or answers of which `keep` had begun each
 pub record HasRun {A : Type 0} (rule : Rule A) (start : A) (first : List ℕ) (had : ℕ) (run : Run) : Type 0 where
   pub promised : IsRunKept rule start first had run
-  pub came : ((run.received ≡ 0) × (run.came ≡ [])) ⊎ ((run.received ≤ promised.kept.answered) × HaveCome rule start had run)
+  pub came : ((run.received ≡ 0) × (run.came ≡ [])) ⊎ ((run.received ≤ promised.kept.answered) × HaveCome rule start first had run)
 
 -- whatever content a crash leaves of a call of `keep`: nothing was sent and the store is as it was, or the call was such a run
 abbrev pub KeptIsARun : {A D : Type 0} → Rule A → (D → List ℕ → Type 0) → Type 0

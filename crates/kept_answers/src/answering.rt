@@ -1,16 +1,15 @@
 //! New lines, each kept before it is answered.
 
 ghost use Rattle.std.specs.Prelude.{◌≡◌, ◌+◌, ◌<◌, ◌≤◌, ◌^◌, ℕ, List, [], ◌++◌, length, map, take, drop, IsTrue, IfErr, OnOk, MatchResult};
-ghost use Rattle.kept_lines.specs.Batch.{lines_of};
-ghost use Rattle.kept_lines.specs.File.{kept_in};
-ghost use Rattle.kept_lines.specs.Log.{IsSettled};
+ghost use Rattle.kept_batches.specs.Verdict.{kept_in};
+ghost use Rattle.kept_batches.specs.Log.{IsSettled};
 ghost use Rattle.request_lines.specs.Lines.{AreLines, whole_lines};
 ghost use Rattle.kept_answers.specs.Kept.{AreAnswered};
 ghost use Rattle.kept_answers.specs.Faults.{IsOtherCount};
 
 use crate::fault::KeepFault;
 use crate::pending::{Pending, push_whole_lines};
-use kept_lines::{Batch, Log};
+use kept_batches::{Batch, Log, verdict_is_right};
 use request_lines::{
     Answerer, MOST_LINE_BYTES, MOST_READ_CALLS, Sink, Source, lines_join_to_bytes, write_all,
 };
@@ -93,7 +92,8 @@ fn answer_pending<D: Disk, W: Sink, A: Answerer>(
     scratch.batch.clear();
     scratch.sizes.clear();
     let count = push_whole_lines(&mut scratch.batch, &mut scratch.sizes, pending.bytes())?;
-    log.append(&scratch.batch)?;
+    verdict_is_right();
+    log.append(&mut scratch.batch)?;
     scratch.text.clear();
     let sizes = scratch.sizes.as_slice();
     answer_lines(alloc, answerer, pending.bytes(), sizes, &mut scratch.text)?;

@@ -4,7 +4,7 @@ ghost use Rattle.std.specs.Prelude.{◌≡◌};
 ghost use Rattle.kept_answers.specs.declared.fault.KeepFault.TheVariants.{NoMemory};
 ghost use Rattle.kept_answers.specs.Faults.{of_disk};
 
-use kept_lines::KeepError;
+use kept_batches::KeepError;
 use std::alloc::AllocError;
 use std::io;
 use thiserror::Error;
@@ -55,17 +55,13 @@ pub enum KeepFault {
     #[error("stopped after the kept lines")]
     Stopped,
 
-    /// The store has a line that is longer than a line may be.
-    #[error("a line of the store is too long")]
-    StoreLineTooLong,
+    /// Bytes at the end of the file that were never acknowledged could not be kept elsewhere, so they are not cut off.
+    #[error("the torn end cannot be kept")]
+    TornEnd,
 
     /// The store is damaged from this byte on. Nothing of it is changed.
     #[error("the store is damaged at byte {0}")]
     Damaged(usize),
-
-    /// The lines of a read call are a larger batch than one may be. They are not kept.
-    #[error("a batch is too large")]
-    LargeBatch,
 }
 
 impl From<AllocError> for KeepFault {
@@ -84,9 +80,7 @@ impl From<KeepError> for KeepFault {
             KeepError::Memory => KeepFault::NoMemory,
             KeepError::Disk(cause) => KeepFault::Disk(cause),
             KeepError::Full => KeepFault::Full,
-            KeepError::TooLong => KeepFault::StoreLineTooLong,
             KeepError::Damaged(at) => KeepFault::Damaged(at),
-            KeepError::LargeBatch => KeepFault::LargeBatch,
         }
     }
 }

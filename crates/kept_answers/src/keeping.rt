@@ -1,27 +1,26 @@
 //! A store whose lines are answered: those that it keeps again, and then new ones.
 
-ghost use Rattle.std.specs.Prelude.{◌≡◌, ◌≤◌, ◌^◌, ℕ, List, [], ◌∷◌, ◌++◌, length, string_bytes, IsTrue, IfErr, IfOk, OnErr, OnOk, MatchResult};
+ghost use Rattle.std.specs.Prelude.{◌≡◌, ◌≤◌, ◌^◌, ℕ, List, [], ◌∷◌, ◌++◌, None, length, string_bytes, IsTrue, IfErr, IfOk, OnErr, OnOk, MatchResult};
 ghost use Rattle.sqlite_disk.specs.Disk.{Only};
-ghost use Rattle.kept_lines.specs.File.{kept_in};
-ghost use Rattle.kept_lines.specs.Log.{IsSettled};
-ghost use Rattle.kept_lines.specs.Reading.{OnlyReads};
-ghost use Rattle.kept_lines.specs.Recovery.{disk_of, lines_left};
+ghost use Rattle.kept_batches.specs.Verdict.{damage_in, kept_in, readable, verdict};
+ghost use Rattle.kept_batches.specs.Log.{IsSettled};
+ghost use Rattle.kept_batches.specs.Reading.{OnlyReads};
+ghost use Rattle.kept_batches.specs.Heads.{head};
+ghost use Rattle.kept_batches.specs.Recovery.{disk_of, head_of, lines_left};
 ghost use Rattle.request_lines.specs.Lines.{AreLines};
 ghost use Rattle.kept_answers.specs.Keeping.{FitsKept, HasOtherCount, IsAllKept, IsKept, IsStoreAnswered, IsStoreSent, answers_had, greeting};
 ghost use Rattle.kept_answers.specs.Kept.{AreAnswered, Begins};
 ghost use Rattle.kept_answers.specs.Faults.{IsOtherCount};
+ghost use Rattle.kept_answers.specs.Inner.Greeted.{IsHeld};
 
 use crate::answering::answer_new_lines;
 use crate::fault::KeepFault;
 use crate::restart::answer_kept_lines;
 use crate::watch::Watch;
-use kept_lines::{Log, Recovery, Unrecovered};
-use request_lines::{Answerer, MOST_LINE_BYTES, Sink, Source, write_all};
+use kept_batches::{Log, Recovery, Unrecovered};
+use request_lines::{Answerer, Sink, Source, write_all};
 use sqlite_disk::Disk;
 use std::alloc::{AllocError, Global};
-
-/// How many bytes a kept line may have. The record that begins a store has a configuration and some words.
-pub const MOST_KEPT_BYTES: usize = 2 * MOST_LINE_BYTES;
 
 /// Decides between the lines that a store keeps and new ones whether the stream goes on.
 pub trait Gate<A: Answerer> {
@@ -36,13 +35,15 @@ pub struct Ended<D: Disk> {
     pub result: Result<(), KeepFault>,
 }
 
-/// The number of lines that are left.
+/// The number of lines that are left. It reads all of the file, so the store is not damaged.
 #[tactic(auto, using(crate::proofs::KeptLemmas::never_other))]
 fn count_lines<D: Disk, V: Watch>(
     recovery: &mut Recovery<D>,
     watch: &mut V,
 ) -> Result<u64, KeepFault>
     ensures count { IfOk result (λ count. IsTrue (D.Disk.is_clean (disk_of recovery.new)) → count ≡ length (lines_left recovery.old)) }
+    ensures whole { OnOk result (IsTrue (D.Disk.is_clean (disk_of recovery.new)) → damage_in (D.Disk.seen (disk_of recovery.old)) ≡ None) }
+    ensures head { OnOk result (IsTrue (D.Disk.is_clean (disk_of recovery.new)) → head_of recovery.new ≡ head (kept_in (D.Disk.seen (disk_of recovery.old)))) }
     ensures reads { OnlyReads D.Disk (disk_of recovery.old) (disk_of recovery.new) }
     ensures other { IfErr result (λ fault. IsOtherCount fault → ⊥) }
 {
@@ -54,19 +55,31 @@ fn count_lines<D: Disk, V: Watch>(
     Ok(count)
 }
 
-fn greeting_text(alloc: Global, kept: u64) -> Result<String, AllocError>
-    ensures { IfOk result (λ text. string_bytes text ≡ greeting kept) }
-{
-    format!(in alloc; "{{\"kept\":{kept}}}\n")
+/// How many lines a store keeps after its first record, and the head after all of them.
+#[derive(Clone, Copy)]
+struct Held {
+    count: u64,
+    head: [u8; 32],
 }
 
-/// Sends the line that says how many lines the store keeps.
-fn greet<W: Sink>(alloc: Global, writer: &mut W, kept: u64) -> Result<(), KeepFault>
+fn greeting_text(alloc: Global, held: Held) -> Result<String, AllocError>
+    ensures { IfOk result (λ text. (first : List ℕ) (lines : List (List ℕ)) → IsHeld held first lines → string_bytes text ≡ greeting first lines) }
+{
+    let head = hex::encode(alloc, held.head.as_slice())?;
+    format!(in alloc;
+        "{{\"kept\":{},\"head\":\"{}\"}}\n",
+        held.count,
+        head.as_str()
+    )
+}
+
+/// Sends the line that says how many lines the store keeps, and their head.
+fn greet<W: Sink>(alloc: Global, writer: &mut W, held: Held) -> Result<(), KeepFault>
     ensures told { (sent : List ℕ) × W.writing.takes writer.old sent writer.new
-        × MatchResult result (λ _. sent ≡ greeting kept) (λ _. Begins sent (greeting kept)) }
+        × ((first : List ℕ) (lines : List (List ℕ)) → IsHeld held first lines → MatchResult result (λ _. sent ≡ greeting first lines) (λ _. Begins sent (greeting first lines))) }
     ensures other { IfErr result (λ fault. IsOtherCount fault → ⊥) }
 {
-    let text = greeting_text(alloc, kept)?;
+    let text = greeting_text(alloc, held)?;
     if let Err(_sent) = write_all(writer, text.as_bytes()) {
         return Err(KeepFault::Write);
     }
@@ -77,7 +90,7 @@ fn greet<W: Sink>(alloc: Global, writer: &mut W, kept: u64) -> Result<(), KeepFa
 #[tactic(auto, using(crate::proofs::KeptLemmas::never_other))]
 fn go_past_first<D: Disk>(recovery: &mut Recovery<D>) -> Result<(), KeepFault>
     ensures lines { OnOk result (IsTrue (D.Disk.is_clean (disk_of recovery.new)) → (first : List ℕ)
-        × (kept_in (D.Disk.seen (disk_of recovery.old)) ≡ first ∷ lines_left recovery.new)) }
+        × (readable (verdict (D.Disk.seen (disk_of recovery.old))) ≡ first ∷ lines_left recovery.new)) }
     ensures reads { OnlyReads D.Disk (disk_of recovery.old) (disk_of recovery.new) }
     ensures other { IfErr result (λ fault. IsOtherCount fault → ⊥) }
 {
@@ -89,20 +102,21 @@ fn go_past_first<D: Disk>(recovery: &mut Recovery<D>) -> Result<(), KeepFault>
     }
 }
 
-/// Goes past the record that begins the store, and returns how many lines come after it.
+/// Goes past the record that begins the store, and returns how many lines come after it, and the head after all of them.
 fn read_past_first<D: Disk, V: Watch>(
     recovery: &mut Recovery<D>,
     watch: &mut V,
-) -> Result<u64, KeepFault>
-    ensures count { IfOk result (λ count. IsTrue (D.Disk.is_clean (disk_of recovery.new)) → (first : List ℕ)
-        × (kept_in (D.Disk.seen (disk_of recovery.old)) ≡ first ∷ lines_left recovery.new) × (count ≡ length (lines_left recovery.new))) }
+) -> Result<Held, KeepFault>
+    ensures held { IfOk result (λ held. IsTrue (D.Disk.is_clean (disk_of recovery.new)) → (first : List ℕ)
+        × (kept_in (D.Disk.seen (disk_of recovery.old)) ≡ first ∷ lines_left recovery.new) × IsHeld held first (lines_left recovery.new)) }
     ensures reads { OnlyReads D.Disk (disk_of recovery.old) (disk_of recovery.new) }
     ensures other { IfErr result (λ fault. IsOtherCount fault → ⊥) }
 {
     go_past_first(recovery)?;
     let count = count_lines(recovery, watch)?;
+    let head = *recovery.head();
     go_past_first(recovery)?;
-    Ok(count)
+    Ok(Held { count, head })
 }
 
 /// How many answers the client has, of so many kept lines.
@@ -118,7 +132,7 @@ fn answers_had(from: Option<u64>, kept: u64) -> Result<u64, KeepFault>
     }
 }
 
-/// Sends how many lines the store keeps, and then the answers to those that the client does not have.
+/// Sends how many lines the store keeps and their head, and then the answers to those that the client does not have.
 fn answer_store<D: Disk, W: Sink, A: Answerer, V: Watch>(
     alloc: Global,
     recovery: &mut Recovery<D>,
@@ -133,13 +147,28 @@ fn answer_store<D: Disk, W: Sink, A: Answerer, V: Watch>(
     ensures reads { OnlyReads D.Disk (disk_of recovery.old) (disk_of recovery.new) }
     ensures count { IfErr result (λ fault. IsOtherCount fault → IsTrue (D.Disk.is_clean (disk_of recovery.new)) → HasOtherCount from (kept_in (D.Disk.seen (disk_of recovery.old)))) }
 {
-    let kept = read_past_first(recovery, watch)?;
-    let had = answers_had(from, kept)?;
-    greet(alloc, writer, kept)?;
+    let held = read_past_first(recovery, watch)?;
+    let had = answers_had(from, held.count)?;
+    greet(alloc, writer, held)?;
     answer_kept_lines(alloc, recovery, had, writer, answerer, watch)
 }
 
-/// Answers the lines of a store, and asks the gate.
+/// Shows the bytes at the end of the file that were never acknowledged, if it has any.
+#[tactic(auto, using(crate::proofs::KeptLemmas::never_other))]
+fn show_torn_end<D: Disk, V: Watch>(
+    recovery: &mut Recovery<D>,
+    watch: &mut V,
+) -> Result<(), KeepFault>
+    ensures reads { OnlyReads D.Disk (disk_of recovery.old) (disk_of recovery.new) }
+    ensures other { IfErr result (λ fault. IsOtherCount fault → ⊥) }
+{
+    match recovery.torn_end()? {
+        Some(at) if !watch.torn(at, recovery.torn()) => Err(KeepFault::TornEnd),
+        Some(_) | None => Ok(()),
+    }
+}
+
+/// Answers the lines of a store, asks the gate, and shows what will be cut off.
 fn answer_to_gate<D: Disk, W: Sink, A: Answerer, G: Gate<A>, V: Watch>(
     alloc: Global,
     recovery: &mut Recovery<D>,
@@ -156,17 +185,16 @@ fn answer_to_gate<D: Disk, W: Sink, A: Answerer, G: Gate<A>, V: Watch>(
     ensures count { IfErr result (λ fault. IsOtherCount fault → IsTrue (D.Disk.is_clean (disk_of recovery.new)) → HasOtherCount from (kept_in (D.Disk.seen (disk_of recovery.old)))) }
 {
     answer_store(alloc, recovery, from, writer, answerer, watch)?;
-    if gate.opens(answerer) {
-        Ok(())
-    } else {
-        Err(KeepFault::Stopped)
+    if !gate.opens(answerer) {
+        return Err(KeepFault::Stopped);
     }
+    show_torn_end(recovery, watch)
 }
 
 /// Keeps and answers the lines of a store: sends how many it keeps and the answers to those after the first `from`, repairs the end
 /// that a crash may have left, and then keeps each batch of new lines before it answers it, until the reader ends. Without `from` the
 /// store must have no line yet. The gate is asked once, when all lines of the store are answered and before its end is repaired. `watch`
-/// sees each line of the store twice: as it is counted, and as it is answered.
+/// sees each line of the store twice: as it is counted, and as it is answered. It also sees what will be cut off the end.
 ///
 /// The disk comes back, with how the stream ended. The store has its first record. A disk may stop at any call, so what holds at an
 /// error holds of a crash at any moment: run again over what the crash left, and with `from` as many answers as the client has, the
@@ -199,7 +227,7 @@ pub fn keep<D: Disk, R: Source, W: Sink, A: Answerer, G: Gate<A>, V: Watch>(
     ensures untouched { IfErr result.result (λ fault. IsOtherCount fault → OnlyReads D.Disk disk result.disk) }
     ensures count { IfErr result.result (λ fault. IsOtherCount fault → IsTrue (D.Disk.is_clean result.disk) → HasOtherCount from (kept_in (D.Disk.seen disk))) }
 {
-    let mut recovery = Recovery::new(alloc, disk, MOST_KEPT_BYTES);
+    let mut recovery = Recovery::new(alloc, disk);
     if let Err(fault) = answer_to_gate(alloc, &mut recovery, from, writer, answerer, gate, watch) {
         return Ended {
             disk: recovery.into_disk(),
@@ -234,6 +262,10 @@ fn answer_log<D: Disk, R: Source, W: Sink, A: Answerer>(
     ensures other { IfErr result.result (λ fault. IsOtherCount fault → ⊥) }
 {
     let result = answer_new_lines(alloc, reader, &mut log, writer, answerer);
-    let Log { disk, end: _ } = log;
+    let Log {
+        disk,
+        end: _,
+        head: _,
+    } = log;
     Ended { disk, result }
 }

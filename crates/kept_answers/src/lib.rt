@@ -11,7 +11,7 @@ mod watch;
 
 pub use answering::answer_new_lines;
 pub use fault::KeepFault;
-pub use keeping::{Ended, Gate, MOST_KEPT_BYTES, keep};
+pub use keeping::{Ended, Gate, keep};
 pub use laws::{kept_is_a_run, runs_are_one, script_runs_are_one, scripts_are_determined};
 pub use restart::answer_kept_lines;
 pub use watch::{Unwatched, Watch};

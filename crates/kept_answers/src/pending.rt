@@ -1,12 +1,12 @@
 //! Bytes that the reader returned and that are not kept yet.
 
 ghost use Rattle.std.specs.Prelude.{◌≡◌, ◌≤◌, ◌+◌, ◌∷◌, ◌++◌, ℕ, List, [], drop, map, take, length, IfErr, IfOk, OnOk, OnErr};
-ghost use Rattle.kept_lines.specs.Batch.{lines_of};
+ghost use Rattle.kept_batches.specs.Batch.{lines_of};
 ghost use Rattle.request_lines.specs.Lines.{AreLines, whole_lines};
 ghost use Rattle.kept_answers.specs.Faults.{IsOtherCount};
 
 use crate::fault::KeepFault;
-use kept_lines::Batch;
+use kept_batches::Batch;
 use request_lines::{Failed, MOST_LINE_BYTES, Source, lines_join_to_bytes, split_line};
 use std::alloc::{AllocError, Global};
 use std::marker::Model;

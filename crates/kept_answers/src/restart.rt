@@ -1,15 +1,15 @@
 //! Lines that a store keeps, answered again.
 
 ghost use Rattle.std.specs.Prelude.{◌≡◌, ◌⊎◌, ◌++◌, ℕ, List, [], take, drop, IsTrue, IfErr, OnOk, MatchResult};
-ghost use Rattle.kept_lines.specs.Reading.{OnlyReads};
-ghost use Rattle.kept_lines.specs.Recovery.{disk_of, lines_left};
+ghost use Rattle.kept_batches.specs.Reading.{OnlyReads};
+ghost use Rattle.kept_batches.specs.Recovery.{disk_of, lines_left};
 ghost use Rattle.kept_answers.specs.Kept.{AreResent, Begins, HasResent, HasSent};
 ghost use Rattle.kept_answers.specs.Faults.{IsOtherCount};
 
 use crate::fault::KeepFault;
 use crate::pending::BATCH_BYTES;
 use crate::watch::Watch;
-use kept_lines::Recovery;
+use kept_batches::Recovery;
 use request_lines::{Answerer, Sink, write_all};
 use sqlite_disk::Disk;
 use std::alloc::Global;
@@ -95,8 +95,8 @@ fn answer_sent<D: Disk, W: Sink, A: Answerer, V: Watch>(
 ///
 /// # Errors
 ///
-/// `Disk` if a call on the disk fails, `Write` if the writer fails, `NoMemory` if an allocation fails, `StoreLineTooLong` if the store
-/// has a longer line than the recovery reads. What was sent begins the answers.
+/// `Disk` if a call on the disk fails, `Write` if the writer fails, `NoMemory` if an allocation fails, `Damaged` if the store is damaged.
+/// What was sent begins the answers.
 pub fn answer_kept_lines<D: Disk, W: Sink, A: Answerer, V: Watch>(
     alloc: Global,
     recovery: &mut Recovery<D>,

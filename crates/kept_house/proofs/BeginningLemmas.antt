@@ -1,43 +1,80 @@
 -- A store before it has begun, and the errors of its calls.
-use Rattle.std.proofs.Common.{◌≡◌, ◌⊎◌, inl, inr, ℕ, ◌+◌, ◌^◌, ◌≤◌, List, [], ◌∷◌, length, drop, refl, ◌∙◌, ap, subst, arith, length-drop}
-use Rattle.std.specs.Prelude.{Option}
-use Rattle.kept_lines.specs.File.{file_of, kept_in}
-use Rattle.kept_lines.specs.Log.{IsDiskError}
-use Rattle.kept_lines.specs.Reading.{IsFrontOf}
-use Rattle.kept_lines.specs.declared.error.KeepError.{KeepError}
-use Rattle.kept_lines.specs.declared.error.KeepError.TheVariants as error
+use Rattle.std.proofs.Common.{◌≡◌, ◌⊎◌, inl, inr, ℕ, ◌+◌, ◌≤◌, List, [], ◌∷◌, ◌++◌, length, refl, sym, ◌∙◌, ap, subst}
+use Rattle.std.specs.Prelude.{Option, None, Some, is_some, IfSome, true}
+use mathlib.Core.Logic.{∥∥₁_map}
+use Rattle.sqlite_disk.specs.declared.Disk.{Ghosts}
+use Rattle.kept_batches.specs.Batch.{lines_of, text_of}
+use Rattle.kept_batches.specs.File.{IsBeforeOrAfter, Keeps}
+use Rattle.kept_batches.specs.Verdict.{Verdict, VerdictIsRight, accepted, damage_in, damaged_at, kept_in, readable, verdict}
+use Rattle.kept_batches.specs.Verdict.Verdict.{accepts, damage}
+use Rattle.kept_batches.specs.Log.{IsDiskError}
+use Rattle.kept_batches.specs.Reading.{IsTornAt}
+use Rattle.kept_batches.specs.Recovery.{IsAtEnd, disk_of, lines_left}
+use Rattle.kept_batches.specs.Text.{marked}
+use Rattle.kept_batches.specs.declared.batch.Batch.{Batch}
+use Rattle.kept_batches.specs.declared.error.KeepError.{KeepError}
+use Rattle.kept_batches.specs.declared.error.KeepError.TheVariants as error
+use Rattle.kept_batches.specs.declared.recovery.Recovery.{Recovery}
+use Rattle.kept_answers.proofs.KeptLemmas.{all_readable}
 use Rattle.kept_answers.specs.Faults.{of_disk}
 use Rattle.kept_answers.specs.Keeping.{FitsKept, HasOtherCount}
 use Rattle.kept_answers.specs.declared.fault.KeepFault.TheVariants as keep
-use Rattle.kept_house.specs.Beginning.{HasBegun, IsDiskFault, IsOtherLines, IsPartOf, IsUnbegun}
+use Rattle.kept_house.specs.Beginning.{EndsWithin, HasBegun, IsAtMostBegun, IsDiskFault, IsOtherLines, IsUnbegun}
+use Rattle.kept_house.specs.Record.{first_record}
 use Rattle.kept_house.specs.declared.fault.StoreFault.{StoreFault}
 use Rattle.kept_house.specs.declared.fault.StoreFault.TheVariants as fault
 
-part_length : (bytes part : List ℕ) → IsPartOf bytes part → length part ≤ length bytes
-part_length bytes [] is = omega arith
-part_length [] (byte ∷ part) is = absurd is
-part_length (next ∷ bytes) (byte ∷ part) is = let shorter = part_length bytes part is.1 in omega (arith, shorter)
+-- ---- what a file keeps
 
--- what a window shows of such a file is all of it
-pub unbegun_left : (first : List ℕ) (limit : ℕ) (left text : List ℕ) → IsFrontOf limit left text → length (file_of (first ∷ [])) ≤ limit → IsUnbegun first text → IsUnbegun first left
-unbegun_left first limit left [] front few is = subst (IsUnbegun first) (front.whole (omega arith)) is
-unbegun_left first limit left (mark ∷ part) front few is =
-    let short = part_length (drop 1 (file_of (first ∷ []))) part is.1 in
-    subst (IsUnbegun first) (front.whole (omega (arith, few, short, length-drop 1 (file_of (first ∷ []))))) is
+found_whole : (found : Verdict) → (damaged_at found ≡ None) ⊎ (accepted found ≡ [])
+found_whole (accepts lines) = inl refl
+found_whole (damage place before) = inr refl
 
--- it keeps no line
-pub unbegun_nothing : (first file : List ℕ) → IsUnbegun first file → kept_in file ≡ []
-unbegun_nothing first [] is = refl
-unbegun_nothing first (mark ∷ part) is = ap (λ (byte : ℕ). kept_in (byte ∷ part)) is.0
+-- a file is not damaged, or keeps no line
+pub whole_or_none : (file : List ℕ) → (damage_in file ≡ None) ⊎ (kept_in file ≡ [])
+whole_or_none file = found_whole (verdict file)
 
--- errors of an append after which the disk may have changed
-pub append_fault : (e : KeepError) → (e ≡ error.Full → ⊥) → (e ≡ error.Memory → ⊥) → (e ≡ error.TooLong → ⊥) → ((at : ℕ) → e ≡ error.Damaged at → ⊥) → (e ≡ error.LargeBatch → ⊥) → IsDiskFault (fault.Keep (of_disk e))
-append_fault error.Memory full memory long damaged large = absurd (memory refl)
-append_fault (error.Disk cause) full memory long damaged large = tt
-append_fault error.Full full memory long damaged large = absurd (full refl)
-append_fault error.TooLong full memory long damaged large = absurd (long refl)
-append_fault (error.Damaged at) full memory long damaged large = absurd (damaged at refl)
-append_fault error.LargeBatch full memory long damaged large = absurd (large refl)
+kept_as : VerdictIsRight → (file : List ℕ) (lines : List (List ℕ)) → Keeps file lines → kept_in file ≡ lines
+kept_as right file lines keeps = ap accepted ((right file lines).1 keeps)
+
+-- a store without lines has those of the batch or none
+pub none_or_batch : VerdictIsRight → (old lines : List (List ℕ)) (file : List ℕ) → old ≡ [] → IsBeforeOrAfter old lines file → (kept_in file ≡ []) ⊎ (kept_in file ≡ lines)
+none_or_batch right old lines file none (inl before) = inl (kept_as right file old before ∙ none)
+none_or_batch right old lines file none (inr after) = inr (kept_as right file (old ++ lines) after ∙ ap (λ (l : List (List ℕ)). l ++ lines) none)
+
+-- the end of a file is no longer than this, if its torn end is
+pub ends_within : {P : Type 0} (most : ℕ) (file bytes : List ℕ) (torn : Option ℕ) → is_some torn ≡ true → IfSome torn (λ at. P → ∥ IsTornAt file at bytes ∥₁) → P → length bytes ≤ most → EndsWithin most file
+ends_within most file bytes None is found clean few = absurd (cc)
+ends_within most file bytes (Some at) is found clean few = inr (∥∥₁_map (found clean) (λ torn. (at, bytes, torn, few)))
+
+-- a file that was read to its end, and had no line
+pub none_at_end : {D : Type 0} {g : Ghosts D} (disk : D) (start end : Recovery D g) → disk_of start ≡ disk → lines_left start ≡ readable (verdict (g.seen disk)) → IsAtEnd start end
+    → (kept_in (g.seen disk) ≡ []) × (damage_in (g.seen disk) ≡ None)
+none_at_end {D} {g} disk start end same lines at =
+    let whole : damage_in (g.seen disk) ≡ None = subst (λ (d : D). damage_in (g.seen d) ≡ None) same at.whole in
+    (sym (all_readable (g.seen disk) whole) ∙ sym lines ∙ at.none, whole)
+
+-- it is a store that has not begun
+pub is_unbegun : (first file : List ℕ) (batch : Batch) → (kept_in file ≡ []) × (damage_in file ≡ None) → lines_of batch ≡ first ∷ [] → EndsWithin (79 + length (text_of batch)) file → IsUnbegun first file
+is_unbegun first file batch (none, whole) lines within = record {
+  none = none;
+  whole = whole;
+  within = subst (λ (l : List (List ℕ)). EndsWithin (79 + length (marked l)) file) lines (subst (λ (l : List ℕ). EndsWithin (79 + length l) file) batch.whole within);
+}
+
+-- nothing of a store that has not begun is left, or its record alone
+pub at_most_begun : (program given : List ℕ) (old lines : List (List ℕ)) (file : List ℕ) → old ≡ [] → lines ≡ first_record program given ∷ [] → (kept_in file ≡ []) ⊎ (kept_in file ≡ lines) → IsAtMostBegun program given old file
+at_most_begun program given old lines file none is (inl nothing) = inl (nothing ∙ sym none)
+at_most_begun program given old lines file none is (inr all) = inr (none, all ∙ is)
+
+-- ---- errors
+
+-- an error of a call on the disk is reported as one, and at another one the disk is as before
+pub disk_or_untouched : {P : Type 0} (e : KeepError) → ((IsDiskError e → ⊥) → P) → IsDiskFault (fault.Keep (of_disk e)) ⊎ P
+disk_or_untouched error.Memory untouched = inr (untouched (λ disk. disk))
+disk_or_untouched (error.Disk cause) untouched = inl tt
+disk_or_untouched error.Full untouched = inl tt
+disk_or_untouched (error.Damaged at) untouched = inr (untouched (λ disk. disk))
 
 other_not_disk : (f : StoreFault) → IsOtherLines f → IsDiskFault f → ⊥
 other_not_disk (fault.Keep keep.FewerLines) other disk = disk
@@ -51,9 +88,8 @@ other_not_disk (fault.Keep (keep.Disk cause)) other disk = other
 other_not_disk (fault.Keep keep.Full) other disk = other
 other_not_disk (fault.Keep keep.NoStore) other disk = other
 other_not_disk (fault.Keep keep.Stopped) other disk = other
-other_not_disk (fault.Keep keep.StoreLineTooLong) other disk = other
+other_not_disk (fault.Keep keep.TornEnd) other disk = other
 other_not_disk (fault.Keep (keep.Damaged at)) other disk = other
-other_not_disk (fault.Keep keep.LargeBatch) other disk = other
 other_not_disk (fault.Config cause) other disk = other
 other_not_disk (fault.OtherConfig name) other disk = other
 other_not_disk fault.LaterFormat other disk = other
@@ -69,16 +105,3 @@ untouched_then f other (inr p) = p
 pub begun_fits : (program given : List ℕ) (from : Option ℕ) (old lines : List (List ℕ)) (config : List ℕ) → old ≡ [] → HasBegun program given old lines config → FitsKept from 0 → HasOtherCount from lines → ⊥
 begun_fits program given from [] lines config none begun fits other = subst (HasOtherCount from) begun.0 other fits
 begun_fits program given from (line ∷ old) lines config none begun fits other = absurd (cc (none))
-
--- an error of a call on the disk is reported as one
-pub disk_fault : (e : KeepError) → IsDiskError e → IsDiskFault (fault.Keep (of_disk e))
-disk_fault error.Memory is = is
-disk_fault (error.Disk cause) is = tt
-disk_fault error.Full is = is
-disk_fault error.TooLong is = is
-disk_fault (error.Damaged at) is = is
-disk_fault error.LargeBatch is = is
-
--- a log without lines is not full
-pub not_full : (end : ℕ) (file : List ℕ) → end + 1 ≡ length file → file ≡ file_of (kept_in file) → kept_in file ≡ [] → 2 ^ 60 ≤ end → ⊥
-not_full end file size is none full = omega (arith, size, full, ap (λ (l : List ℕ). length l) (is ∙ ap file_of none))

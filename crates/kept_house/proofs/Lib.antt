@@ -1,4 +1,5 @@
 pub mod RecordLemmas
 pub mod SeenLemmas
 pub mod BeginningLemmas
+pub mod KeepingLemmas
 pub mod OneConfig

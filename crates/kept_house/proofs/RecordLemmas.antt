@@ -6,7 +6,7 @@ use Rattle.std.proofs.lemmas.Bool.{and_parts}
 use Rattle.std.proofs.lemmas.List.{get_or-take, length-take}
 use Rattle.std.proofs.lemmas.List.Elements.{All-append, All-cons, All-from_get_or, All-map, All-nil}
 use Rattle.memchr.specs.Find.{IsFirstByte, is_byte}
-use Rattle.kept_lines.specs.File.{IsLine}
+use Rattle.kept_batches.specs.Text.{IsLine}
 use Rattle.kept_house.specs.Record.{HasNoQuote, byte_in_line, first_record, on_one_line}
 
 -- one part more, before what follows

@@ -1,8 +1,10 @@
 -- A store as it begins or goes on.
-use Rattle.std.specs.Prelude.{◌≡◌, ◌⊎◌, ℕ, List, [], ◌∷◌, drop, ⊤}
-use Rattle.kept_lines.specs.File.{file_of, kept_in}
+use Rattle.std.specs.Prelude.{◌≡◌, ◌⊎◌, ◌≤◌, ◌+◌, ℕ, List, [], ◌∷◌, None, length, ⊤}
+use Rattle.kept_batches.specs.Reading.{IsNotTorn, IsTornAt}
+use Rattle.kept_batches.specs.Text.{marked}
+use Rattle.kept_batches.specs.Verdict.{damage_in, kept_in}
 use Rattle.kept_answers.specs.Faults.{IsOtherCount}
-use Rattle.kept_answers.specs.declared.fault.KeepFault.TheVariants.{Disk}
+use Rattle.kept_answers.specs.declared.fault.KeepFault.TheVariants.{Disk, Full}
 use Rattle.kept_house.specs.declared.fault.StoreFault.{StoreFault}
 use Rattle.kept_house.specs.declared.fault.StoreFault.TheVariants.{Keep}
 use Rattle.kept_house.specs.Record.{HasConfig, first_record, on_one_line}
@@ -17,21 +19,21 @@ HasBegun program given (first ∷ before) lines config = (lines ≡ first ∷ be
 abbrev pub IsAtMostBegun : List ℕ → List ℕ → List (List ℕ) → List ℕ → Type 0
 IsAtMostBegun program given old file = (kept_in file ≡ old) ⊎ ((old ≡ []) × (kept_in file ≡ first_record program given ∷ []))
 
--- the first of these bytes, each as it is or not written yet, 0
-abbrev pub IsPartOf : List ℕ → List ℕ → Type 0
-IsPartOf bytes [] = Unit {0}
-IsPartOf [] (byte ∷ part) = ⊥
-IsPartOf (next ∷ bytes) (byte ∷ part) = ((byte ≡ next) ⊎ (byte ≡ 0)) × IsPartOf bytes part
+-- no bytes come after the last mark, or no more than so many
+abbrev pub EndsWithin : ℕ → List ℕ → Type 0
+EndsWithin most file = IsNotTorn file ⊎ ∥ ((at : ℕ) × (bytes : List ℕ) × IsTornAt file at bytes × (length bytes ≤ most)) ∥₁
 
--- the file is empty, or has what a crash leaves of a store that begins with this record: a closed mark, and of the bytes that follow
--- the record's mark the first ones
-abbrev pub IsUnbegun : List ℕ → List ℕ → Type 0
-IsUnbegun first [] = Unit {0}
-IsUnbegun first (mark ∷ part) = (mark ≡ 45) × IsPartOf (drop 1 (file_of (first ∷ []))) part
+-- the file keeps no line and is not damaged, and after its last mark it has no more bytes than a crash leaves of a store that begins
+-- with this record: 75 before the record's line, the line with its `+` and its newline, and a mark
+pub record IsUnbegun (first file : List ℕ) : Type 0 where
+  pub none : kept_in file ≡ []
+  pub whole : damage_in file ≡ None
+  pub within : EndsWithin (79 + length (marked (first ∷ []))) file
 
--- a call on the disk has failed
+-- a call on the disk has failed, or the file has the most bytes that one may have
 abbrev pub IsDiskFault : StoreFault → Type 0
 IsDiskFault (Keep (Disk cause)) = ⊤
+IsDiskFault (Keep Full) = ⊤
 IsDiskFault _ = ⊥
 
 -- the store keeps another number of lines than the client's answers allow

@@ -1,7 +1,7 @@
 -- What follows from the definitions.
 use Rattle.std.specs.Prelude.{◌≡◌, ◌≤◌, ℕ, List, [], ◌∷◌, length, take}
 use Rattle.ocpi_types.specs.declared.config.Config.{Config}
-use Rattle.kept_lines.specs.File.{kept_in}
+use Rattle.kept_batches.specs.Verdict.{kept_in}
 use Rattle.request_lines.specs.Answering.{Rule}
 use Rattle.kept_answers.specs.Runs.{AreRuns, Run, all_received, count_received, last_left}
 use Rattle.line_streams.specs.State.{StreamState, empty_under}

@@ -1,19 +1,20 @@
 //! A store as it begins or goes on.
 
-ghost use Rattle.std.specs.Prelude.{◌≡◌, ◌⊎◌, ◌↔◌, ◌≤◌, ◌∷◌, [], ℕ, List, length, IsTrue, IfErr, IfOk, OnOk, IfSome, IsNone};
+ghost use Rattle.std.specs.Prelude.{◌≡◌, ◌⊎◌, ◌↔◌, ◌≤◌, ◌+◌, ◌^◌, ◌∷◌, [], ℕ, List, None, length, IsTrue, IfErr, IfOk, OnOk, IfSome, IsNone};
 ghost use Rattle.sqlite_disk.specs.Disk.{Only};
 ghost use Rattle.kept_answers.specs.Keeping.{FitsKept};
-ghost use Rattle.kept_lines.specs.Batch.{bytes_of, lines_of};
-ghost use Rattle.kept_lines.specs.File.{IsLine, file_of, kept_in};
-ghost use Rattle.kept_lines.specs.Reading.{OnlyReads};
-ghost use Rattle.kept_lines.specs.Recovery.{IsAtEnd, disk_of, limit_of, lines_left};
-ghost use Rattle.kept_house.specs.Beginning.{HasBegun, IsAtMostBegun, IsDiskFault, IsPartOf, IsUnbegun};
+ghost use Rattle.kept_batches.specs.Batch.{lines_of, text_of};
+ghost use Rattle.kept_batches.specs.Text.{IsLine};
+ghost use Rattle.kept_batches.specs.Verdict.{damage_in, kept_in};
+ghost use Rattle.kept_batches.specs.Reading.{OnlyReads};
+ghost use Rattle.kept_batches.specs.Recovery.{IsAtEnd, disk_of, lines_left};
+ghost use Rattle.kept_house.specs.Beginning.{EndsWithin, HasBegun, IsAtMostBegun, IsDiskFault, IsUnbegun};
 ghost use Rattle.kept_house.specs.Record.{HasConfig, first_record, on_one_line};
 
 use crate::fault::StoreFault;
 use crate::record::{config_in, first_record, on_one_line};
-use kept_answers::{KeepFault, MOST_KEPT_BYTES};
-use kept_lines::{Batch, KeepError, Log, Recovery, Unrecovered};
+use kept_answers::{KeepFault, Watch};
+use kept_batches::{Batch, Log, MOST_BATCH_BYTES, Recovery, Unrecovered, verdict_is_right};
 use sqlite_disk::Disk;
 use std::alloc::{AllocError, Global};
 
@@ -50,8 +51,8 @@ fn beginning_of(alloc: Global, program: &str, given: &[u8]) -> Result<(Batch, Ve
 ///
 /// # Errors
 ///
-/// `NoStore` and `LaterFormat` if the file begins with another line than a record of this format, or with no line and what no crash of a
-/// store leaves.
+/// `NoStore`, `LaterFormat` and `LaterLines` if its first line is no record that this program knows, and `Keep` of `Damaged` if the file is
+/// damaged before it has a line.
 fn stored_config<D: Disk>(
     alloc: Global,
     recovery: &mut Recovery<D>,
@@ -59,7 +60,6 @@ fn stored_config<D: Disk>(
     ensures some { IfOk result (λ found. IfSome found (λ config. IsTrue (D.Disk.is_clean (disk_of recovery.new)) → (first : List ℕ) × (before : List (List ℕ))
         × (lines_left recovery.old ≡ first ∷ before) × HasConfig first config.items)) }
     ensures none { IfOk result (λ found. IsNone found → IsTrue (D.Disk.is_clean (disk_of recovery.new)) → IsAtEnd recovery.old recovery.new) }
-    ensures limit { limit_of recovery.new ≡ limit_of recovery.old }
     ensures reads { OnlyReads D.Disk (disk_of recovery.old) (disk_of recovery.new) }
 {
     match recovery.next_line() {
@@ -68,78 +68,71 @@ fn stored_config<D: Disk>(
             Ok(Some(Vec::from_slice(alloc, config)?))
         }
         Ok(false) => Ok(None),
-        Err(KeepError::TooLong | KeepError::Damaged(_)) => Err(StoreFault::NoStore),
         Err(error) => Err(StoreFault::from(error)),
     }
 }
 
-/// Whether these are the first of some bytes, each as it is or 0.
-fn is_part_of(bytes: &[u8], part: &[u8]) -> bool
-    ensures { IsTrue result ↔ IsPartOf bytes.now part.now }
+/// Refuses to begin a store for a client that has answers.
+fn check_client(from: Option<u64>) -> Result<(), StoreFault>
+    ensures { OnOk result (FitsKept from 0) }
 {
-    let mut left = bytes;
-    let mut rest = part;
-    while let Some((byte, later)) = rest.split_first() {
-        let Some((next, others)) = left.split_first() else {
-            return false;
-        };
-        if byte != next && *byte != 0 {
-            return false;
-        }
-        left = others;
-        rest = later;
-    }
-    true
-}
-
-/// Whether a file is empty, or a crash may have left it of a store that begins with this batch, its record.
-fn is_unbegun(batch: &Batch, file: &[u8]) -> bool
-    ensures { (first : List ℕ) → lines_of batch.now ≡ first ∷ [] → (IsTrue result ↔ IsUnbegun first file.now) }
-{
-    let Some((&mark, part)) = file.split_first() else {
-        return true;
-    };
-    let Some((_mark, written)) = batch.bytes().split_first() else {
-        return false;
-    };
-    mark == b'-' && is_part_of(written, part)
-}
-
-/// Whether a store may begin with this batch, its record, in place of a file without lines.
-///
-/// # Errors
-///
-/// `NoStore` if no crash leaves such a file of such a store, `FewerLines` if the client has answers, and `StoreLineTooLong` if the record
-/// is too long to be read again.
-fn check_beginning(batch: &Batch, file: &[u8], from: Option<u64>) -> Result<(), StoreFault>
-    ensures unbegun { OnOk result ((first : List ℕ) → lines_of batch.now ≡ first ∷ [] → IsUnbegun first file.now) }
-    ensures small { OnOk result (length (bytes_of batch.now) ≤ 2097152) }
-    ensures few { OnOk result (length (file_of (lines_of batch.now)) ≤ 2097152) }
-    ensures fits { OnOk result (FitsKept from 0) }
-{
-    if batch.bytes().len() > MOST_KEPT_BYTES {
-        return Err(StoreFault::Keep(KeepFault::StoreLineTooLong));
-    }
-    if !is_unbegun(batch, file) {
-        return Err(StoreFault::NoStore);
-    }
     match from {
         None | Some(0) => Ok(()),
         Some(_) => Err(StoreFault::Keep(KeepFault::FewerLines)),
     }
 }
 
+/// Whether so many bytes after the last mark may be what a crash left of a store that begins with this batch, its record.
+fn may_be_left(batch: &Batch, bytes: usize) -> bool
+    ensures { IsTrue result ↔ (bytes ≤ 79 + length (text_of batch.now)) }
+{
+    bytes <= 79 + batch.text().len()
+}
+
+/// Refuses to begin a store with this batch, its record, in place of a file without lines, unless a crash may have left its end of such a
+/// beginning. `watch` sees what will be cut off.
+///
+/// # Errors
+///
+/// `Keep` of `Full` if the record has more bytes than a batch may have, `NoStore` if no crash leaves such an end of such a store, `Keep` of
+/// `FewerLines` if the client has answers, and of `TornEnd` if `watch` does not let the end be cut off.
+fn check_beginning<D: Disk, V: Watch>(
+    recovery: &mut Recovery<D>,
+    batch: &Batch,
+    from: Option<u64>,
+    watch: &mut V,
+) -> Result<(), StoreFault>
+    ensures small { OnOk result (length (text_of batch.now) ≤ 2 ^ 24) }
+    ensures within { OnOk result (IsTrue (D.Disk.is_clean (disk_of recovery.new)) → EndsWithin (79 + length (text_of batch.now)) (D.Disk.seen (disk_of recovery.old))) }
+    ensures fits { OnOk result (FitsKept from 0) }
+    ensures reads { OnlyReads D.Disk (disk_of recovery.old) (disk_of recovery.new) }
+{
+    if batch.text().len() > MOST_BATCH_BYTES {
+        return Err(StoreFault::Keep(KeepFault::Full));
+    }
+    let torn = recovery.torn_end()?;
+    if torn.is_some() && !may_be_left(batch, recovery.torn().len()) {
+        return Err(StoreFault::NoStore);
+    }
+    check_client(from)?;
+    match torn {
+        Some(at) if !watch.torn(at, recovery.torn()) => Err(StoreFault::Keep(KeepFault::TornEnd)),
+        Some(_) | None => Ok(()),
+    }
+}
+
 /// Puts its first record into a store that has no line.
-fn begin_empty<D: Disk>(recovery: Recovery<D>, batch: &Batch, config: Vec<u8>) -> Begun<D>
+fn begin_empty<D: Disk>(recovery: Recovery<D>, mut batch: Batch, config: Vec<u8>) -> Begun<D>
     requires none { IsTrue (D.Disk.is_clean (disk_of recovery)) → kept_in (D.Disk.seen (disk_of recovery)) ≡ [] }
-    requires small { length (bytes_of batch.now) ≤ 2097152 }
-    ensures ok { IfOk result.result (λ text. (text ≡ config) × (IsTrue (D.Disk.is_clean result.disk) → kept_in (D.Disk.seen result.disk) ≡ lines_of batch.now)) }
+    requires small { length (text_of batch) ≤ 2 ^ 24 }
+    ensures ok { IfOk result.result (λ text. (text ≡ config) × (IsTrue (D.Disk.is_clean result.disk) → kept_in (D.Disk.seen result.disk) ≡ lines_of batch)) }
     ensures usable { OnOk result.result (IsTrue (D.Disk.is_usable result.disk)) }
     ensures durable { OnOk result.result (Only (D.Disk.seen result.disk) (D.Disk.may_leave result.disk)) }
-    ensures any_moment { IsTrue (D.Disk.is_clean result.disk) → (c : List ℕ) → D.Disk.may_leave result.disk c → (kept_in c ≡ []) ⊎ (kept_in c ≡ lines_of batch.now) }
+    ensures any_moment { IsTrue (D.Disk.is_clean result.disk) → (c : List ℕ) → D.Disk.may_leave result.disk c → (kept_in c ≡ []) ⊎ (kept_in c ≡ lines_of batch) }
     ensures clean { IsTrue (D.Disk.is_clean result.disk) → IsTrue (D.Disk.is_clean (disk_of recovery)) }
     ensures untouched { IfErr result.result (λ fault. IsTrue (D.Disk.is_clean result.disk) → IsDiskFault fault ⊎ OnlyReads D.Disk (disk_of recovery) result.disk) }
 {
+    verdict_is_right();
     let mut log = match recovery.finish() {
         Ok(log) => log,
         Err(Unrecovered { disk, cause }) => {
@@ -149,8 +142,12 @@ fn begin_empty<D: Disk>(recovery: Recovery<D>, batch: &Batch, config: Vec<u8>) -
             };
         }
     };
-    let appended = log.append(batch);
-    let Log { disk, end: _ } = log;
+    let appended = log.append(&mut batch);
+    let Log {
+        disk,
+        end: _,
+        head: _,
+    } = log;
     match appended {
         Ok(()) => Begun {
             disk,
@@ -164,25 +161,30 @@ fn begin_empty<D: Disk>(recovery: Recovery<D>, batch: &Batch, config: Vec<u8>) -
 }
 
 /// Goes on with a store, or begins one with the record of this version of the program and this configuration if its file is empty or what
-/// a crash left of such a beginning. Any other file is as before.
+/// a crash left of such a beginning. Any other file is as before. `watch` sees what will be cut off such a file.
+/// Of a store that has begun only the first record is read, so damage after it is not found here.
 ///
 /// # Errors
 ///
-/// `Keep` if a call on the disk or an allocation fails, or if the client has answers and the store has not begun, `LaterFormat` and
-/// `NoStore` if the file begins with anything else. A disk may stop at any call, so a crash at any moment leaves the store as it was, or
-/// with its record alone.
-pub fn begin<D: Disk>(
+/// `Keep` if a call on the disk or an allocation fails, if the file is damaged, if the client has answers and the store has not begun, or
+/// if `watch` does not let the end be cut off; `LaterFormat`, `LaterLines` and `NoStore` if the file begins with anything else. A disk may
+/// stop at any call, so a crash at any moment leaves the store as it was, or with its record alone.
+pub fn begin<D: Disk, V: Watch>(
     alloc: Global,
     disk: D,
     program: &str,
     given: &[u8],
     from: Option<u64>,
+    watch: &mut V,
 ) -> Begun<D>
     requires usable { IsTrue (D.Disk.is_usable disk) }
     requires durable { Only (D.Disk.seen disk) (D.Disk.may_leave disk) }
     requires line { IsLine program.now }
-    ensures ok { IfOk result.result (λ config. IsTrue (D.Disk.is_clean result.disk)
+
+    // This says nothing of a store that is damaged.
+    ensures ok { IfOk result.result (λ config. IsTrue (D.Disk.is_clean result.disk) → damage_in (D.Disk.seen disk) ≡ None
         → HasBegun program.now given.now (kept_in (D.Disk.seen disk)) (kept_in (D.Disk.seen result.disk)) config.items) }
+
     ensures usable { OnOk result.result (IsTrue (D.Disk.is_usable result.disk)) }
     ensures durable { OnOk result.result (Only (D.Disk.seen result.disk) (D.Disk.may_leave result.disk)) }
     ensures any_moment { IsTrue (D.Disk.is_clean result.disk) → (c : List ℕ) → D.Disk.may_leave result.disk c
@@ -193,8 +195,8 @@ pub fn begin<D: Disk>(
     ensures unbegun { IsTrue (D.Disk.is_clean result.disk) → IsUnbegun (first_record program.now given.now) (D.Disk.seen disk) ⊎ OnlyReads D.Disk disk result.disk }
     ensures untouched { IfErr result.result (λ fault. IsTrue (D.Disk.is_clean result.disk) → IsDiskFault fault ⊎ OnlyReads D.Disk disk result.disk) }
 
-    // A store begins only for a client that has no answers.
-    ensures fits { IfOk result.result (λ _. IsTrue (D.Disk.is_clean result.disk) → kept_in (D.Disk.seen disk) ≡ [] → FitsKept from 0) }
+    // A store begins only for a client that has no answers. A damaged one keeps no line either, and does not begin.
+    ensures fits { IfOk result.result (λ _. IsTrue (D.Disk.is_clean result.disk) → damage_in (D.Disk.seen disk) ≡ None → kept_in (D.Disk.seen disk) ≡ [] → FitsKept from 0) }
 {
     let (batch, config) = match beginning_of(alloc, program, given) {
         Ok(beginning) => beginning,
@@ -205,7 +207,7 @@ pub fn begin<D: Disk>(
             };
         }
     };
-    let mut recovery = Recovery::new(alloc, disk, MOST_KEPT_BYTES);
+    let mut recovery = Recovery::new(alloc, disk);
     match stored_config(alloc, &mut recovery) {
         Ok(None) => {}
         Ok(Some(stored)) => {
@@ -221,8 +223,8 @@ pub fn begin<D: Disk>(
             };
         }
     }
-    match check_beginning(&batch, recovery.shown(), from) {
-        Ok(()) => begin_empty(recovery, &batch, config),
+    match check_beginning(&mut recovery, &batch, from, watch) {
+        Ok(()) => begin_empty(recovery, batch, config),
         Err(fault) => Begun {
             disk: recovery.into_disk(),
             result: Err(fault),

@@ -6,7 +6,7 @@ ghost use Rattle.kept_answers.specs.declared.fault.KeepFault.TheVariants.{NoMemo
 ghost use Rattle.kept_answers.specs.Faults.{of_disk};
 
 use kept_answers::KeepFault;
-use kept_lines::KeepError;
+use kept_batches::KeepError;
 use ocpi_json::ci_text::CiText;
 use ocpi_json::name::Name;
 use ocpi_types::ConfigFault;

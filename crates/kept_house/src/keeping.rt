@@ -2,14 +2,15 @@
 
 ghost use Rattle.std.specs.Prelude.{◌≡◌, ◌≤◌, ◌^◌, [], ℕ, List, IsTrue, IfErr, IfOk, OnOk, Ok};
 ghost use Rattle.sqlite_disk.specs.Disk.{Only};
-ghost use Rattle.kept_lines.specs.File.{IsLine, kept_in};
+ghost use Rattle.kept_batches.specs.Text.{IsLine};
+ghost use Rattle.kept_batches.specs.Verdict.{kept_in};
 ghost use Rattle.ocpi_types.specs.declared.config.Config.{Config as ConfigValue};
 ghost use Rattle.ocpi_types.specs.ConfigText.{config_of};
 ghost use Rattle.request_lines.specs.Lines.{AreLines};
 ghost use Rattle.line_streams.specs.State.{empty_under};
 ghost use Rattle.kept_answers.specs.Faults.{IsOtherCount};
 ghost use Rattle.kept_answers.specs.Keeping.{HasOtherCount, IsAllKept, IsKept};
-ghost use Rattle.kept_lines.specs.Reading.{OnlyReads};
+ghost use Rattle.kept_batches.specs.Reading.{OnlyReads};
 ghost use Rattle.kept_house.specs.Beginning.{IsOtherLines};
 ghost use Rattle.kept_house.specs.Keeping.{IsHouseAllKept, IsHouseKept, IsStreamAllKept, IsStreamKept};
 
@@ -212,7 +213,7 @@ pub fn keep_house<A: LineStream, D: Disk, R: Source, W: Sink, V: Watch>(
         }
     };
     let in_force = if must_be_in_force { Some(&ours) } else { None };
-    let Begun { disk, result } = begin(alloc, disk, program, given, from);
+    let Begun { disk, result } = begin(alloc, disk, program, given, from, watch);
     match result {
         Ok(text) => keep_under::<A, _, _, _, _>(
             alloc,

@@ -2,7 +2,7 @@
 use Rattle.std.specs.Prelude.{◌≡◌, ℕ, List, ◌++◌}
 use Rattle.request_lines.specs.Answering.{Rule}
 use Rattle.request_lines.specs.Lines.{AreLines}
-use Rattle.kept_lines.specs.File.{kept_in}
+use Rattle.kept_batches.specs.Verdict.{kept_in}
 
 -- of the bytes that were read the whole lines are kept and answered, and a part of the next is pending
 pub record IsUnderWay {A : Type 0} (rule : Rule A) (start now : A) (file : List ℕ) (is_clean : Type 0) (before : List (List ℕ)) (read written pending : List ℕ) : Type 0 where

@@ -1,7 +1,7 @@
 use Rattle.std.proofs.Common.{◌≡◌, ◌≤◌, ℕ, List, length}
 use Rattle.std.specs.Prelude.{IsTrue}
-use Rattle.kept_lines.specs.File.{kept_in}
-use Rattle.kept_lines.specs.Log.{IsSettled}
+use Rattle.kept_batches.specs.Verdict.{kept_in}
+use Rattle.kept_batches.specs.Log.{IsSettled}
 use Rattle.kept_answers.specs.Inner.UnderWay.{IsUnderWay}
 use Rattle.kept_answers.proofs.answering.answer_new_lines.Given as goal
 

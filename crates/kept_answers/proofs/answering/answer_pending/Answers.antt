@@ -1,7 +1,8 @@
 use Rattle.std.proofs.Common.{◌≡◌, ℕ, List, [], ◌++◌, take, drop, sym, ap, ◌∙◌, subst, arith}
 use Rattle.std.proofs.lemmas.List.{take-append-drop}
-use Rattle.kept_lines.specs.Batch.{lines_of}
-use Rattle.kept_lines.specs.File.{IsBeforeOrAfter, kept_in}
+use Rattle.kept_batches.specs.Batch.{lines_of}
+use Rattle.kept_batches.specs.File.{IsBeforeOrAfter}
+use Rattle.kept_batches.specs.Verdict.{kept_in}
 use Rattle.request_lines.specs.Lines.{AreLines, whole_lines}
 use Rattle.kept_answers.proofs.KeptLemmas.{all_kept, answers_sent, at_err, none_lost, nothing_sent, split, whole_or_none}
 use Rattle.kept_answers.proofs.answering.answer_pending.Goals as goal
@@ -30,7 +31,7 @@ returns-in_err-append-clause-told g c =
       lines,
       g.met.W.Sink.takes_none _,
       at_err _ c.from_residual-in_err-append.result c.from_residual-in_err-append.ensures.0 (nothing_sent _ _ _ _ _ _ (g.met.A.Answerer.answers_none _) (λ clean file left.
-          whole_or_none before whole file (subst (λ (l : List (List ℕ)). IsBeforeOrAfter before l file) are (c.in_err-append.ensures.any_moment clean file left)))),
+          whole_or_none c.verdict_is_right.ensures before whole file (subst (λ (l : List (List ℕ)). IsBeforeOrAfter before l file) are (c.in_err-append.ensures.any_moment clean file left)))),
     )
 
 pub returns-in_err-answer_lines-clause-told : goal.returns-in_err-answer_lines-clause-told

@@ -1,22 +1,22 @@
 use Rattle.std.proofs.Common.{[], ◌++◌}
-use Rattle.kept_lines.specs.File.{kept_in}
-use Rattle.kept_lines.specs.Recovery.{disk_of, lines_left}
+use Rattle.kept_batches.specs.Verdict.{kept_in}
+use Rattle.kept_batches.specs.Recovery.{disk_of, lines_left}
 use Rattle.kept_answers.proofs.KeptLemmas.{answers_begun, greeting_begun, no_ok, nothing_of_store, on_ok_then, reads_on, store_answered}
 use Rattle.kept_answers.proofs.keeping.answer_store.Goals as goal
 
-pub returns-in_err-kept-clause-told : goal.returns-in_err-kept-clause-told
-returns-in_err-kept-clause-told g c =
+pub returns-in_err-held-clause-told : goal.returns-in_err-held-clause-told
+returns-in_err-held-clause-told g c =
     ([], g.met.W.Sink.takes_none _, λ clean. (nothing_of_store _ _ (kept_in (g.D.Disk.seen (disk_of c.args.recovery.now))) c.args.from, no_ok _ c.from_residual.result c.from_residual.ensures.0))
 
-pub returns-in_err-kept-clause-reads : goal.returns-in_err-kept-clause-reads
-returns-in_err-kept-clause-reads g c = c.in_err-kept.ensures.reads
+pub returns-in_err-held-clause-reads : goal.returns-in_err-held-clause-reads
+returns-in_err-held-clause-reads g c = c.in_err-held.ensures.reads
 
 pub returns-in_err-had-clause-told : goal.returns-in_err-had-clause-told
 returns-in_err-had-clause-told g c =
     ([], g.met.W.Sink.takes_none _, λ clean. (nothing_of_store _ _ (kept_in (g.D.Disk.seen (disk_of c.args.recovery.now))) c.args.from, no_ok _ c.from_residual-in_err-had.result c.from_residual-in_err-had.ensures.0))
 
 pub returns-in_err-had-clause-reads : goal.returns-in_err-had-clause-reads
-returns-in_err-had-clause-reads g c = c.in_ok-kept.ensures.reads
+returns-in_err-had-clause-reads g c = c.in_ok-held.ensures.reads
 
 pub returns-in_err-greet-clause-told : goal.returns-in_err-greet-clause-told
 returns-in_err-greet-clause-told g c =
@@ -25,12 +25,12 @@ returns-in_err-greet-clause-told g c =
       told.0,
       told.1,
       λ clean.
-          let count = c.in_ok-kept.ensures.count clean in
-          (greeting_begun _ _ _ count.0 (lines_left c.read_past_first.new.recovery) c.args.from c.in_ok-kept.kept told.0 count.1 count.2 few told.2, no_ok _ c.from_residual-in_err-greet.result c.from_residual-in_err-greet.ensures.0),
+          let held = c.in_ok-held.ensures.held clean in
+          (greeting_begun _ _ _ held.0 (lines_left c.read_past_first.new.recovery) c.args.from c.in_ok-held.held.count told.0 held.1 held.2.count_is few (told.2 held.0 (lines_left c.read_past_first.new.recovery) held.2), no_ok _ c.from_residual-in_err-greet.result c.from_residual-in_err-greet.ensures.0),
     )
 
 pub returns-in_err-greet-clause-reads : goal.returns-in_err-greet-clause-reads
-returns-in_err-greet-clause-reads g c = c.in_ok-kept.ensures.reads
+returns-in_err-greet-clause-reads g c = c.in_ok-held.ensures.reads
 
 pub returns-clause-told : goal.returns-clause-told
 returns-clause-told g c =
@@ -40,12 +40,12 @@ returns-clause-told g c =
       greeted.0 ++ told.0,
       g.met.W.Sink.takes_more _ _ _ _ _ greeted.1 told.1,
       λ clean.
-          let count = c.in_ok-kept.ensures.count (c.answer_kept_lines.ensures.reads.clean clean) in
+          let held = c.in_ok-held.ensures.held (c.answer_kept_lines.ensures.reads.clean clean) in
           let after = told.2 clean in (
-            answers_begun _ _ _ count.0 (lines_left c.read_past_first.new.recovery) c.args.from c.in_ok-had.had c.in_ok-kept.kept greeted.0 told.0 count.1 count.2 c.in_ok-had.ensures.ok.0 few greeted.2 after.0,
-            on_ok_then c.answer_kept_lines.result after.1 (λ all. store_answered _ _ _ _ count.0 (lines_left c.read_past_first.new.recovery) c.args.from c.in_ok-had.had c.in_ok-kept.kept greeted.0 told.0 count.1 count.2 c.in_ok-had.ensures.ok.0 few greeted.2 all),
+            answers_begun _ _ _ held.0 (lines_left c.read_past_first.new.recovery) c.args.from c.in_ok-had.had c.in_ok-held.held.count greeted.0 told.0 held.1 held.2.count_is c.in_ok-had.ensures.ok.0 few (greeted.2 held.0 (lines_left c.read_past_first.new.recovery) held.2) after.0,
+            on_ok_then c.answer_kept_lines.result after.1 (λ all. store_answered _ _ _ _ held.0 (lines_left c.read_past_first.new.recovery) c.args.from c.in_ok-had.had c.in_ok-held.held.count greeted.0 told.0 held.1 held.2.count_is c.in_ok-had.ensures.ok.0 few (greeted.2 held.0 (lines_left c.read_past_first.new.recovery) held.2) all),
           ),
     )
 
 pub returns-clause-reads : goal.returns-clause-reads
-returns-clause-reads g c = reads_on g.D.Disk _ (disk_of c.read_past_first.new.recovery) _ c.in_ok-kept.ensures.reads c.answer_kept_lines.ensures.reads
+returns-clause-reads g c = reads_on g.D.Disk _ (disk_of c.read_past_first.new.recovery) _ c.in_ok-held.ensures.reads c.answer_kept_lines.ensures.reads

@@ -1,5 +1,5 @@
 use Rattle.std.proofs.Common.{List, ℕ, [], ◌∷◌, ◌++◌, ◌∙◌, ap, refl, sym, arith, append_assoc, length-append}
-use Rattle.kept_lines.specs.Recovery.{disk_of, line_of, lines_left}
+use Rattle.kept_batches.specs.Recovery.{disk_of, line_of, lines_left}
 use Rattle.kept_answers.proofs.KeptLemmas.{reads_nothing, reads_on}
 use Rattle.kept_answers.proofs.keeping.count_lines.Goals as goal
 

@@ -1,10 +1,10 @@
 use Rattle.std.proofs.Common.{◌≡◌, ℕ, List, [], ◌++◌, ap, ◌∙◌, subst, sym, arith}
 use Rattle.std.specs.Prelude.{IsTrue}
-use Rattle.kept_lines.specs.File.{kept_in}
+use Rattle.kept_batches.specs.Verdict.{kept_in}
 use Rattle.kept_answers.specs.Keeping.{HasOtherCount, IsStoreAnswered, IsStoreSent}
 use Rattle.kept_answers.specs.Kept.{AreAnswered}
-use Rattle.kept_lines.specs.Reading.{OnlyReads}
-use Rattle.kept_lines.specs.Recovery.{disk_of}
+use Rattle.kept_batches.specs.Reading.{OnlyReads}
+use Rattle.kept_batches.specs.Recovery.{disk_of}
 use Rattle.kept_answers.specs.Faults.{IsOtherCount}
 use Rattle.kept_answers.proofs.KeptLemmas.{if_err_then, never_other, no_lines}
 use Rattle.kept_answers.proofs.StoreLemmas.{all_answered, all_kept_after_store, kept_after_store, kept_of_store, of_either, ok_of}
@@ -57,7 +57,7 @@ returns-in-Err-finish g c =
         λ clean. (
           kept_of_store _ _ (g.D.Disk.may_leave c.in-Err-finish.field-0.disk) (kept_in (g.D.Disk.seen c.args.disk)) c.args.from told.0
               (subst (λ (d : g.row.D.Denot). IsStoreSent g.A.Answerer.rule c.args.answerer.now (kept_in (g.D.Disk.seen d)) c.args.from told.0) c.new-recovery.ensures.disk (told.2 (c.in-Err-finish.ensures.clean clean)).0)
-              (λ file left. c.in-Err-finish.ensures.any_moment clean file left ∙ ap kept_in (reads.seen ∙ ap (λ (d : g.row.D.Denot). g.D.Disk.seen d) c.new-recovery.ensures.disk)),
+              (λ file left. (c.in-Err-finish.ensures.any_moment clean file left).0 ∙ ap kept_in (reads.seen ∙ ap (λ (d : g.row.D.Denot). g.D.Disk.seen d) c.new-recovery.ensures.disk)),
           tt,
         ),
       );
@@ -91,7 +91,7 @@ returns-in-Ok g c =
             let clean_log = subst IsTrue c.answer_log.ensures.clean clean in
             let clean_store = c.in-Ok.ensures.clean clean_log in
             let file : kept_in (g.D.Disk.seen c.in-Ok.log.disk) ≡ kept_in (g.D.Disk.seen c.args.disk) =
-            c.in-Ok.ensures.lines clean_log ∙ ap kept_in (reads.seen ∙ ap (λ (d : g.row.D.Denot). g.D.Disk.seen d) c.new-recovery.ensures.disk) in
+            (c.in-Ok.ensures.lines clean_log).0 ∙ ap kept_in (reads.seen ∙ ap (λ (d : g.row.D.Denot). g.D.Disk.seen d) c.new-recovery.ensures.disk) in
             let store : IsStoreAnswered g.A.Answerer.rule c.args.answerer.now (kept_in (g.D.Disk.seen c.args.disk)) c.args.from before.0 c.answer_to_gate.new.answerer =
             subst (λ (d : g.row.D.Denot). IsStoreAnswered g.A.Answerer.rule c.args.answerer.now (kept_in (g.D.Disk.seen d)) c.args.from before.0 c.answer_to_gate.new.answerer) c.new-recovery.ensures.disk (before.2 clean_store).1 in (
               kept_after_store _ g.met.A.Answerer.answers_more c.args.answerer.now c.answer_to_gate.new.answerer _ _ (kept_in (g.D.Disk.seen c.args.disk)) whole c.args.from before.0 sent store

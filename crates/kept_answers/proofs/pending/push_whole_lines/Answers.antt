@@ -1,6 +1,6 @@
 use Rattle.std.proofs.Common.{List, ℕ, ◌-◌, [], ◌∷◌, ◌++◌, drop, length, map, refl, ◌∙◌, ap, sym, subst, append_assoc}
 use Rattle.std.proofs.lemmas.List.Elements.{All-push}
-use Rattle.kept_lines.specs.Batch.{lines_of}
+use Rattle.kept_batches.specs.Batch.{lines_of}
 use Rattle.request_lines.specs.Lines.{AreLines, HasNoNewline}
 use Rattle.kept_answers.proofs.KeptLemmas.{lines_and_part, one_more_line, one_more_size, rest_is}
 use Rattle.kept_answers.proofs.pending.push_whole_lines.Goals as goal

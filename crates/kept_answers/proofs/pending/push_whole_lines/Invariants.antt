@@ -1,6 +1,6 @@
 use Rattle.std.proofs.Common.{◌≡◌, ◌++◌, List, ℕ, length, map}
 use Rattle.std.specs.List.{All, flat_map}
-use Rattle.kept_lines.specs.Batch.{lines_of}
+use Rattle.kept_batches.specs.Batch.{lines_of}
 use Rattle.request_lines.specs.Lines.{HasNoNewline, with_newline}
 use Rattle.kept_answers.proofs.pending.push_whole_lines.Given as goal
 

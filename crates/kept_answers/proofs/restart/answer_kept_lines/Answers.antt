@@ -1,5 +1,5 @@
 use Rattle.std.proofs.Common.{List, ℕ, [], inl, inr, refl, subst}
-use Rattle.kept_lines.specs.Recovery.{disk_of}
+use Rattle.kept_batches.specs.Recovery.{disk_of}
 use Rattle.kept_answers.specs.Kept.{HasSent}
 use Rattle.kept_answers.proofs.KeptLemmas.{no_ok, on_ok_then, reads_on}
 use Rattle.kept_answers.proofs.restart.answer_kept_lines.Goals as goal

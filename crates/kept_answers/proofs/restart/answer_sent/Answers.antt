@@ -1,6 +1,6 @@
 use Rattle.std.proofs.Common.{ℕ, List, [], ◌∷◌, ◌++◌, refl, sym, ap, ◌∙◌, subst, append_assoc}
 use Rattle.std.proofs.lemmas.List.{append-nil}
-use Rattle.kept_lines.specs.Recovery.{disk_of, line_of, lines_left}
+use Rattle.kept_batches.specs.Recovery.{disk_of, line_of, lines_left}
 use Rattle.kept_answers.proofs.KeptLemmas.{all_sent, no_ok, on_ok_then, part_sent, reads_nothing, reads_on, sent_so_far}
 use Rattle.kept_answers.proofs.restart.answer_sent.Goals as goal
 

@@ -1,7 +1,7 @@
 use Rattle.std.proofs.Common.{◌≡◌, ◌++◌, ◌-◌, ◌^◌, List, ℕ}
 use Rattle.std.specs.Prelude.{IsTrue}
-use Rattle.kept_lines.specs.Reading.{OnlyReads}
-use Rattle.kept_lines.specs.Recovery.{disk_of, lines_left, place_of}
+use Rattle.kept_batches.specs.Reading.{OnlyReads}
+use Rattle.kept_batches.specs.Recovery.{disk_of, lines_left, place_of}
 use Rattle.kept_answers.proofs.restart.answer_sent.Given as goal
 
 -- some lines are answered, and the others are left

@@ -1,6 +1,5 @@
-use Rattle.std.proofs.Common.{◌≡◌, List, ℕ, [], ◌∷◌, ◌++◌, ◌∙◌, ap, refl, sym, subst, drop, arith, append_assoc, length-append}
-use Rattle.kept_lines.specs.File.{kept_in}
-use Rattle.kept_lines.specs.Recovery.{disk_of, line_of, lines_left, place_of}
+use Rattle.std.proofs.Common.{List, ℕ, [], ◌∷◌, ◌++◌, ◌∙◌, ap, refl, sym, subst, arith, append_assoc, length-append}
+use Rattle.kept_batches.specs.Recovery.{disk_of, line_of, lines_left}
 use Rattle.kept_answers.proofs.KeptLemmas.{all_done, first_done, reads_nothing, reads_on}
 use Rattle.kept_answers.proofs.restart.answer_unsent.Goals as goal
 
@@ -25,14 +24,10 @@ returns-then-not-is_line-clause-answers g c clean =
     let v = c.loop-number.invariant in
     let end = c.in_ok-is_line.ensures.end c.if-not-is_line.true clean in
     let reads = c.in_ok-is_line.ensures.reads in
-    let none : lines_left c.next_line.new.self ≡ [] =
-    ap (λ (place : ℕ). kept_in (drop place (g.D.Disk.seen (disk_of c.next_line.new.self)))) end.place
-    ∙ ap (λ (file : List ℕ). kept_in (drop (place_of c.loop-number.recovery) file)) reads.seen
-    ∙ end.none in
     let done = all_done c.args.count (lines_left c.args.recovery.now) v.done (lines_left c.loop-number.recovery) (v.left (reads.clean clean)) end.none (omega (arith, v.size, c.loop-number-test.true)) in (
       v.text,
       subst (λ (l : List (List ℕ)). g.A.Answerer.rule.answers c.args.answerer.now l v.text c.loop-number.answerer) (sym done.0) v.answers,
-      none ∙ sym done.1,
+      end.lent ∙ sym done.1,
     )
 
 pub returns-in_err-answer-clause-reads : goal.returns-in_err-answer-clause-reads

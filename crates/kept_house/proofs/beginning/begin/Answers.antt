@@ -1,20 +1,24 @@
-use Rattle.std.proofs.Common.{◌≤◌, inl, ℕ, List, length, sym, subst, rules}
-use Rattle.kept_lines.specs.File.{file_of}
-use Rattle.kept_lines.specs.Reading.{IsFrontOf}
-use Rattle.kept_lines.specs.Recovery.{IsAtEnd, shown, unread}
-use Rattle.kept_house.specs.Beginning.{IsUnbegun}
+use Rattle.std.proofs.Common.{◌+◌, inl, length, ◌∙◌, ap, subst, rules}
+use Rattle.kept_batches.specs.Batch.{lines_of, text_of}
+use Rattle.kept_batches.specs.Recovery.{IsAtEnd}
+use Rattle.kept_house.specs.Beginning.{EndsWithin}
 use Rattle.kept_house.specs.Record.{first_record}
-use Rattle.kept_house.proofs.BeginningLemmas.{unbegun_left}
+use Rattle.kept_house.proofs.BeginningLemmas.{at_most_begun, is_unbegun, none_at_end}
 use Rattle.kept_house.proofs.beginning.begin.Goals as goal
+
+pub returns-in-Ok-check_beginning-clause-any_moment : goal.returns-in-Ok-check_beginning-clause-any_moment
+returns-in-Ok-check_beginning-clause-any_moment g c now file left =
+    let was = c.check_beginning.ensures.reads.clean (c.begin_empty.ensures.clean now) in
+    let end : IsAtEnd c.new-recovery.result c.stored_config.new.recovery = search rules in
+    let none = none_at_end c.args.disk c.new-recovery.result c.stored_config.new.recovery c.new-recovery.ensures.disk c.new-recovery.ensures.lines end in
+    at_most_begun _ _ _ (lines_of c.in-Ok.beginning.0) file none.0 c.in-Ok.ensures.0 (c.begin_empty.ensures.any_moment now file left)
 
 pub returns-in-Ok-check_beginning-clause-unbegun : goal.returns-in-Ok-check_beginning-clause-unbegun
 returns-in-Ok-check_beginning-clause-unbegun g c now =
-    let was = c.begin_empty.ensures.clean now in
-    let first : List ℕ = first_record c.args.program.now c.args.given.now in
+    let cleared = c.begin_empty.ensures.clean now in
+    let was = c.check_beginning.ensures.reads.clean cleared in
     let end : IsAtEnd c.new-recovery.result c.stored_config.new.recovery = search rules in
-    let lines = c.in-Ok.ensures.0 in
-    let few = subst (λ (l : List (List ℕ)). length (file_of l) ≤ 2097152) lines c.in-Ok-check_beginning.ensures.few in
-    let limited = subst (λ (n : ℕ). IsFrontOf n (unread c.new-recovery.result) (shown c.stored_config.new.recovery)) c.new-recovery.ensures.limit end.front in
-    let front = subst (IsFrontOf 2097152 (unread c.new-recovery.result)) (sym c.shown.ensures) limited in
-    inl (subst (IsUnbegun first) c.new-recovery.ensures.unread
-    (unbegun_left first 2097152 (unread c.new-recovery.result) c.shown.result.now front few (c.in-Ok-check_beginning.ensures.unbegun first lines)))
+    let none = none_at_end c.args.disk c.new-recovery.result c.stored_config.new.recovery c.new-recovery.ensures.disk c.new-recovery.ensures.lines end in
+    let same = c.stored_config.ensures.reads.seen ∙ ap g.D.Disk.seen c.new-recovery.ensures.disk in
+    let within = subst (EndsWithin (79 + length (text_of c.in-Ok.beginning.0))) same (c.in-Ok-check_beginning.ensures.within cleared) in
+    inl (is_unbegun (first_record c.args.program.now c.args.given.now) (g.D.Disk.seen c.args.disk) c.in-Ok.beginning.0 none c.in-Ok.ensures.0 within)

@@ -1,26 +1,21 @@
-use Rattle.std.proofs.Common.{inl, inr, Err, sym, ◌∙◌, ap, subst, arith}
+use Rattle.std.proofs.Common.{◌≡◌, ◌⊎◌, ◌∙◌, [], sym, subst}
 use Rattle.std.specs.Prelude.{IsTrue}
+use Rattle.kept_batches.specs.Batch.{lines_of}
+use Rattle.kept_batches.specs.Verdict.{kept_in}
+use Rattle.kept_batches.specs.Reading.{OnlyReads}
+use Rattle.kept_batches.specs.Recovery.{disk_of}
 use Rattle.kept_house.specs.Beginning.{IsDiskFault}
-use Rattle.kept_house.proofs.BeginningLemmas.{append_fault, disk_fault, not_full}
+use Rattle.kept_house.specs.declared.fault.StoreFault.{StoreFault}
+use Rattle.kept_house.proofs.BeginningLemmas.{disk_or_untouched, none_or_batch}
 use Rattle.kept_house.proofs.beginning.begin_empty.Goals as goal
 
 pub returns-in-Err-clause-untouched : goal.returns-in-Err-clause-untouched
-returns-in-Err-clause-untouched g c now = elim c.in-Err.ensures.untouched [
-  | inl disk ↦ inl (subst IsDiskFault (sym c.from.ensures) (disk_fault c.in-Err.field-0.cause disk))
-  | inr reads ↦ inr reads
-]
+returns-in-Err-clause-untouched g c now =
+    let Untouched : Type 0 = OnlyReads g.D.Disk (disk_of c.args.recovery) c.in-Err.field-0.disk in
+    subst (λ (f : StoreFault). IsDiskFault f ⊎ Untouched) (sym c.from.ensures) (disk_or_untouched c.in-Err.field-0.cause c.in-Err.ensures.untouched)
 
-pub returns-in-Err-appended-clause-untouched : goal.returns-in-Err-appended-clause-untouched
-returns-in-Err-appended-clause-untouched g c now =
+pub returns-clause-any_moment : goal.returns-clause-any_moment
+returns-clause-any_moment g c now file left =
     let was = subst IsTrue c.append-appended.ensures.clean now in
-    let settled = c.in-Ok.ensures.settled in
-    let none = c.in-Ok.ensures.lines was ∙ c.requires.none (c.in-Ok.ensures.clean was) in
-    let few = c.requires.small in
-    let failed = c.in-Err-appended.ensures in
-    inl (subst IsDiskFault (sym c.from-in-Err-appended.ensures)
-    (append_fault c.in-Err-appended.error
-    (λ is. not_full c.in-Ok.log.end (g.D.Disk.seen c.in-Ok.log.disk) (settled.end was) (settled.file was) none (failed.full (ap Err is)))
-    (λ is. failed.memory (ap Err is))
-    (λ is. failed.too_long (ap Err is))
-    (λ at is. failed.damaged at (ap Err is))
-    (λ is. let more = failed.large (ap Err is) in absurd (omega (arith, few, more)))))
+    let none : kept_in (g.D.Disk.seen c.in-Ok.log.disk) ≡ [] = (c.in-Ok.ensures.lines was).0 ∙ c.requires.none (c.in-Ok.ensures.clean was) in
+    none_or_batch c.verdict_is_right.ensures (kept_in (g.D.Disk.seen c.in-Ok.log.disk)) (lines_of c.args.batch) file none (c.append-appended.ensures.any_moment now file left)

@@ -1,5 +1,5 @@
 use Rattle.std.proofs.Common.{◌≡◌, rules, subst}
-use Rattle.kept_lines.specs.File.{IsLine}
+use Rattle.kept_batches.specs.Text.{IsLine}
 use Rattle.kept_house.specs.Record.{first_record}
 use Rattle.kept_house.proofs.RecordLemmas.{record_is_line}
 use Rattle.kept_house.proofs.beginning.record_batch.Goals as goal

@@ -1,10 +1,12 @@
 use Rattle.std.proofs.Common.{inl, inr, refl, sym, ap, subst, ℕ, List, [], arith}
 use Rattle.std.proofs.lemmas.Result.{IfErr-at_err, IfOk-at_ok}
-use Rattle.kept_lines.specs.File.{kept_in}
-use Rattle.kept_house.specs.Beginning.{HasBegun}
+use Rattle.request_lines.specs.Answering.{Rule}
+use Rattle.line_streams.specs.State.{StreamState}
+use Rattle.kept_batches.specs.Verdict.{kept_in}
 use Rattle.kept_answers.proofs.KeptLemmas.{if_err_both, no_lines, on_ok_then, reads_on}
-use Rattle.kept_house.specs.Record.{first_record}
-use Rattle.kept_house.proofs.BeginningLemmas.{begun_fits, unbegun_nothing, untouched_then}
+use Rattle.kept_house.specs.Beginning.{HasBegun}
+use Rattle.kept_house.proofs.BeginningLemmas.{begun_fits, untouched_then}
+use Rattle.kept_house.proofs.KeepingLemmas.{BegunOrNone, begun_or_none, house_all_kept, house_kept}
 use Rattle.kept_house.proofs.keeping.keep_house.Goals as goal
 
 pub returns-in-Err : goal.returns-in-Err
@@ -21,7 +23,13 @@ returns g c = record {
 
 pub returns-in-Ok-result : goal.returns-in-Ok-result
 returns-in-Ok-result g c =
-    let told = c.keep_under.ensures.told in record {
+    let told = c.keep_under.ensures.told in
+    let rule : Rule StreamState = g.A.LineStream.state_rule in
+    let program : List ℕ = c.args.program.now in
+    let given : List ℕ = c.args.given.now in
+    let text : List ℕ = c.as_slice.result.now in
+    let old : List (List ℕ) = kept_in (g.D.Disk.seen c.args.disk) in
+    let lines : List (List ℕ) = kept_in (g.D.Disk.seen c.begin-disk.result.disk) in record {
       told = (
         told.0,
         told.1,
@@ -34,21 +42,21 @@ returns-in-Ok-result g c =
         told.8,
         λ clean.
             let both = told.9 clean in
-            let text : List ℕ = c.as_slice.result.now in
-            let begun : HasBegun c.args.program.now c.args.given.now (kept_in (g.D.Disk.seen c.args.disk)) (kept_in (g.D.Disk.seen c.begin-disk.result.disk)) text =
-            subst (HasBegun c.args.program.now c.args.given.now (kept_in (g.D.Disk.seen c.args.disk)) (kept_in (g.D.Disk.seen c.begin-disk.result.disk))) (sym c.as_slice.ensures.value)
-            (IfOk-at_ok _ c.in-Ok-result.is c.begin-disk.ensures.ok (c.keep_under.ensures.clean clean)) in (
-              inr (_, text, begun, both.0),
-              on_ok_then c.keep_under.result.result both.1 (λ all. (all.0, all.1, (_, text, begun, all.2))),
+            let was = c.keep_under.ensures.clean clean in
+            let begun : BegunOrNone program given old lines text =
+            begun_or_none g.D.Disk c.args.disk c.begin-disk.result.disk program given text
+            (λ whole. subst (HasBegun program given old lines) (sym c.as_slice.ensures.value) (IfOk-at_ok _ c.in-Ok-result.is c.begin-disk.ensures.ok was whole))
+            (c.begin-disk.ensures.unbegun was) in (
+              house_kept rule program given text old lines told.2 c.args.from told.4 (g.D.Disk.may_leave c.keep_under.result.disk) begun both.0,
+              on_ok_then c.keep_under.result.result both.1 (λ all. (all.0, all.1, house_all_kept rule program given text old lines told.2 c.args.from told.4 (g.D.Disk.seen c.keep_under.result.disk) begun all.2)),
             ),
       );
       untouched = if_err_both c.keep_under.result.result c.keep_under.ensures.untouched c.keep_under.ensures.count (λ fault reads count other clean.
           let was = c.keep_under.ensures.clean clean in
           elim (c.begin-disk.ensures.unbegun was) [
             | inl unbegun ↦
-                let none = unbegun_nothing (first_record c.args.program.now c.args.given.now) (g.D.Disk.seen c.args.disk) unbegun in
-                absurd (begun_fits c.args.program.now c.args.given.now c.args.from (kept_in (g.D.Disk.seen c.args.disk)) (kept_in (g.D.Disk.seen c.begin-disk.result.disk)) _ none
-                (IfOk-at_ok _ c.in-Ok-result.is c.begin-disk.ensures.ok was) (IfOk-at_ok _ c.in-Ok-result.is c.begin-disk.ensures.fits was none) (count other clean))
+                absurd (begun_fits program given c.args.from old lines _ unbegun.none (IfOk-at_ok _ c.in-Ok-result.is c.begin-disk.ensures.ok was unbegun.whole)
+                (IfOk-at_ok _ c.in-Ok-result.is c.begin-disk.ensures.fits was unbegun.whole unbegun.none) (count other clean))
             | inr before ↦ reads_on g.D.Disk _ _ _ before (reads other)
           ]);
     }

@@ -2,7 +2,7 @@ use Rattle.std.proofs.Common.{List, ℕ}
 use Rattle.request_lines.specs.Answering.{Rule}
 use Rattle.request_lines.proofs.SeenRuns.{Shows}
 use Rattle.line_streams.specs.State.{StreamState}
-use Rattle.kept_lines.specs.File.{kept_in}
+use Rattle.kept_batches.specs.Verdict.{kept_in}
 use Rattle.kept_answers.proofs.KeptLemmas.{on_ok_then}
 use Rattle.kept_house.proofs.SeenLemmas.{all_kept_seen, kept_seen}
 use Rattle.kept_house.proofs.keeping.keep_stream.Goals as goal

@@ -1,5 +1,5 @@
 use Rattle.std.proofs.Common.{inl, refl, ap, [], arith}
-use Rattle.kept_lines.specs.File.{kept_in}
+use Rattle.kept_batches.specs.Verdict.{kept_in}
 use Rattle.kept_answers.proofs.KeptLemmas.{no_lines}
 use Rattle.kept_house.proofs.keeping.keep_under.Goals as goal
 
