@@ -29,7 +29,7 @@ pub data Asked : Type 0 where
 -- a command that reads its own words: it reports of a configuration, of CDRs or of a house after its lines, or is over a store
 abbrev pub is_report : List ℕ → Bool
 is_report name = list_any (bytes_eq name)
-    (codes "check_config" ∷ codes "check-config" ∷ codes "explain_lines" ∷ codes "explain-lines" ∷ codes "statements" ∷ codes "balances" ∷ codes "rate" ∷ codes "explain_cost" ∷ codes "explain-cost" ∷ codes "re_rate" ∷ codes "re-rate" ∷ codes "keep" ∷ codes "stream" ∷ codes "configure" ∷ codes "log" ∷ codes "check" ∷ [])
+    (codes "check_config" ∷ codes "check-config" ∷ codes "explain_lines" ∷ codes "explain-lines" ∷ codes "statements" ∷ codes "balances" ∷ codes "rate" ∷ codes "explain_cost" ∷ codes "explain-cost" ∷ codes "re_rate" ∷ codes "re-rate" ∷ codes "keep" ∷ codes "stream" ∷ codes "configure" ∷ codes "log" ∷ codes "check" ∷ codes "head" ∷ codes "upgrade" ∷ [])
 
 -- a command by which a house answers
 abbrev pub is_answering : List ℕ → Bool

@@ -10,7 +10,7 @@ use request_lines::{Sink, write_all};
 use std::alloc::{AllocError, Global};
 
 /// The version, and the kit that the program is proved and built with.
-pub const VERSION: &str = "0.2.0 (rattle-kit-13f logic dac8208d650f15bf)";
+pub const VERSION: &str = "0.3.0 (rattle-kit-13f logic dac8208d650f15bf)";
 
 const ABOUT: &str =
     "A clearing house for roaming between charge point operators and e-mobility providers, by OCPI 2.2.1";
@@ -102,6 +102,34 @@ const FROM: Argument = Argument::Option {
     option: CommandOption::From,
     value: "N",
     help: "How many answers the client has; it has to be given if the store keeps lines",
+};
+
+const AT: Argument = Argument::Option {
+    option: CommandOption::At,
+    value: "K",
+    help: "After the first K lines of the store, without its first record; without it, after all",
+};
+
+const AT_HEAD: Argument = Argument::Option {
+    option: CommandOption::At,
+    value: "K",
+    help: "How many of the first lines are to have the head of --head",
+};
+
+const HEAD_ASKED: Argument = Argument::Option {
+    option: CommandOption::Head,
+    value: "HEX",
+    help: "Says also whether this is the head after the first record and the first K lines of --at; the status is 1 if it is not",
+};
+
+const OLD_STORE: Argument = Argument::Given {
+    name: "STORE",
+    help: "The path of the folder of a store of format 1, which stays as it is",
+};
+
+const NEW_STORE: Argument = Argument::Given {
+    name: "NEW",
+    help: "The path of the folder of the new store, in which there is none yet",
 };
 
 const FROM_STORE: Argument = Argument::Option {
@@ -289,13 +317,35 @@ const LOG: Entry = Entry {
 const CHECK: Entry = Entry {
     name: "check",
     hyphened: None,
-    form: "clear check STORE",
-    about: "Prints how many request lines a store keeps, and whether its end is torn",
-    arguments: [Some(STORE), Some(PROGRESS), None, None, None],
+    form: "clear check STORE [--head HEX --at K]",
+    about: "Checks each byte of a store, and prints how many request lines it keeps, the head after them and whether its end is torn",
+    arguments: [
+        Some(STORE),
+        Some(HEAD_ASKED),
+        Some(AT_HEAD),
+        Some(PROGRESS),
+        None,
+    ],
+};
+
+const HEAD: Entry = Entry {
+    name: "head",
+    hyphened: None,
+    form: "clear head STORE [--at K]",
+    about: "Prints the head after the first request lines of a store",
+    arguments: [Some(STORE), Some(AT), Some(PROGRESS), None, None],
+};
+
+const UPGRADE: Entry = Entry {
+    name: "upgrade",
+    hyphened: None,
+    form: "clear upgrade STORE NEW",
+    about: "Copies a store of format 1 to a new store",
+    arguments: [Some(OLD_STORE), Some(NEW_STORE), None, None, None],
 };
 
 /// All commands, in the order of the help.
-const ENTRIES: [Entry; 15] = [
+const ENTRIES: [Entry; 17] = [
     SCRIPT,
     SCHEDULE,
     RUN,
@@ -304,6 +354,8 @@ const ENTRIES: [Entry; 15] = [
     CONFIGURE,
     LOG,
     CHECK,
+    HEAD,
+    UPGRADE,
     CHECK_CONFIG,
     EXPLAIN_LINES,
     STATEMENTS,
@@ -325,6 +377,8 @@ fn entry_of(name: &str) -> Option<Entry>
         "configure" => Some(CONFIGURE),
         "log" => Some(LOG),
         "check" => Some(CHECK),
+        "head" => Some(HEAD),
+        "upgrade" => Some(UPGRADE),
         "check_config" | "check-config" => Some(CHECK_CONFIG),
         "explain_lines" | "explain-lines" => Some(EXPLAIN_LINES),
         "statements" => Some(STATEMENTS),
@@ -373,7 +427,7 @@ fn option_as<'a>(
     let shown = shown.action(ArgAction::Set).value_name(value);
     match option {
         CommandOption::Threads => shown.value_parser(value_parser!(u8).range(1..=16)),
-        CommandOption::From => shown.value_parser(value_parser!(u64)),
+        CommandOption::From | CommandOption::At => shown.value_parser(value_parser!(u64)),
         _ => shown,
     }
 }

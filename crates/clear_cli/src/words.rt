@@ -205,6 +205,8 @@ fn is_report(name: &str) -> bool
             | "configure"
             | "log"
             | "check"
+            | "head"
+            | "upgrade"
     )
 }
 

@@ -2,7 +2,7 @@
 use Rattle.std.specs.Prelude.{ℕ, ◌==◌, Bool, true, false, List, [], ◌∷◌, ◌++◌, Option, Some, None, if◌then◌else◌, codes, drop, find, is_some, length, map, option_map, option_and_then, take}
 use Rattle.std.specs.Str.{bytes_eq}
 use Rattle.command_line.specs.declared.arguments.CommandOption.{CommandOption}
-use Rattle.command_line.specs.declared.arguments.CommandOption.TheVariants.{Threads, Table, Store, From, Answers, Causes, Progress}
+use Rattle.command_line.specs.declared.arguments.CommandOption.TheVariants.{Threads, Table, Store, From, At, Head, Answers, Causes, Progress}
 use Rattle.command_line.specs.declared.arguments.Given.{Given}
 use Rattle.command_line.specs.declared.arguments.Arguments.{Arguments}
 use Rattle.command_line.specs.declared.arguments.Reading.{Reading}
@@ -18,6 +18,8 @@ option_name Threads = codes "threads"
 option_name Table = codes "table"
 option_name Store = codes "store"
 option_name From = codes "from"
+option_name At = codes "at"
+option_name Head = codes "head"
 option_name Answers = codes "answers"
 option_name Causes = codes "causes"
 option_name Progress = codes "progress"
@@ -28,6 +30,8 @@ has_value Threads = true
 has_value Table = false
 has_value Store = true
 has_value From = true
+has_value At = true
+has_value Head = true
 has_value Answers = false
 has_value Causes = false
 has_value Progress = false
@@ -38,6 +42,8 @@ may_have_value Threads = false
 may_have_value Table = false
 may_have_value Store = false
 may_have_value From = false
+may_have_value At = false
+may_have_value Head = false
 may_have_value Answers = false
 may_have_value Causes = false
 may_have_value Progress = true

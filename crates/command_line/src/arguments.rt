@@ -17,6 +17,10 @@ pub enum CommandOption {
     Store,
     /// How many answers the client has.
     From,
+    /// A number of lines of a store.
+    At,
+    /// The head after them, in hexadecimal digits.
+    Head,
     /// The answer to each line after it.
     Answers,
     /// The cause of each refusal that a line has by itself.
@@ -35,6 +39,8 @@ impl CommandOption {
             CommandOption::Table => "table",
             CommandOption::Store => "store",
             CommandOption::From => "from",
+            CommandOption::At => "at",
+            CommandOption::Head => "head",
             CommandOption::Answers => "answers",
             CommandOption::Causes => "causes",
             CommandOption::Progress => "progress",
@@ -46,7 +52,11 @@ impl CommandOption {
         ensures { result ≡ has_value self }
     {
         match self {
-            CommandOption::Threads | CommandOption::Store | CommandOption::From => true,
+            CommandOption::Threads
+            | CommandOption::Store
+            | CommandOption::From
+            | CommandOption::At
+            | CommandOption::Head => true,
             CommandOption::Table
             | CommandOption::Answers
             | CommandOption::Causes

@@ -1,8 +1,8 @@
 //! The commands.
 
-ghost use Rattle.kept_lines.specs.File.{IsLine};
+ghost use Rattle.kept_batches.specs.Text.{IsLine};
 
-use crate::{check, configure, keep, log, stream};
+use crate::{check, configure, keep, log, stream, upgrade};
 use command_line::{Arguments, Fault};
 use std::process::ExitCode;
 
@@ -14,6 +14,8 @@ pub enum Command {
     Configure,
     Log,
     Check,
+    Head,
+    Upgrade,
 }
 
 impl Command {
@@ -25,6 +27,8 @@ impl Command {
             "configure" => Some(Command::Configure),
             "log" => Some(Command::Log),
             "check" => Some(Command::Check),
+            "head" => Some(Command::Head),
+            "upgrade" => Some(Command::Upgrade),
             _ => None,
         }
     }
@@ -48,6 +52,8 @@ impl Command {
             Command::Configure => configure::perform(rt, arguments)?,
             Command::Log => log::perform(rt, arguments)?,
             Command::Check => check::perform(rt, arguments)?,
+            Command::Head => check::perform_head(rt, arguments)?,
+            Command::Upgrade => upgrade::perform(rt, arguments)?,
         };
         Ok(ExitCode::from(status))
     }

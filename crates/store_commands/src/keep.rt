@@ -1,8 +1,8 @@
 //! The command `keep`: answers lines as `script` does, each after it is on the disk.
 
-ghost use Rattle.kept_lines.specs.File.{IsLine};
+ghost use Rattle.kept_batches.specs.Text.{IsLine};
 
-use crate::opening::{OpeningFault, open_store};
+use crate::opening::{is_regular, open_store, tell_unopened};
 use crate::reading::{open_begun, tell_unread};
 use crate::words::{KeepAsked, keep_asked};
 use command_line::{
@@ -14,15 +14,45 @@ use line_causes::StreamWithCauses;
 use line_streams::{LineStream, Stream};
 use request_lines::Device;
 use sqlite_disk::Start;
-use sqlite_std_file::{OpenError, Wary};
+use sqlite_std_file::Wary;
 use std::cell::Cell;
-use std::io::{self, ErrorKind};
+use std::fs::{self, OpenOptions};
+use std::io::{self, ErrorKind, Write};
+use std::os::unix::fs::OpenOptionsExt;
 
-/// Shows how far the lines of the store are answered again.
+/// Shows how far the lines of the store are answered again, and keeps what is cut off its end.
 #[derive(Drop)]
 struct Restart<'a> {
+    rt: &'a HostRuntime,
+    /// The store's path.
+    store: &'a str,
     progress: Progress<'a>,
     is_answering: bool,
+}
+
+/// Adds bytes to the file `torn` of the store, which only its owner may read and write, and has them and its name on the disk.
+fn keep_torn(rt: &HostRuntime, store: &str, bytes: &[u8]) -> io::Result<()> {
+    let path = format!(in rt.alloc(); "{store}/torn")?;
+    if fs::exists(rt, path.as_str())? && !is_regular(rt, path.as_str())? {
+        return Err(ErrorKind::Unsupported.into());
+    }
+    let mut file = OpenOptions::new()
+        .append(true)
+        .create(true)
+        .mode(0o600)
+        .open(rt, path.as_str())?;
+    file.write_all(bytes)?;
+    file.sync_all()?;
+    fs::File::open(rt, store)?.sync_all()
+}
+
+/// Prints why bytes are not added to the file `torn` of the store.
+fn tell_not_kept(rt: &HostRuntime, store: &str, cause: io::Error) {
+    let _ = match cause.kind() {
+        ErrorKind::OutOfMemory => eprintln!(rt; "clear: no memory"),
+        ErrorKind::Unsupported => eprintln!(rt; "clear: {store}: torn is no regular file"),
+        _ => eprintln!(rt; "clear: {store}: cannot write torn: {cause}"),
+    };
 }
 
 impl Watch for Restart<'_> {
@@ -37,29 +67,22 @@ impl Watch for Restart<'_> {
         }
         self.progress.add(1, bytes as u64);
     }
-}
 
-/// Prints why the store is not opened.
-fn tell_unopened(rt: &HostRuntime, store: &str, fault: OpeningFault) -> u8 {
-    let error = match fault {
-        OpeningFault::Open(error) => error,
-        OpeningFault::NoRegularFile => {
-            let _ = eprintln!(rt; "clear: {store}: requests is no regular file");
-            return 1;
+    fn torn(&mut self, at: usize, bytes: &[u8]) -> bool {
+        let (store, count) = (self.store, bytes.len());
+        match keep_torn(self.rt, store, bytes) {
+            Ok(()) => {
+                let _ = eprintln!(self.rt;
+                    "clear: {store}: {count} bytes from byte {at} on were never acknowledged; they are cut off, and added to torn"
+                );
+                true
+            }
+            Err(cause) => {
+                tell_not_kept(self.rt, store, cause);
+                false
+            }
         }
-    };
-    let _ = match error {
-        OpenError::Busy => eprintln!(rt; "clear: {store}: another program has the store open"),
-        OpenError::HotJournal => eprintln!(rt;
-            "clear: {store}: something has the name requests-journal"
-        ),
-        OpenError::OutOfMemory => eprintln!(rt; "clear: no memory"),
-        OpenError::Io(cause) if cause.kind() == ErrorKind::OutOfMemory => {
-            eprintln!(rt; "clear: no memory")
-        }
-        OpenError::Io(cause) => eprintln!(rt; "clear: {store}: cannot open: {cause}"),
-    };
-    1
+    }
 }
 
 /// Prints what ended the house early, unless the reader of the output has gone. `unread` is why standard input was not read.
@@ -117,6 +140,8 @@ fn keep_input<A: LineStream, S: Start>(
     let mut writer = Device::new(Output::new(rt.stdout(), &is_gone));
     progress.begin(Work::Counted);
     let mut restart = Restart {
+        rt,
+        store: asked.store,
         progress,
         is_answering: false,
     };

@@ -6,12 +6,14 @@ mod change_check;
 mod check;
 mod command;
 mod configure;
+mod first_format;
 mod keep;
 mod laws;
 mod log;
 mod opening;
 mod reading;
 mod stream;
+mod upgrade;
 mod words;
 
 pub use change_check::check_change;

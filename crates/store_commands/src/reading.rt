@@ -1,37 +1,48 @@
 //! The lines of a store, read without opening it for writing: the reader sees whole batches, from the first on, also while another
-//! program appends. It refuses the lines and the damage that `kept_lines::Recovery` refuses.
+//! program appends. It refuses the damage that `kept_batches::Recovery` refuses.
 
+use crate::first_format::is_first_format;
 use crate::opening::{is_regular, lines_path};
-use kept_answers::{KeepFault, MOST_KEPT_BYTES};
+use kept_answers::KeepFault;
+use kept_batches::{Found, Look, MOST_WINDOW, first_head, look_on};
 use kept_house::{StoreFault, config_in};
-use kept_lines::MOST_BATCH_BYTES;
+use memchr::memchr;
 use ocpi_types::{Config, ConfigFault};
 use std::alloc::{AllocError, Global};
 use std::fs::File;
-use std::io::{self, BufRead, BufReader, ErrorKind, Read};
+use std::io::{self, ErrorKind, Read};
 use std::os::unix::fs::FileExt;
 
 /// More lines than a store may have.
 pub const MOST_LINES: u64 = 1 << 60;
 
-const MARK: u8 = b'+';
+/// The number of bytes of a read, unless the next batch has more.
+const CHUNK: usize = 1 << 16;
 
-const CLOSED: u8 = b'-';
+const MARK_BYTES: usize = 4;
 
-const NEWLINE: u8 = b'\n';
+/// The bytes before the lines of a batch: its mark, length and head.
+const HEADER_BYTES: usize = 79;
+
+const SHUT: &[u8] = b"----";
 
 /// A store that is read line by line.
 #[derive(Drop)]
 pub struct StoreReader {
-    reader: BufReader<File>,
-    /// The same file, to read a mark again.
     file: File,
-    /// The mark, the bytes and the newline of the line that was read last, or what comes after the lines.
-    text: Vec<u8>,
-    /// Where that text is in the file.
-    place: u64,
-    /// Whether no line is left.
-    is_at_end: bool,
+    /// A part of the file, where it begins there, and where in it the next line of a batch begins, and the mark after that batch.
+    window: Vec<u8>,
+    begin: u64,
+    next: usize,
+    stop: usize,
+    /// Where in it the line that was read last begins and ends.
+    line: usize,
+    line_end: usize,
+    /// The head after the batches that were read, and their number.
+    head: [u8; 32],
+    batches: u64,
+    /// Whether no batch is left, and how many bytes come after the last mark then.
+    end: Option<usize>,
 }
 
 impl StoreReader {
@@ -42,12 +53,20 @@ impl StoreReader {
             return Err(ReadingFault::NoRegularFile);
         }
         let file = File::open(rt, path.as_str())?;
+        if is_first_format(&file)? {
+            return Err(ReadingFault::FirstFormat);
+        }
         Ok(StoreReader {
-            reader: BufReader::new(rt.alloc(), file.try_clone()?)?,
             file,
-            text: Vec::new(rt.alloc()),
-            place: 0,
-            is_at_end: false,
+            window: Vec::new(rt.alloc()),
+            begin: 0,
+            next: 0,
+            stop: 0,
+            line: 0,
+            line_end: 0,
+            head: first_head(),
+            batches: 0,
+            end: None,
         })
     }
 
@@ -58,66 +77,136 @@ impl StoreReader {
 
     /// Goes to the next kept line, and returns whether there is one.
     pub fn next_line(&mut self) -> Result<bool, ReadingFault> {
-        if self.is_at_end {
-            return Ok(false);
-        }
-        self.place = self.place.saturating_add(self.text.len() as u64);
-        self.text.clear();
-        if let Err(cause) = self.reader.read_until(NEWLINE, &mut self.text) {
-            return Err(ReadingFault::Read(cause));
-        }
-        if self.has_line() {
-            return Ok(true);
-        }
-        if let Err(fault) = self.check_end() {
-            return Err(fault);
-        }
-        self.is_at_end = true;
-        Ok(false)
-    }
-
-    /// Whether the text that was read last is a line that is not too long.
-    fn has_line(&self) -> bool {
-        self.text.len() <= MOST_KEPT_BYTES + 2
-            && matches!(self.text.as_slice(), [MARK, .., NEWLINE])
-    }
-
-    /// Refuses the text that was read last, which is no line, unless a file may end so.
-    fn check_end(&self) -> Result<(), ReadingFault> {
-        match self.text.as_slice() {
-            [] => Ok(()),
-            [MARK, line @ ..] if line.len() > MOST_KEPT_BYTES => {
-                Err(KeepFault::StoreLineTooLong.into())
+        for _ in 0..MOST_LINES {
+            if self.next < self.stop {
+                return Ok(self.lend());
             }
-            [CLOSED, ..] if self.has_one_batch()? => Ok(()),
-            _ => Err(KeepFault::Damaged(self.place as usize).into()),
+            if self.end.is_some() || !self.next_batch()? {
+                return Ok(false);
+            }
+        }
+        Err(ReadingFault::Store(StoreFault::NoStore))
+    }
+
+    /// Goes to the next line of the batch, which has one.
+    fn lend(&mut self) -> bool {
+        let Some(count) = memchr(b'\n', part_of(&self.window, self.next, self.stop)) else {
+            return false;
+        };
+        self.line = self.next.saturating_add(1);
+        self.line_end = self.next.saturating_add(count);
+        self.next = self.line_end.saturating_add(1);
+        true
+    }
+
+    /// Goes to the next batch, and returns whether there is one.
+    fn next_batch(&mut self) -> Result<bool, ReadingFault> {
+        let left = part_of(&self.window, self.stop, self.window.len());
+        if let Look::Batch(found) = look_on(&self.head, left) {
+            return Ok(self.take(found));
+        }
+        self.begin = self.begin.saturating_add(self.stop as u64);
+        self.next = 0;
+        self.stop = 0;
+        self.fill(CHUNK)?;
+        if let Look::Batch(found) = look_on(&self.head, &self.window) {
+            return Ok(self.take(found));
+        }
+        // What another program writes meanwhile may look like damage, and does not when it is read again.
+        match self.look_further()? {
+            Some(is_batch) => Ok(is_batch),
+            None => match self.look_further()? {
+                Some(is_batch) => Ok(is_batch),
+                None => Err(KeepFault::Damaged(self.begin as usize).into()),
+            },
         }
     }
 
-    /// Whether no more bytes than those of a batch come after the closed mark that was read last. If another program has opened the mark
-    /// since then, this is the end of the lines that were there.
-    fn has_one_batch(&self) -> io::Result<bool> {
-        let after = self.file.metadata()?.len().saturating_sub(self.place);
-        if after <= MOST_BATCH_BYTES as u64 + 1 {
-            return Ok(true);
+    /// Reads as many bytes as a batch may have, and takes the batch or the end that is there. Returns whether it is a batch, or `None` if it
+    /// is damage.
+    fn look_further(&mut self) -> io::Result<Option<bool>> {
+        self.fill(MOST_WINDOW)?;
+        if self.begin == 0 && self.window.len() <= MARK_BYTES {
+            self.end = Some(0);
+            return Ok(Some(false));
         }
-        let mut mark = [CLOSED];
-        self.file.read_at(&mut mark, self.place)?;
-        Ok(mark == [MARK])
+        match look_on(&self.head, &self.window) {
+            Look::Batch(found) => Ok(Some(self.take(found))),
+            Look::Unmarked(found) => {
+                self.end = Some(0);
+                Ok(Some(self.take(found)))
+            }
+            Look::Shut => {
+                self.end = Some(self.window.len().saturating_sub(MARK_BYTES));
+                Ok(Some(false))
+            }
+            Look::Damaged => Ok(None),
+        }
     }
 
-    /// The line to which `next_line` went, without its mark and its newline.
+    /// Takes the batch that begins where the one before ended.
+    fn take(&mut self, found: Found) -> bool {
+        let head = found.head;
+        self.next = self.stop.saturating_add(HEADER_BYTES);
+        self.stop = self.next.saturating_add(found.size);
+        self.head = head;
+        self.batches = self.batches.saturating_add(1);
+        true
+    }
+
+    /// Reads at most so many bytes of the file, from where the window begins on.
+    fn fill(&mut self, most: usize) -> io::Result<()> {
+        self.window.clear();
+        let left = self.file_bytes()?.saturating_sub(self.begin);
+        self.window.resize(most.min(left as usize), 0)?;
+        let filled = read_from(&self.file, self.begin, &mut self.window)?;
+        self.window.truncate(filled);
+        Ok(())
+    }
+
+    /// The line to which `next_line` went.
     pub fn line(&self) -> &[u8] {
-        match self.text.as_slice() {
-            [_, line @ .., _] => line,
-            _ => &[],
-        }
+        part_of(&self.window, self.line, self.line_end)
     }
 
-    /// Whether the file has more than its lines and a closed mark. `next_line` has returned that there is no more line.
-    pub fn is_torn(&self) -> bool {
-        !matches!(self.text.as_slice(), [] | [CLOSED])
+    /// The same with its newline.
+    fn ended_line(&self) -> &[u8] {
+        part_of(&self.window, self.line, self.line_end.saturating_add(1))
     }
+
+    /// The head after the batches that were read: after the last line, that of the store.
+    pub fn head(&self) -> &[u8; 32] {
+        &self.head
+    }
+
+    /// The number of batches that were read.
+    pub fn batches(&self) -> u64 {
+        self.batches
+    }
+
+    /// Whether bytes that were never acknowledged come after the last batch. `next_line` has returned that there is no more line.
+    pub fn is_torn(&self) -> bool {
+        !matches!(self.end, None | Some(0))
+    }
+}
+
+/// The bytes of a window from one place to another, or none if it has not so many.
+fn part_of(window: &[u8], from: usize, to: usize) -> &[u8] {
+    window.get(from..to).unwrap_or(&[])
+}
+
+/// Reads the bytes of a file from a place on, up to its end, and returns how many they are.
+fn read_from(file: &File, at: u64, buffer: &mut [u8]) -> io::Result<usize> {
+    let count = buffer.len();
+    let mut filled = 0;
+    while filled < count {
+        let read = file.read_at(&mut buffer[filled..], at.saturating_add(filled as u64))?;
+        if read == 0 {
+            break;
+        }
+        filled += read.min(count - filled);
+    }
+    Ok(filled)
 }
 
 /// The kept lines of a store, each with its newline, as one text.
@@ -135,7 +224,7 @@ impl StoreText {
     pub fn open(rt: &HostRuntime, store: &str) -> Result<(StoreText, Vec<u8>), ReadingFault> {
         let (reader, config) = open_begun(rt, store)?;
         let text = StoreText {
-            given: reader.text.len(),
+            given: reader.ended_line().len(),
             reader,
             fault: None,
         };
@@ -155,24 +244,21 @@ impl StoreText {
 
 impl Read for StoreText {
     fn read(&mut self, buffer: &mut [u8]) -> io::Result<usize> {
-        if self.given >= self.reader.text.len() {
+        if self.given >= self.reader.ended_line().len() {
             match self.reader.next_line() {
-                Ok(true) => self.given = 1,
-                Ok(false) => {
-                    self.given = self.reader.text.len();
-                    return Ok(0);
-                }
+                Ok(true) => self.given = 0,
+                Ok(false) => return Ok(0),
                 Err(fault) => {
                     self.fault = Some(fault);
                     return Err(ErrorKind::InvalidData.into());
                 }
             }
         }
-        let start = self.given.min(self.reader.text.len());
-        let rest = &self.reader.text[start..];
+        let line = self.reader.ended_line();
+        let rest = part_of(line, self.given, line.len());
         let count = rest.len().min(buffer.len());
         buffer[..count].copy_from_slice(&rest[..count]);
-        self.given = start + count;
+        self.given = self.given.saturating_add(count);
         Ok(count)
     }
 }
@@ -184,9 +270,11 @@ pub enum ReadingFault {
     Read(io::Error),
     /// The store's file is a folder, a FIFO or another file that is not regular.
     NoRegularFile,
+    /// The store has the format before this one.
+    FirstFormat,
     /// The writer fails.
     Write,
-    /// The file does not begin with the record of a store, a line is too long, or it is damaged.
+    /// The file does not begin with the record of a store, or it is damaged.
     Store(StoreFault),
 }
 
@@ -216,15 +304,8 @@ impl From<StoreFault> for ReadingFault {
 
 /// Goes past the first line of a store, and returns the text of its configuration.
 fn first_config(alloc: Global, reader: &mut StoreReader) -> Result<Vec<u8>, ReadingFault> {
-    match reader.next_line() {
-        Ok(true) => {}
-        Ok(false)
-        | Err(
-            ReadingFault::Store(
-                StoreFault::Keep(KeepFault::StoreLineTooLong | KeepFault::Damaged(_)),
-            ),
-        ) => return Err(ReadingFault::Store(StoreFault::NoStore)),
-        Err(fault) => return Err(fault),
+    if !reader.next_line()? {
+        return Err(ReadingFault::Store(StoreFault::NoStore));
     }
     Ok(Vec::from_slice(alloc, config_in(reader.line())?)?)
 }
@@ -256,9 +337,14 @@ pub fn tell_unread(rt: &HostRuntime, is_gone: bool, store: &str, fault: ReadingF
         ReadingFault::NoRegularFile => {
             eprintln!(rt; "clear: {store}: requests is no regular file")
         }
-        ReadingFault::Store(StoreFault::Keep(KeepFault::NoMemory)) => {
-            eprintln!(rt; "clear: no memory")
+        ReadingFault::FirstFormat => {
+            eprintln!(rt;
+                "clear: {store}: a store of format 1; clear upgrade makes a copy of this format"
+            )
         }
+        ReadingFault::Store(
+            StoreFault::Keep(KeepFault::NoMemory) | StoreFault::Config(ConfigFault::NoMemory),
+        ) => { eprintln!(rt; "clear: no memory") }
         ReadingFault::Store(fault) => eprintln!(rt; "clear: {store}: {fault}"),
     };
     1

@@ -92,6 +92,95 @@ pub fn log_asked<'a>(arguments: &Arguments<'a>) -> Result<LogAsked<'a>, Fault<'s
     })
 }
 
+/// What `check` is asked.
+#[derive(Clone, Copy)]
+pub struct CheckAsked<'a> {
+    /// The store's path.
+    pub store: &'a str,
+    /// How many lines are to have the head, and that head.
+    pub at: Option<u64>,
+    pub head: Option<[u8; 32]>,
+}
+
+/// The head of these hexadecimal digits.
+fn head_of(digits: &str) -> Result<[u8; 32], Fault<'static>>
+    ensures { IfErr result (λ fault. fault ≡ Fault.Usage) }
+{
+    let mut head = [0; 32];
+    if hex::decode_to_slice(digits, &mut head).is_err() {
+        return Err(Fault::Usage);
+    }
+    Ok(head)
+}
+
+/// What `check` is asked. A head comes with a number of lines.
+pub fn check_asked<'a>(arguments: &Arguments<'a>) -> Result<CheckAsked<'a>, Fault<'static>>
+    ensures { IfErr result (λ fault. fault ≡ Fault.Usage) }
+{
+    let store = only_argument(arguments)?;
+    match (
+        arguments.value_of(CommandOption::Head),
+        arguments.value_of(CommandOption::At),
+    ) {
+        (None, None) => Ok(CheckAsked {
+            store,
+            at: None,
+            head: None,
+        }),
+        (Some(head), Some(at)) => Ok(CheckAsked {
+            store,
+            at: Some(count_of(at)?),
+            head: Some(head_of(head)?),
+        }),
+        (Some(_), None) | (None, Some(_)) => Err(Fault::Usage),
+    }
+}
+
+/// What `head` is asked.
+#[derive(Clone, Copy)]
+pub struct HeadAsked<'a> {
+    /// The store's path.
+    pub store: &'a str,
+    /// After how many lines. Without it, after all.
+    pub at: Option<u64>,
+}
+
+/// What `head` is asked.
+pub fn head_asked<'a>(arguments: &Arguments<'a>) -> Result<HeadAsked<'a>, Fault<'static>>
+    ensures { IfErr result (λ fault. fault ≡ Fault.Usage) }
+{
+    let at = match arguments.value_of(CommandOption::At) {
+        Some(digits) => Some(count_of(digits)?),
+        None => None,
+    };
+    Ok(HeadAsked {
+        store: only_argument(arguments)?,
+        at,
+    })
+}
+
+/// What `upgrade` is asked.
+#[derive(Clone, Copy)]
+pub struct UpgradeAsked<'a> {
+    /// The path of the store of format 1.
+    pub store: &'a str,
+    /// The path of the new store.
+    pub new: &'a str,
+}
+
+/// What `upgrade` is asked.
+pub fn upgrade_asked<'a>(arguments: &Arguments<'a>) -> Result<UpgradeAsked<'a>, Fault<'static>>
+    ensures { IfErr result (λ fault. fault ≡ Fault.Usage) }
+{
+    let [store, new] = arguments.words() else {
+        return Err(Fault::Usage);
+    };
+    Ok(UpgradeAsked {
+        store: *store,
+        new: *new,
+    })
+}
+
 /// The only word of the arguments.
 pub fn only_argument<'a>(arguments: &Arguments<'a>) -> Result<&'a str, Fault<'static>>
     ensures { IfErr result (λ fault. fault ≡ Fault.Usage) }

@@ -5,4 +5,4 @@ use Rattle.clear_cli.proofs.reports.perform.Goals as goal
 
 -- the version, as `help` has it
 pub done-requires : goal.done-requires
-done-requires g c = without_newline (codes "0.2.0 (rattle-kit-13f logic dac8208d650f15bf)") refl
+done-requires g c = without_newline (codes "0.3.0 (rattle-kit-13f logic dac8208d650f15bf)") refl
