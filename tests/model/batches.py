@@ -4,7 +4,7 @@ from __future__ import annotations
 
 import hashlib
 from collections.abc import Iterable, Sequence
-from dataclasses import dataclass
+from dataclasses import dataclass, field
 
 OPEN, SHUT = b"kept", b"----"
 HEADER = 75
@@ -25,6 +25,11 @@ def head_after(head: bytes, lines: Iterable[bytes]) -> bytes:
     return head
 
 
+def head_of(lines: Iterable[bytes]) -> str:
+    """The head after these lines and no others, in hex."""
+    return head_after(FIRST_HEAD, lines).hex()
+
+
 def marked(lines: Iterable[bytes]) -> bytes:
     """Each line after its `+`, and with its newline."""
     return b"".join(b"+" + line + b"\n" for line in lines)
@@ -36,22 +41,30 @@ def record(head: bytes, batch: Sequence[bytes]) -> bytes:
     return b" %08d %s\n" % (len(text), head_after(head, batch).hex().encode()) + text
 
 
+def records(batches: Iterable[Sequence[bytes]]) -> list[bytes]:
+    """These batches as they are in a file, each with its mark."""
+    made, head = [], FIRST_HEAD
+    for batch in batches:
+        made.append(OPEN + record(head, batch))
+        head = head_after(head, batch)
+    return made
+
+
 def file_of(batches: Iterable[Sequence[bytes]]) -> bytes:
     """The whole file of these batches."""
-    file, head = b"", FIRST_HEAD
-    for batch in batches:
-        file += OPEN + record(head, batch)
-        head = head_after(head, batch)
-    return file + SHUT
+    return b"".join(records(batches)) + SHUT
 
 
 def lines_in(text: bytes) -> list[bytes]:
     """The lines at the front of a text."""
-    lines = []
-    while text[:1] == b"+" and b"\n" in text:
-        end = text.index(b"\n")
-        lines.append(text[1:end])
-        text = text[end + 1 :]
+    lines: list[bytes] = []
+    at = 0
+    while text[at : at + 1] == b"+":
+        end = text.find(b"\n", at)
+        if end < 0:
+            return lines
+        lines.append(text[at + 1 : end])
+        at = end + 1
     return lines
 
 
@@ -61,6 +74,10 @@ class Verdict:
 
     lines: list[bytes]
     damage: int | None = None
+    # The batches that these lines are in, where the mark after them is, and what comes after that mark and counts for nothing.
+    batches: list[list[bytes]] = field(default_factory=list, compare=False)
+    end: int = field(default=0, compare=False)
+    torn: bytes = field(default=b"", compare=False)
 
 
 def batch_in(head: bytes, text: bytes) -> list[bytes] | None:
@@ -77,16 +94,20 @@ def verdict(file: bytes) -> Verdict:
     if len(file) <= len(SHUT):
         return Verdict([])
     lines: list[bytes] = []
+    found: list[list[bytes]] = []
     place, head = 0, FIRST_HEAD
     while True:
-        mark, text = file[place : place + 4], file[place + 4 :]
+        mark, text = file[place : place + 4], file[place + 4 : place + 4 + HEADER + MOST_BYTES]
         if mark == SHUT:
-            is_short = len(text) <= HEADER + 4 + MOST_BYTES
-            return Verdict(lines, None if is_short else place)
+            torn = file[place + 4 :]
+            is_short = len(torn) <= HEADER + 4 + MOST_BYTES
+            return Verdict(lines, None if is_short else place, found, place, torn)
         batch = batch_in(head, text)
         if batch is None:
-            return Verdict(lines, place)
+            return Verdict(lines, place, found, place)
         after = place + 4 + HEADER + len(marked(batch))
         if mark != OPEN:
-            return Verdict(lines + batch) if file[after:] == SHUT else Verdict(lines, place)
-        lines, head, place = lines + batch, head_after(head, batch), after
+            is_last = file[after:] == SHUT
+            kept = lines + batch if is_last else lines
+            return Verdict(kept, None if is_last else place, [*found, batch] if is_last else found, after)
+        lines, head, place, found = lines + batch, head_after(head, batch), after, [*found, batch]
