@@ -12,7 +12,7 @@ from fastapi.openapi.utils import get_openapi
 from starlette.exceptions import HTTPException
 from starlette.responses import Response
 
-from clear_service import clearing, credentials, lists, ocpi, ocpi_lists, operation, page, peer_list
+from clear_service import clearing, credentials, lists, ocpi, ocpi_lists, operation, page, peer_list, receipts
 from clear_service.access import Access, error_body
 from clear_service.configuration import Configuration
 from clear_service.engine import Engine
@@ -82,7 +82,10 @@ def create_app(settings: Settings) -> Access:
         ocpi.router,
         ocpi.modules,
         ocpi_lists.clients,
-        *(part.router for part in (ocpi_lists, credentials, clearing, lists, peer_list, operation, page)),
+        *(
+            part.router
+            for part in (ocpi_lists, credentials, clearing, lists, receipts, peer_list, operation, page)
+        ),
     ):
         app.include_router(router)
     add_openapi(app)

@@ -44,3 +44,6 @@ class Engine(Protocol):
 
     async def line(self, number: int) -> bytes:
         """The answered line of this number, from 1."""
+
+    async def head(self, count: int) -> bytes | None:
+        """The head after the store's record and so many answered lines; None if the engine's store has no heads. Raises Unavailable."""

@@ -48,6 +48,17 @@ def _begin_folder(settings: Settings, new: bool) -> None:
         raise StartError(_other_way(settings.store, new))
     if new:
         _run(settings, "keep", settings.config, settings.store)
+    elif _is_first_format(settings.store):
+        _run(settings, "check", settings.store)
+
+
+def _is_first_format(store: str) -> bool:
+    """Whether the store begins as one of format 1 does. The program refuses it at once, and says what makes a copy of format 2."""
+    try:
+        with open(Path(store) / "requests", "rb") as file:
+            return file.read(2) == b"+{"
+    except OSError:
+        return False
 
 
 def _begin_database(settings: Settings, new: bool) -> None:

@@ -32,6 +32,7 @@ FIRST_PAUSE = 0.1
 STEADY = 10.0  # seconds after which a child counts as one that runs
 WATCH = 0.25  # seconds between two looks at the store and at whether the child answers
 WINDOW = Window(1_024, 1 << 20, 64, 1 << 16)
+TORN = b"they are cut off, and added to torn\n"
 
 
 class KeepEngine:
@@ -73,13 +74,20 @@ class KeepEngine:
 
     @property
     def store_bytes(self) -> int:
-        """The bytes of the answered lines in the store."""
+        """The bytes of the store up to its last answered line."""
         return self._store.size
 
     async def line(self, number: int) -> bytes:
         """The answered line of this number, from 1. Raises Unavailable."""
         try:
             return self._store.line(number)
+        except StoreError as error:
+            raise Unavailable(str(error)) from None
+
+    async def head(self, count: int) -> bytes | None:
+        """The head after the record and so many answered lines. Raises Unavailable."""
+        try:
+            return await asyncio.to_thread(self._store.head, count)
         except StoreError as error:
             raise Unavailable(str(error)) from None
 
@@ -111,7 +119,7 @@ class KeepEngine:
         first = str(max(answered - 1, 0))
         options = await options_of(self._settings.program, "keep")
         words = [self._settings.program, "keep", self._settings.store, "--from", first, *options]
-        child = await Child.start(words, self._progressed)
+        child = await Child.start(words, self._listened)
         self._child = child
         try:
             self.state.kept = int(json.loads(await child.first_line())["kept"])
@@ -124,8 +132,11 @@ class KeepEngine:
             await child.stop(1)
             self._child = None
 
-    def _progressed(self, line: bytes) -> bool:
-        """Whether the line on standard error says how far the child is; the state has it then."""
+    def _listened(self, line: bytes) -> bool:
+        """Whether the line on standard error is no error: it says how far the child is, or what the child has cut off the store's end."""
+        if line.endswith(TORN):
+            log.warning("%s", line.decode(errors="replace").rstrip())
+            return True
         if not line.startswith(b'{"progress":'):
             return False
         progress = json.loads(line)

@@ -88,7 +88,7 @@ class Metrics:
             "clear_engine_starts": ("Starts of the house", state.starts),
             "clear_replayed_lines": ("Kept lines that are answered again since the start", state.replayed),
             "clear_kept_lines": ("Kept lines at the start", state.kept),
-            "clear_store_bytes": ("Bytes of the store's lines", self._engine.store_bytes),
+            "clear_store_bytes": ("Bytes of the store", self._engine.store_bytes),
             "clear_log_dropped": ("Lines of the log that nobody read", REQUESTS.dropped + MESSAGES.dropped),
         }
 

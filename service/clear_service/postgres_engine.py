@@ -155,6 +155,10 @@ class PostgresEngine:
             raise Unavailable(f"there is no request {number}")
         return bytes(row[0])
 
+    async def head(self, count: int) -> bytes | None:
+        """None: the tables have no record that begins a store, so no head of theirs is that of a store."""
+        return None
+
     async def _run(self) -> None:
         pause = FIRST_PAUSE
         while True:

@@ -133,6 +133,7 @@ REASONS = {
     413: "The body is too long",
     422: "The house refuses the content",
     429: "Too many requests of this token",
+    501: "The engine of the service does not have it",
     503: "Nothing is known of the outcome, or the queue is full: ask again with the same X-Request-ID",
     507: "A store of the house is full",
 }

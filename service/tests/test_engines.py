@@ -146,18 +146,45 @@ def test_ready_tells_whether_a_worker_has_the_lock(database: None, make: Make, m
     assert two.health()["details"]["answering"].split()[-1] == str(one.health()["details"]["worker"])
 
 
-def test_a_torn_store(keep: None, make: Make, make_store: MakeStore) -> None:
+def test_a_torn_store(
+    keep: None, make: Make, make_store: MakeStore, caplog: pytest.LogCaptureFixture
+) -> None:
     store = make_store()
     service = make(store)
     service.send("emp", "PUT", TOKENS, json=TOKEN)
     assert not service.health()["torn"]
     service.stop()
+    torn = b' 00000017 {"platform":"cpo"'
     with open(Path(store) / "requests", "ab") as file:
-        file.write(b'\n{"platform":"cpo"')
+        file.write(torn)
     again = make(store)
     health = again.health()
     assert health["torn"] and health["status"] == "up" and health["events"] == 1
     assert again.send("cpo", "POST", AUTHORIZE).json()["data"]["allowed"] == "ALLOWED"
+    assert (Path(store) / "torn").read_bytes() == torn
+    assert f"{len(torn)} bytes from byte" in caplog.text and "added to torn" in caplog.text
+    again.stop()
+    last = make(store).health()
+    assert not last["torn"] and last["last_end"] is None and last["events"] == 2
+
+
+def test_a_torn_end_that_cannot_be_kept(
+    keep: None, make: Make, make_store: MakeStore, monkeypatch: pytest.MonkeyPatch
+) -> None:
+    store = make_store()
+    make(store).stop()
+    with open(Path(store) / "requests", "ab") as file:
+        file.write(b" 000")
+    before = (Path(store) / "requests").read_bytes()
+    (Path(store) / "torn").mkdir()
+    with monkeypatch.context() as patch:
+        patch.setattr(Service, "is_ready", lambda self: True)
+        service = make(store, longest_pause=1)
+    assert wait_until(lambda: "the torn end cannot be kept" in (service.health()["last_end"] or ""))
+    assert service.get(None, "/ready").status_code == 503
+    assert (Path(store) / "requests").read_bytes() == before
+    (Path(store) / "torn").rmdir()
+    assert service.is_ready()
 
 
 def test_a_store_that_cannot_be_opened(

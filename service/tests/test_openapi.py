@@ -16,6 +16,7 @@ VALUES = {
     "party": "NL-CPA",
     "reference": "NLMSA-1",
     "platform": "cpo",
+    "kept": "0",
 }
 BODIES: dict[str, tuple[str, Object | None, dict[str, str]]] = {
     "/ocpi/2.2.1/tariffs/{country_code}/{party_id}/{tariff_id}": (
@@ -47,6 +48,7 @@ UNREGISTERED = {
     ("/clearing/peers/{platform}", "delete"): 404,
     ("/clearing/peers/{platform}/refused", "post"): 404,
 }
+RECEIPTS = ("/clearing/receipt", "/clearing/receipt/{kept}")
 QUERIES = {"/clearing/cdrs": {"operator": "NL/CPA", "id": "S1"}}
 SENDERS = {"/ocpi/2.2.1/cdrs/{cdr_id}": "cpo", "/metrics": "metrics"}
 
@@ -69,7 +71,7 @@ def is_described(response: httpx.Response, operation: Object) -> None:
         jsonschema.validate(response.json(), found[kind].get("schema") or {})
 
 
-def test_each_operation_answers_as_it_says(make: Make) -> None:
+def test_each_operation_answers_as_it_says(make: Make, engine: str) -> None:
     service = make(hold_seconds=0)
     seen = []
     for path, method, operation in operations(service):
@@ -78,10 +80,12 @@ def test_each_operation_answers_as_it_says(make: Make) -> None:
         url = path.format(**{**VALUES, **values})
         response = service.send(platform, method.upper(), url, json=body, params=QUERIES.get(path))
         wanted = UNREGISTERED.get((path, method))
+        if path in RECEIPTS and engine == "postgresql":
+            wanted = 501
         assert response.status_code == wanted or 200 <= response.status_code < 300, (path, response.text)
         is_described(response, operation)
         seen.append(path)
-    assert set(BODIES) <= set(seen) and len(seen) >= 23
+    assert set(BODIES) <= set(seen) and len(seen) >= 25
 
 
 def test_each_operation_without_token_and_with_a_wrong_one(service: Service) -> None:

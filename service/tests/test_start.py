@@ -4,6 +4,7 @@ from __future__ import annotations
 
 import json
 import os
+import re
 import shutil
 import signal
 import subprocess
@@ -95,6 +96,69 @@ def test_a_store_that_check_refuses(tmp_path: Path, start: Start) -> None:
     assert service.status("/ready") == 503
     assert service.send("emp", line("exposure", provider="NL/MSA", currency="EUR")).status_code == 503
     assert "keep" not in (tmp_path / "ran").read_text().split()
+
+
+def flipped(data: bytes, place: int, bit: int) -> bytes:
+    """The bytes with another bit at this place."""
+    return data[:place] + bytes([data[place] ^ 1 << bit]) + data[place + 1 :]
+
+
+@pytest.mark.parametrize("part", ["mark", "header", "line", "first line", "last mark"])
+def test_a_damaged_store(start: Start, tmp_path: Path, part: str) -> None:
+    """One bit is another one. The service does not run `keep`, says where the store is damaged, and leaves it as it is."""
+    store = tmp_path / "house"
+    service = start("one", store)
+    assert service.is_ready()
+    for _ in range(3):
+        assert service.send("emp", line("put_token", token=TOKEN)).status_code == 200
+    assert service.stop() in (0, -signal.SIGTERM)
+    whole = (store / "requests").read_bytes()
+    batches = [found.start() for found in re.finditer(rb"kept [0-9]{8} ", whole)]
+    assert len(batches) == 4
+    place, batch = {
+        "mark": (batches[2] + 1, batches[2]),
+        "header": (batches[2] + 40, batches[2]),
+        "line": (batches[2] + 120, batches[2]),
+        "first line": (batches[0] + 100, 0),
+        "last mark": (len(whole) - 1, len(whole) - 4),
+    }[part]
+    damaged = flipped(whole, place, 2)
+    (store / "requests").write_bytes(damaged)
+    again = start("two", store)
+    said = f"clear: {store}: the store is damaged at byte {batch}"
+    assert wait_until(lambda: again.status("/health") == 200)
+    assert wait_until(lambda: again.client.get("/health").json()["last_end"] == said)
+    health = again.client.get("/health").json()
+    assert (health["status"], health["starts"], health["details"]) == ("down", 0, {})
+    assert again.status("/ready") == 503
+    assert again.send("emp", line("exposure", provider="NL/MSA", currency="EUR")).status_code == 503
+    assert (store / "requests").read_bytes() == damaged and not (store / "torn").exists()
+    (store / "requests").write_bytes(whole)
+    assert again.is_ready()
+
+
+def test_a_store_of_format_1(start: Start, tmp_path: Path) -> None:
+    """The service ends with the program's message, and serves the copy that `clear upgrade` makes."""
+    store = tmp_path / "house"
+    service = start("one", store)
+    assert service.is_ready()
+    assert service.send("emp", line("put_token", token=TOKEN)).status_code == 200
+    head = service.get("emp", "/clearing/receipt").json()["head"]
+    assert service.stop() in (0, -signal.SIGTERM)
+    lines = re.sub(rb"kept [0-9]{8} [0-9a-f]{64}\n", b"", (store / "requests").read_bytes())
+    first = lines.removesuffix(b"----") + b"-"
+    (store / "requests").write_bytes(first)
+    done = run(tmp_path, config_in(tmp_path), str(store))
+    assert (done.returncode, done.stderr) == (
+        2,
+        f"service: clear: {store}: a store of format 1; clear upgrade makes a copy of this format\n",
+    )
+    assert (store / "requests").read_bytes() == first
+    subprocess.run([PROGRAM, "upgrade", str(store), str(tmp_path / "new")], check=True, capture_output=True)
+    again = start("two", tmp_path / "new")
+    assert again.is_ready()
+    found = again.get("emp", "/clearing/receipt").json()
+    assert (found["kept"], found["head"]) == (1, head)
 
 
 @pytest.mark.parametrize("what", ["deleted", "moved", "replaced", "shortened"])

@@ -3,6 +3,7 @@
 from __future__ import annotations
 
 import asyncio
+import hashlib
 import json
 import os
 import subprocess
@@ -18,7 +19,7 @@ from clear_service.json_text import NotJson, member_text, object_of
 from clear_service.lines import BulkLines, LineError, in_one_line, may_take_long, request_line
 from clear_service.senders import Rates, Sender, Senders, TokenFile, TokenFileError
 from clear_service.settings import SettingError, settings_of
-from clear_service.store_file import StoreFile, TimeMarks
+from clear_service.store_file import StoreError, StoreFile, TimeMarks
 from hypothesis import given, settings
 from hypothesis import strategies as st
 
@@ -206,23 +207,102 @@ def test_a_configuration() -> None:
     assert made.hold("nl/msa", "EUR") == "20.0000" and made.hold("nl/msa", "SEK") == "0.0001"
 
 
-def test_the_file_of_a_store(tmp_path: Path) -> None:
+def kept_lines(tmp_path: Path) -> tuple[list[str], list[str]]:
+    """The arguments of a `keep` over a store, and the lines that it keeps, without its record."""
     config = tmp_path / "config.json"
     config.write_text(json.dumps(CONFIGURATION, indent=1))
-    store = str(tmp_path / "store")
     lines = [line("put_token", platform="emp", token=TOKEN), "", "no JSON", line("find", platform="cpo")]
-    words = [settings_of("", "").program, "keep", str(config), store]
+    words = [settings_of("", "").program, "keep", str(config), str(tmp_path / "store")]
     subprocess.run(
         words, input="".join(it + "\n" for it in lines).encode(), stdout=subprocess.DEVNULL, check=True
     )
+    return words, lines
+
+
+def head_of(store: str, count: int) -> str:
+    """The head after so many lines by the program."""
+    words = [settings_of("", "").program, "head", store, "--at", str(count)]
+    return str(json.loads(subprocess.run(words, capture_output=True, check=True).stdout)["head"])
+
+
+def test_the_file_of_a_store(tmp_path: Path) -> None:
+    words, lines = kept_lines(tmp_path)
+    store = words[-1]
     file = StoreFile(store)
+    with pytest.raises(StoreError):
+        file.head(0)
     file.open()
     assert file.record["config"] == json.loads(CONFIG)
     assert [file.read_next().decode() for _ in lines] == lines
     assert [file.line(number).decode() for number in range(1, len(lines) + 1)] == lines
-    subprocess.run([*words, "--from", "4"], input=b"one more\n", stdout=subprocess.DEVNULL, check=True)
-    assert file.passed([b"one more"]) == 5 and file.line(5) == b"one more"
+    for more in (b"one more\n", b"two\n\nthree\n"):
+        subprocess.run([*words, "--from", "4"], input=more, stdout=subprocess.DEVNULL, check=True)
+    assert file.passed([b"one more", b"two"]) == 5 and file.line(5) == b"one more"
+    assert file.passed([b"", b"three"]) == 7
+    assert [file.line(number) for number in range(4, 9)] == [
+        lines[3].encode(),
+        b"one more",
+        b"two",
+        b"",
+        b"three",
+    ]
+    assert [file.head(count).hex() for count in range(9)] == [head_of(store, count) for count in range(9)]
+    with pytest.raises(StoreError):
+        file.head(9)
+    assert file.size == (Path(store) / "requests").stat().st_size - len("----")
     file.close()
+
+
+@pytest.mark.parametrize("other", [[b"one", b"no"], [b"one more", b"no"], [b"one", b"more", b"no"]])
+def test_other_lines_than_were_answered(tmp_path: Path, other: list[bytes]) -> None:
+    """The places stay as they were."""
+    words, lines = kept_lines(tmp_path)
+    file = StoreFile(words[-1])
+    file.open()
+    for _ in lines:
+        file.read_next()
+    subprocess.run([*words, "--from", "4"], input=b"one\n", stdout=subprocess.DEVNULL, check=True)
+    with pytest.raises(StoreError):
+        file.passed(other)
+    assert len(file) == 4 and file.passed([b"one"]) == 5 and file.head(5).hex() == head_of(words[-1], 5)
+    file.close()
+
+
+def test_a_batch_that_was_changed_later(tmp_path: Path) -> None:
+    words, lines = kept_lines(tmp_path)
+    file = StoreFile(words[-1])
+    file.open()
+    for _ in lines:
+        file.read_next()
+    with open(Path(words[-1]) / "requests", "r+b") as changed:
+        place = changed.read().index(b"no JSON")
+        changed.seek(place)
+        changed.write(b"N")
+    assert file.head(0).hex() == head_of_record(Path(words[-1]))
+    for count in (1, 4):
+        with pytest.raises(StoreError):
+            file.head(count)
+    file.close()
+
+
+def head_of_record(store: Path) -> str:
+    """The head after the record alone."""
+    record = (store / "requests").read_bytes().split(b"\n")[1][1:]
+    return hashlib.sha256(hashlib.sha256(b"").digest() + record).hexdigest()
+
+
+@pytest.mark.parametrize("mark", [b"kep-", b"--pt", b"\x00\x00\x00\x00", b"\xff\n\n\n"])
+def test_a_batch_whose_mark_is_half_written(tmp_path: Path, mark: bytes) -> None:
+    """The program keeps its lines, so they are read."""
+    words, lines = kept_lines(tmp_path)
+    with open(Path(words[-1]) / "requests", "r+b") as file:
+        file.seek(file.read().rindex(b"kept 0"))
+        file.write(mark)
+    found = StoreFile(words[-1])
+    found.open()
+    assert [found.read_next().decode() for _ in lines] == lines
+    assert found.head(4).hex() == head_of(words[-1], 4)
+    found.close()
 
 
 def test_times(tmp_path: Path) -> None:
