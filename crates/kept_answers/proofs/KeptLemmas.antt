@@ -1,7 +1,7 @@
 -- New lines that are kept and answered.
-use Rattle.std.proofs.Common.{◌≡◌, ◌≢◌, ◌⊎◌, inl, inr, ⊎_elim, ℕ, ◌+◌, ◌-◌, ◌<◌, ◌≤◌, List, [], ◌∷◌, ◌++◌, length, map, take, drop, Option, None, Result, Ok, Err, refl, sym, ◌∙◌, ap, subst, arith, append_assoc, length-append}
+use Rattle.std.proofs.Common.{◌≡◌, ◌≢◌, ◌⊎◌, inl, inr, ⊎_elim, ℕ, ◌+◌, ◌-◌, ◌<◌, ◌≤◌, List, [], ◌∷◌, ◌++◌, length, map, take, drop, Option, None, Some, Result, Ok, Err, refl, sym, ◌∙◌, ap, subst, arith, append_assoc, length-append}
 use Rattle.std.specs.List.{All, flat_map}
-use Rattle.std.specs.Prelude.{IfErr, IsErr, IsTrue, MatchResult, OnOk}
+use Rattle.std.specs.Prelude.{IfErr, IsErr, IsErrAnd, IsErrOf, IsTrue, MatchResult, OnOk}
 use Rattle.std.proofs.lemmas.List.{append-nil, drop_all, drop_at, flat_map_more, map-append, take_all, take_at}
 use Rattle.std.proofs.lemmas.Grind.{flat_map-append}
 use Rattle.std.proofs.lemmas.List.Elements.{All-append, All-cons, All-head, All-nil, All-tail}
@@ -17,7 +17,8 @@ use Rattle.kept_batches.specs.Verdict.Verdict.{accepts, damage}
 use Rattle.kept_batches.specs.Reading.{OnlyReads}
 use Rattle.kept_batches.specs.declared.error.KeepError.{KeepError}
 use Rattle.kept_batches.specs.declared.error.KeepError.TheVariants as error
-use Rattle.kept_answers.specs.Faults.{IsOtherCount, of_disk}
+use Rattle.kept_answers.specs.declared.fault.KeepFault.{KeepFault}
+use Rattle.kept_answers.specs.Faults.{IsOtherCount, TellsOf, of_disk}
 use Rattle.kept_answers.specs.Inner.UnderWay.{IsUnderWay}
 use Rattle.kept_answers.specs.Keeping.{FitsKept, IsStoreAnswered, IsStoreSent, answers_had, greeting}
 use Rattle.kept_answers.specs.Kept.{AreAnswered, AreKept, AreResent, Begins, HasResent, HasSent}
@@ -175,11 +176,7 @@ pub all_sent : {T E : Type 0} (P Q R : Type 0) (result : Result T E) → MatchRe
 all_sent P Q R (Ok x) told = told.0
 all_sent P Q R (Err e) told = tt
 
--- what holds of an error holds of it in another way
-pub if_err_then : {T E : Type 0} {P Q : E → Type 0} (result : Result T E) → IfErr result P → ((e : E) → P e → Q e) → IfErr result Q
-if_err_then (Ok x) holds then = tt
-if_err_then (Err e) holds then = then e holds
-
+-- what two facts say of an error
 pub if_err_both : {T E : Type 0} {P Q R : E → Type 0} (result : Result T E) → IfErr result P → IfErr result Q → ((e : E) → P e → Q e → R e) → IfErr result R
 if_err_both (Ok x) one other then = tt
 if_err_both (Err e) one other then = then e one other
@@ -190,6 +187,20 @@ never_other error.Memory other = other
 never_other (error.Disk cause) other = other
 never_other error.Full other = other
 never_other (error.Damaged at) other = other
+
+-- what an error of the log tells of the file
+error_tells : (file : List ℕ) (e : KeepError) → ((at : ℕ) → e ≡ error.Damaged at → damage_in file ≡ Some at) → TellsOf file (of_disk e)
+error_tells file error.Memory damaged = record { damaged = λ at is. absurd (cc); no_line = λ is. absurd (cc) }
+error_tells file (error.Disk cause) damaged = record { damaged = λ at is. absurd (cc); no_line = λ is. absurd (cc) }
+error_tells file error.Full damaged = record { damaged = λ at is. absurd (cc); no_line = λ is. absurd (cc) }
+error_tells file (error.Damaged place) damaged = record { damaged = λ at is. damaged at (cc); no_line = λ is. absurd (cc) }
+
+-- and what the fault of a `?` tells, after calls that only read
+pub read_tells : {D T U : Type 0} (g : Ghosts D) (start old new : D) (e : KeepError) (failed : Result U KeepError) (result : Result T KeepFault) → IsErrAnd result (λ f. f ≡ of_disk e) → failed ≡ Err e → OnlyReads g start old
+    → ((at : ℕ) → IsErrOf failed (error.Damaged at) → IsTrue (g.is_clean new) → damage_in (g.seen old) ≡ Some at) → IfErr result (λ f. IsTrue (g.is_clean new) → TellsOf (g.seen start) f)
+read_tells g start old new e failed (Ok x) is same reads damaged = tt
+read_tells g start old new e failed (Err f) is same reads damaged = λ clean.
+    subst (TellsOf (g.seen start)) (sym is) (error_tells (g.seen start) e (λ at h. ap damage_in (sym reads.seen) ∙ damaged at (subst (λ (x : KeepError). failed ≡ Err x) h same) clean))
 
 pub on_ok_then : {T E P Q : Type 0} (result : Result T E) → OnOk result P → (P → Q) → OnOk result Q
 on_ok_then (Ok x) holds then = then holds

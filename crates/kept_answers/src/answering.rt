@@ -5,7 +5,7 @@ ghost use Rattle.kept_batches.specs.Verdict.{kept_in};
 ghost use Rattle.kept_batches.specs.Log.{IsSettled};
 ghost use Rattle.request_lines.specs.Lines.{AreLines, whole_lines};
 ghost use Rattle.kept_answers.specs.Kept.{AreAnswered};
-ghost use Rattle.kept_answers.specs.Faults.{IsOtherCount};
+ghost use Rattle.kept_answers.specs.Faults.{IsOfStore};
 
 use crate::fault::KeepFault;
 use crate::pending::{Pending, push_whole_lines};
@@ -70,7 +70,6 @@ impl Scratch {
 }
 
 /// Keeps the whole lines of the pending bytes, then answers them, and leaves the part of a line that follows them.
-#[tactic(auto, using(crate::proofs::KeptLemmas::never_other))]
 fn answer_pending<D: Disk, W: Sink, A: Answerer>(
     alloc: Global,
     log: &mut Log<D>,
@@ -87,7 +86,7 @@ fn answer_pending<D: Disk, W: Sink, A: Answerer>(
         × (IsTrue (D.Disk.is_clean log.new.disk) → kept_in (D.Disk.seen log.new.disk) ≡ kept_in (D.Disk.seen log.old.disk) ++ whole))
         (λ _. AreAnswered A.rule answerer.old (D.Disk.may_leave log.new.disk) (IsTrue (D.Disk.is_clean log.new.disk)) (kept_in (D.Disk.seen log.old.disk)) whole sent) }
     ensures clean { D.Disk.is_clean log.new.disk ≡ D.Disk.is_clean log.old.disk }
-    ensures other { IfErr result (λ fault. IsOtherCount fault → ⊥) }
+    ensures other { IfErr result (λ fault. IsOfStore fault → ⊥) }
 {
     scratch.batch.clear();
     scratch.sizes.clear();
@@ -107,7 +106,7 @@ fn answer_pending<D: Disk, W: Sink, A: Answerer>(
 /// Refuses a part of a line at the end of the input.
 fn whole_input(part: &[u8]) -> Result<(), KeepFault>
     ensures ok { OnOk result (part.now ≡ []) }
-    ensures other { IfErr result (λ fault. IsOtherCount fault → ⊥) }
+    ensures other { IfErr result (λ fault. IsOfStore fault → ⊥) }
 {
     if part.is_empty() {
         Ok(())
@@ -134,7 +133,7 @@ pub fn answer_new_lines<D: Disk, R: Source, W: Sink, A: Answerer>(
         × (IsTrue (D.Disk.is_clean log.new.disk) → kept_in (D.Disk.seen log.new.disk) ≡ kept_in (D.Disk.seen log.old.disk) ++ whole))
         (λ _. AreAnswered A.rule answerer.old (D.Disk.may_leave log.new.disk) (IsTrue (D.Disk.is_clean log.new.disk)) (kept_in (D.Disk.seen log.old.disk)) whole sent) }
     ensures clean { D.Disk.is_clean log.new.disk ≡ D.Disk.is_clean log.old.disk }
-    ensures other { IfErr result (λ fault. IsOtherCount fault → ⊥) }
+    ensures other { IfErr result (λ fault. IsOfStore fault → ⊥) }
 {
     let mut pending = Pending::new(alloc);
     let mut scratch = Scratch::new(alloc)?;

@@ -1,6 +1,6 @@
 //! A store whose lines are answered: those that it keeps again, and then new ones.
 
-ghost use Rattle.std.specs.Prelude.{◌≡◌, ◌≤◌, ◌^◌, ℕ, List, [], ◌∷◌, ◌++◌, None, length, string_bytes, IsTrue, IfErr, IfOk, OnErr, OnOk, MatchResult};
+ghost use Rattle.std.specs.Prelude.{◌≡◌, ◌≤◌, ◌^◌, ℕ, List, [], ◌∷◌, ◌++◌, None, Some, length, string_bytes, IsTrue, IfErr, IfOk, OnErr, OnOk, MatchResult};
 ghost use Rattle.sqlite_disk.specs.Disk.{Only};
 ghost use Rattle.kept_batches.specs.Verdict.{damage_in, kept_in, readable, verdict};
 ghost use Rattle.kept_batches.specs.Log.{IsSettled};
@@ -10,7 +10,7 @@ ghost use Rattle.kept_batches.specs.Recovery.{disk_of, head_of, lines_left};
 ghost use Rattle.request_lines.specs.Lines.{AreLines};
 ghost use Rattle.kept_answers.specs.Keeping.{FitsKept, HasOtherCount, IsAllKept, IsKept, IsStoreAnswered, IsStoreSent, answers_had, greeting};
 ghost use Rattle.kept_answers.specs.Kept.{AreAnswered, Begins};
-ghost use Rattle.kept_answers.specs.Faults.{IsOtherCount};
+ghost use Rattle.kept_answers.specs.Faults.{IsOfStore, IsOtherCount, TellsOf};
 ghost use Rattle.kept_answers.specs.Inner.Greeted.{IsHeld};
 
 use crate::answering::answer_new_lines;
@@ -46,6 +46,7 @@ fn count_lines<D: Disk, V: Watch>(
     ensures head { OnOk result (IsTrue (D.Disk.is_clean (disk_of recovery.new)) → head_of recovery.new ≡ head (kept_in (D.Disk.seen (disk_of recovery.old)))) }
     ensures reads { OnlyReads D.Disk (disk_of recovery.old) (disk_of recovery.new) }
     ensures other { IfErr result (λ fault. IsOtherCount fault → ⊥) }
+    ensures tells { IfErr result (λ fault. IsTrue (D.Disk.is_clean (disk_of recovery.new)) → TellsOf (D.Disk.seen (disk_of recovery.old)) fault) }
 {
     let mut count: u64 = 0;
     while recovery.next_line()? {
@@ -77,7 +78,7 @@ fn greeting_text(alloc: Global, held: Held) -> Result<String, AllocError>
 fn greet<W: Sink>(alloc: Global, writer: &mut W, held: Held) -> Result<(), KeepFault>
     ensures told { (sent : List ℕ) × W.writing.takes writer.old sent writer.new
         × ((first : List ℕ) (lines : List (List ℕ)) → IsHeld held first lines → MatchResult result (λ _. sent ≡ greeting first lines) (λ _. Begins sent (greeting first lines))) }
-    ensures other { IfErr result (λ fault. IsOtherCount fault → ⊥) }
+    ensures other { IfErr result (λ fault. IsOfStore fault → ⊥) }
 {
     let text = greeting_text(alloc, held)?;
     if let Err(_sent) = write_all(writer, text.as_bytes()) {
@@ -93,6 +94,7 @@ fn go_past_first<D: Disk>(recovery: &mut Recovery<D>) -> Result<(), KeepFault>
         × (readable (verdict (D.Disk.seen (disk_of recovery.old))) ≡ first ∷ lines_left recovery.new)) }
     ensures reads { OnlyReads D.Disk (disk_of recovery.old) (disk_of recovery.new) }
     ensures other { IfErr result (λ fault. IsOtherCount fault → ⊥) }
+    ensures tells { IfErr result (λ fault. IsTrue (D.Disk.is_clean (disk_of recovery.new)) → TellsOf (D.Disk.seen (disk_of recovery.old)) fault) }
 {
     recovery.rewind();
     if recovery.next_line()? {
@@ -111,6 +113,7 @@ fn read_past_first<D: Disk, V: Watch>(
         × (kept_in (D.Disk.seen (disk_of recovery.old)) ≡ first ∷ lines_left recovery.new) × IsHeld held first (lines_left recovery.new)) }
     ensures reads { OnlyReads D.Disk (disk_of recovery.old) (disk_of recovery.new) }
     ensures other { IfErr result (λ fault. IsOtherCount fault → ⊥) }
+    ensures tells { IfErr result (λ fault. IsTrue (D.Disk.is_clean (disk_of recovery.new)) → TellsOf (D.Disk.seen (disk_of recovery.old)) fault) }
 {
     go_past_first(recovery)?;
     let count = count_lines(recovery, watch)?;
@@ -123,6 +126,7 @@ fn read_past_first<D: Disk, V: Watch>(
 fn answers_had(from: Option<u64>, kept: u64) -> Result<u64, KeepFault>
     ensures ok { IfOk result (λ had. (had ≡ answers_had from) × FitsKept from kept) }
     ensures err { OnErr result (FitsKept from kept → ⊥) }
+    ensures other { IfErr result (λ fault. IsOtherCount fault) }
 {
     match from {
         Some(had) if had <= kept => Ok(had),
@@ -146,6 +150,7 @@ fn answer_store<D: Disk, W: Sink, A: Answerer, V: Watch>(
         × OnOk result (IsStoreAnswered A.rule answerer.old (kept_in (D.Disk.seen (disk_of recovery.old))) from sent answerer.new)) }
     ensures reads { OnlyReads D.Disk (disk_of recovery.old) (disk_of recovery.new) }
     ensures count { IfErr result (λ fault. IsOtherCount fault → IsTrue (D.Disk.is_clean (disk_of recovery.new)) → HasOtherCount from (kept_in (D.Disk.seen (disk_of recovery.old)))) }
+    ensures tells { IfErr result (λ fault. IsTrue (D.Disk.is_clean (disk_of recovery.new)) → TellsOf (D.Disk.seen (disk_of recovery.old)) fault) }
 {
     let held = read_past_first(recovery, watch)?;
     let had = answers_had(from, held.count)?;
@@ -161,6 +166,7 @@ fn show_torn_end<D: Disk, V: Watch>(
 ) -> Result<(), KeepFault>
     ensures reads { OnlyReads D.Disk (disk_of recovery.old) (disk_of recovery.new) }
     ensures other { IfErr result (λ fault. IsOtherCount fault → ⊥) }
+    ensures tells { IfErr result (λ fault. IsTrue (D.Disk.is_clean (disk_of recovery.new)) → TellsOf (D.Disk.seen (disk_of recovery.old)) fault) }
 {
     match recovery.torn_end()? {
         Some(at) if !watch.torn(at, recovery.torn()) => Err(KeepFault::TornEnd),
@@ -183,6 +189,7 @@ fn answer_to_gate<D: Disk, W: Sink, A: Answerer, G: Gate<A>, V: Watch>(
         × OnOk result (IsStoreAnswered A.rule answerer.old (kept_in (D.Disk.seen (disk_of recovery.old))) from sent answerer.new)) }
     ensures reads { OnlyReads D.Disk (disk_of recovery.old) (disk_of recovery.new) }
     ensures count { IfErr result (λ fault. IsOtherCount fault → IsTrue (D.Disk.is_clean (disk_of recovery.new)) → HasOtherCount from (kept_in (D.Disk.seen (disk_of recovery.old)))) }
+    ensures tells { IfErr result (λ fault. IsTrue (D.Disk.is_clean (disk_of recovery.new)) → TellsOf (D.Disk.seen (disk_of recovery.old)) fault) }
 {
     answer_store(alloc, recovery, from, writer, answerer, watch)?;
     if !gate.opens(answerer) {
@@ -226,6 +233,14 @@ pub fn keep<D: Disk, R: Source, W: Sink, A: Answerer, G: Gate<A>, V: Watch>(
     // At an error that the client's answers cause, nothing was written.
     ensures untouched { IfErr result.result (λ fault. IsOtherCount fault → OnlyReads D.Disk disk result.disk) }
     ensures count { IfErr result.result (λ fault. IsOtherCount fault → IsTrue (D.Disk.is_clean result.disk) → HasOtherCount from (kept_in (D.Disk.seen disk))) }
+
+    // A damaged store is as it was, and the fault names the byte where it is damaged.
+    ensures damaged { IfErr result.result (λ fault. (at : ℕ) → fault ≡ KeepFault.Damaged at → OnlyReads D.Disk disk result.disk) }
+    ensures damage { IfErr result.result (λ fault. (at : ℕ) → fault ≡ KeepFault.Damaged at → IsTrue (D.Disk.is_clean result.disk) → damage_in (D.Disk.seen disk) ≡ Some at) }
+
+    // A store without its first record is as it was, and is not damaged.
+    ensures unbegun { IfErr result.result (λ fault. fault ≡ KeepFault.NoStore → OnlyReads D.Disk disk result.disk) }
+    ensures no_line { IfErr result.result (λ fault. fault ≡ KeepFault.NoStore → IsTrue (D.Disk.is_clean result.disk) → (kept_in (D.Disk.seen disk) ≡ []) × (damage_in (D.Disk.seen disk) ≡ None)) }
 {
     let mut recovery = Recovery::new(alloc, disk);
     if let Err(fault) = answer_to_gate(alloc, &mut recovery, from, writer, answerer, gate, watch) {
@@ -259,7 +274,7 @@ fn answer_log<D: Disk, R: Source, W: Sink, A: Answerer>(
         × (IsTrue (D.Disk.is_clean result.disk) → kept_in (D.Disk.seen result.disk) ≡ kept_in (D.Disk.seen log.disk) ++ whole) × Only (D.Disk.seen result.disk) (D.Disk.may_leave result.disk))
         (λ _. AreAnswered A.rule answerer.old (D.Disk.may_leave result.disk) (IsTrue (D.Disk.is_clean result.disk)) (kept_in (D.Disk.seen log.disk)) whole sent) }
     ensures clean { D.Disk.is_clean result.disk ≡ D.Disk.is_clean log.disk }
-    ensures other { IfErr result.result (λ fault. IsOtherCount fault → ⊥) }
+    ensures other { IfErr result.result (λ fault. IsOfStore fault → ⊥) }
 {
     let result = answer_new_lines(alloc, reader, &mut log, writer, answerer);
     let Log {

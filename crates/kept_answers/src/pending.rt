@@ -3,7 +3,7 @@
 ghost use Rattle.std.specs.Prelude.{◌≡◌, ◌≤◌, ◌+◌, ◌∷◌, ◌++◌, ℕ, List, [], drop, map, take, length, IfErr, IfOk, OnOk, OnErr};
 ghost use Rattle.kept_batches.specs.Batch.{lines_of};
 ghost use Rattle.request_lines.specs.Lines.{AreLines, whole_lines};
-ghost use Rattle.kept_answers.specs.Faults.{IsOtherCount};
+ghost use Rattle.kept_answers.specs.Faults.{IsOfStore};
 
 use crate::fault::KeepFault;
 use kept_batches::Batch;
@@ -97,7 +97,7 @@ impl Pending {
         ensures end { IfOk result (λ n. n ≡ 0 → R.reading.at_end reader.new) }
         ensures err { OnErr result ((calls : ℕ) × (calls ≤ 1) × R.reading.gives reader.old calls [] reader.new) }
         ensures same { OnErr result (self.new ≡ self.old) }
-        ensures other { IfErr result (λ fault. IsOtherCount fault → ⊥) }
+        ensures other { IfErr result (λ fault. IsOfStore fault → ⊥) }
     {
         let count = self.count;
         make_room(&mut self.buffer, count)?;
@@ -143,7 +143,7 @@ pub fn push_whole_lines(
     ensures lines { OnOk result (lines_of batch.new ≡ lines_of batch.old ++ whole_lines bytes.now) }
     ensures sizes { OnOk result (sizes.new.items ≡ sizes.old.items ++ map length (whole_lines bytes.now)) }
     ensures part { IfOk result (λ count. AreLines bytes.now (whole_lines bytes.now) (drop count bytes.now)) }
-    ensures other { IfErr result (λ fault. IsOtherCount fault → ⊥) }
+    ensures other { IfErr result (λ fault. IsOfStore fault → ⊥) }
 {
     lines_join_to_bytes(bytes);
     let mut rest = bytes;

@@ -1,10 +1,11 @@
 //! Lines that a store keeps, answered again.
 
-ghost use Rattle.std.specs.Prelude.{◌≡◌, ◌⊎◌, ◌++◌, ℕ, List, [], take, drop, IsTrue, IfErr, OnOk, MatchResult};
+ghost use Rattle.std.specs.Prelude.{◌≡◌, ◌⊎◌, ◌++◌, ℕ, List, [], Some, take, drop, IsTrue, IfErr, IsErrOf, OnOk, MatchResult};
+ghost use Rattle.kept_batches.specs.Verdict.{damage_in};
 ghost use Rattle.kept_batches.specs.Reading.{OnlyReads};
 ghost use Rattle.kept_batches.specs.Recovery.{disk_of, lines_left};
 ghost use Rattle.kept_answers.specs.Kept.{AreResent, Begins, HasResent, HasSent};
-ghost use Rattle.kept_answers.specs.Faults.{IsOtherCount};
+ghost use Rattle.kept_answers.specs.Faults.{IsOfStore, IsOtherCount, TellsOf};
 
 use crate::fault::KeepFault;
 use crate::pending::BATCH_BYTES;
@@ -28,6 +29,7 @@ fn answer_unsent<D: Disk, A: Answerer, V: Watch>(
         × (lines_left recovery.new ≡ drop count (lines_left recovery.old))) }
     ensures reads { OnlyReads D.Disk (disk_of recovery.old) (disk_of recovery.new) }
     ensures other { IfErr result (λ fault. IsOtherCount fault → ⊥) }
+    ensures tells { IfErr result (λ fault. IsTrue (D.Disk.is_clean (disk_of recovery.new)) → TellsOf (D.Disk.seen (disk_of recovery.old)) fault) }
 {
     for number in 0..count {
         let is_line = recovery.next_line()?;
@@ -44,7 +46,7 @@ fn answer_unsent<D: Disk, A: Answerer, V: Watch>(
 fn send<W: Sink>(writer: &mut W, text: &mut Vec<u8>) -> Result<(), KeepFault>
     ensures told { (sent : List ℕ) × W.writing.takes writer.old sent writer.new
         × MatchResult result (λ _. (sent ≡ text.old.items) × (text.new.items ≡ [])) (λ _. Begins sent text.old.items) }
-    ensures other { IfErr result (λ fault. IsOtherCount fault → ⊥) }
+    ensures other { IfErr result (λ fault. IsOfStore fault → ⊥) }
 {
     if let Err(_sent) = write_all(writer, text.as_slice()) {
         return Err(KeepFault::Write);
@@ -57,7 +59,7 @@ fn send<W: Sink>(writer: &mut W, text: &mut Vec<u8>) -> Result<(), KeepFault>
 fn send_if_long<W: Sink>(writer: &mut W, text: &mut Vec<u8>) -> Result<(), KeepFault>
     ensures told { (sent : List ℕ) × W.writing.takes writer.old sent writer.new
         × MatchResult result (λ _. text.old.items ≡ sent ++ text.new.items) (λ _. Begins sent text.old.items) }
-    ensures other { IfErr result (λ fault. IsOtherCount fault → ⊥) }
+    ensures other { IfErr result (λ fault. IsOfStore fault → ⊥) }
 {
     if text.len() < BATCH_BYTES {
         return Ok(());
@@ -79,6 +81,7 @@ fn answer_sent<D: Disk, W: Sink, A: Answerer, V: Watch>(
         × OnOk result (A.rule.answers answerer.old (lines_left recovery.old) sent answerer.new)) }
     ensures reads { OnlyReads D.Disk (disk_of recovery.old) (disk_of recovery.new) }
     ensures other { IfErr result (λ fault. IsOtherCount fault → ⊥) }
+    ensures tells { IfErr result (λ fault. IsTrue (D.Disk.is_clean (disk_of recovery.new)) → TellsOf (D.Disk.seen (disk_of recovery.old)) fault) }
 {
     let mut text = Vec::new(alloc);
     while recovery.next_line()? {
@@ -110,6 +113,8 @@ pub fn answer_kept_lines<D: Disk, W: Sink, A: Answerer, V: Watch>(
         × OnOk result (AreResent A.rule answerer.old (lines_left recovery.old) from sent answerer.new)) }
     ensures reads { OnlyReads D.Disk (disk_of recovery.old) (disk_of recovery.new) }
     ensures other { IfErr result (λ fault. IsOtherCount fault → ⊥) }
+    ensures damaged { (at : ℕ) → IsErrOf result (KeepFault.Damaged at) → IsTrue (D.Disk.is_clean (disk_of recovery.new)) → damage_in (D.Disk.seen (disk_of recovery.old)) ≡ Some at }
+    ensures tells { IfErr result (λ fault. IsTrue (D.Disk.is_clean (disk_of recovery.new)) → TellsOf (D.Disk.seen (disk_of recovery.old)) fault) }
 {
     answer_unsent(alloc, recovery, answerer, from, watch)?;
     answer_sent(alloc, recovery, writer, answerer, watch)

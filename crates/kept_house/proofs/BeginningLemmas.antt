@@ -105,3 +105,12 @@ untouched_then f other (inr p) = p
 pub begun_fits : (program given : List ℕ) (from : Option ℕ) (old lines : List (List ℕ)) (config : List ℕ) → old ≡ [] → HasBegun program given old lines config → FitsKept from 0 → HasOtherCount from lines → ⊥
 begun_fits program given from [] lines config none begun fits other = subst (HasOtherCount from) begun.0 other fits
 begun_fits program given from (line ∷ old) lines config none begun fits other = absurd (cc (none))
+
+-- and is not damaged
+pub begun_whole : (program given file new config : List ℕ) (at : ℕ) → kept_in file ≡ [] → HasBegun program given (kept_in file) (kept_in new) config → damage_in new ≡ Some at → ⊥
+begun_whole program given file new config at none begun damaged = by (kept_in file) none begun (whole_or_none new)
+  where
+    by : (old : List (List ℕ)) → old ≡ [] → HasBegun program given old (kept_in new) config → (damage_in new ≡ None) ⊎ (kept_in new ≡ []) → ⊥
+    by [] none begun (inl whole) = absurd (cc (whole, damaged))
+    by [] none begun (inr empty) = absurd (cc (begun.0, empty))
+    by (line ∷ old) none begun either = absurd (cc (none))

@@ -1,6 +1,6 @@
 //! A store as it begins or goes on.
 
-ghost use Rattle.std.specs.Prelude.{◌≡◌, ◌⊎◌, ◌↔◌, ◌≤◌, ◌+◌, ◌^◌, ◌∷◌, [], ℕ, List, None, length, IsTrue, IfErr, IfOk, OnOk, IfSome, IsNone};
+ghost use Rattle.std.specs.Prelude.{◌≡◌, ◌⊎◌, ◌↔◌, ◌≤◌, ◌+◌, ◌^◌, ◌∷◌, [], ℕ, List, None, Some, length, IsTrue, IfErr, IfOk, OnOk, IfSome, IsNone};
 ghost use Rattle.sqlite_disk.specs.Disk.{Only};
 ghost use Rattle.kept_answers.specs.Keeping.{FitsKept};
 ghost use Rattle.kept_batches.specs.Batch.{lines_of, text_of};
@@ -61,6 +61,7 @@ fn stored_config<D: Disk>(
         × (lines_left recovery.old ≡ first ∷ before) × HasConfig first config.items)) }
     ensures none { IfOk result (λ found. IsNone found → IsTrue (D.Disk.is_clean (disk_of recovery.new)) → IsAtEnd recovery.old recovery.new) }
     ensures reads { OnlyReads D.Disk (disk_of recovery.old) (disk_of recovery.new) }
+    ensures damaged { IfErr result (λ fault. (at : ℕ) → fault ≡ StoreFault.Keep (KeepFault.Damaged at) → IsTrue (D.Disk.is_clean (disk_of recovery.new)) → damage_in (D.Disk.seen (disk_of recovery.old)) ≡ Some at) }
 {
     match recovery.next_line() {
         Ok(true) => {
@@ -74,7 +75,8 @@ fn stored_config<D: Disk>(
 
 /// Refuses to begin a store for a client that has answers.
 fn check_client(from: Option<u64>) -> Result<(), StoreFault>
-    ensures { OnOk result (FitsKept from 0) }
+    ensures ok { OnOk result (FitsKept from 0) }
+    ensures err { IfErr result (λ fault. fault ≡ StoreFault.Keep KeepFault.FewerLines) }
 {
     match from {
         None | Some(0) => Ok(()),
@@ -106,6 +108,7 @@ fn check_beginning<D: Disk, V: Watch>(
     ensures within { OnOk result (IsTrue (D.Disk.is_clean (disk_of recovery.new)) → EndsWithin (79 + length (text_of batch.now)) (D.Disk.seen (disk_of recovery.old))) }
     ensures fits { OnOk result (FitsKept from 0) }
     ensures reads { OnlyReads D.Disk (disk_of recovery.old) (disk_of recovery.new) }
+    ensures damaged { IfErr result (λ fault. (at : ℕ) → fault ≡ StoreFault.Keep (KeepFault.Damaged at) → IsTrue (D.Disk.is_clean (disk_of recovery.new)) → damage_in (D.Disk.seen (disk_of recovery.old)) ≡ Some at) }
 {
     if batch.text().len() > MOST_BATCH_BYTES {
         return Err(StoreFault::Keep(KeepFault::Full));
@@ -131,6 +134,7 @@ fn begin_empty<D: Disk>(recovery: Recovery<D>, mut batch: Batch, config: Vec<u8>
     ensures any_moment { IsTrue (D.Disk.is_clean result.disk) → (c : List ℕ) → D.Disk.may_leave result.disk c → (kept_in c ≡ []) ⊎ (kept_in c ≡ lines_of batch) }
     ensures clean { IsTrue (D.Disk.is_clean result.disk) → IsTrue (D.Disk.is_clean (disk_of recovery)) }
     ensures untouched { IfErr result.result (λ fault. IsTrue (D.Disk.is_clean result.disk) → IsDiskFault fault ⊎ OnlyReads D.Disk (disk_of recovery) result.disk) }
+    ensures damaged { IfErr result.result (λ fault. (at : ℕ) → fault ≡ StoreFault.Keep (KeepFault.Damaged at) → IsTrue (D.Disk.is_clean result.disk) → damage_in (D.Disk.seen (disk_of recovery)) ≡ Some at) }
 {
     verdict_is_right();
     let mut log = match recovery.finish() {
@@ -194,6 +198,9 @@ pub fn begin<D: Disk, V: Watch>(
     // Nothing is written over a file that holds anything else, and at an error only a call on the disk that failed may come after a change.
     ensures unbegun { IsTrue (D.Disk.is_clean result.disk) → IsUnbegun (first_record program.now given.now) (D.Disk.seen disk) ⊎ OnlyReads D.Disk disk result.disk }
     ensures untouched { IfErr result.result (λ fault. IsTrue (D.Disk.is_clean result.disk) → IsDiskFault fault ⊎ OnlyReads D.Disk disk result.disk) }
+
+    // Where the fault is damage, the store is damaged at the byte that it names.
+    ensures damaged { IfErr result.result (λ fault. (at : ℕ) → fault ≡ StoreFault.Keep (KeepFault.Damaged at) → IsTrue (D.Disk.is_clean result.disk) → damage_in (D.Disk.seen disk) ≡ Some at) }
 
     // A store begins only for a client that has no answers. A damaged one keeps no line either, and does not begin.
     ensures fits { IfOk result.result (λ _. IsTrue (D.Disk.is_clean result.disk) → damage_in (D.Disk.seen disk) ≡ None → kept_in (D.Disk.seen disk) ≡ [] → FitsKept from 0) }

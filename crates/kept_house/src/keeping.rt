@@ -1,9 +1,9 @@
 //! A house whose lines are kept and answered.
 
-ghost use Rattle.std.specs.Prelude.{◌≡◌, ◌≤◌, ◌^◌, [], ℕ, List, IsTrue, IfErr, IfOk, OnOk, Ok};
+ghost use Rattle.std.specs.Prelude.{◌≡◌, ◌≤◌, ◌^◌, [], ℕ, List, IsTrue, IfErr, IfOk, OnOk, Ok, Some};
 ghost use Rattle.sqlite_disk.specs.Disk.{Only};
 ghost use Rattle.kept_batches.specs.Text.{IsLine};
-ghost use Rattle.kept_batches.specs.Verdict.{kept_in};
+ghost use Rattle.kept_batches.specs.Verdict.{damage_in, kept_in};
 ghost use Rattle.ocpi_types.specs.declared.config.Config.{Config as ConfigValue};
 ghost use Rattle.ocpi_types.specs.ConfigText.{config_of};
 ghost use Rattle.request_lines.specs.Lines.{AreLines};
@@ -53,7 +53,8 @@ impl<'a, A: LineStream> Gate<A> for SameConfig<'a> {
 
 /// Returns why the stream ended: if the gate did not open, the member that differs.
 fn fault_of(fault: KeepFault, difference: Option<Name>) -> StoreFault
-    ensures { IsOtherLines result → IsOtherCount fault }
+    ensures other { IsOtherLines result → IsOtherCount fault }
+    ensures damaged { (at : ℕ) → result ≡ StoreFault.Keep (KeepFault.Damaged at) → fault ≡ KeepFault.Damaged at }
 {
     match (fault, difference) {
         (KeepFault::Stopped, Some(name)) => StoreFault::OtherConfig(name),
@@ -82,6 +83,8 @@ fn keep_stream<A: LineStream, D: Disk, R: Source, W: Sink, G: Gate<A>, V: Watch>
     ensures clean { IsTrue (D.Disk.is_clean result.disk) → IsTrue (D.Disk.is_clean disk) }
     ensures untouched { IfErr result.result (λ fault. IsOtherCount fault → OnlyReads D.Disk disk result.disk) }
     ensures count { IfErr result.result (λ fault. IsOtherCount fault → IsTrue (D.Disk.is_clean result.disk) → HasOtherCount from (kept_in (D.Disk.seen disk))) }
+    ensures damaged { IfErr result.result (λ fault. (at : ℕ) → fault ≡ KeepFault.Damaged at → OnlyReads D.Disk disk result.disk) }
+    ensures damage { IfErr result.result (λ fault. (at : ℕ) → fault ≡ KeepFault.Damaged at → IsTrue (D.Disk.is_clean result.disk) → damage_in (D.Disk.seen disk) ≡ Some at) }
 {
     keep(alloc, disk, from, reader, writer, stream, gate, watch)
 }
@@ -93,6 +96,7 @@ fn keep_stream<A: LineStream, D: Disk, R: Source, W: Sink, G: Gate<A>, V: Watch>
 /// `Config` if the text does not read, and `Keep` if an allocation fails.
 pub fn stream_under<A: LineStream>(alloc: Global, text: &[u8]) -> Result<A, StoreFault>
     ensures other { IfErr result (λ fault. IsOtherLines fault → ⊥) }
+    ensures damaged { IfErr result (λ fault. (at : ℕ) → fault ≡ StoreFault.Keep (KeepFault.Damaged at) → ⊥) }
     ensures stream { IfOk result (λ stream. (config : ConfigValue) × (config_of text.now ≡ Ok config) × (A.state stream ≡ empty_under config)) }
 {
     let config = Config::read(alloc, text)?;
@@ -101,7 +105,8 @@ pub fn stream_under<A: LineStream>(alloc: Global, text: &[u8]) -> Result<A, Stor
 
 /// Returns why a store is not opened whose record has a configuration with this fault: a record with one that does not read is none.
 fn of_record(fault: StoreFault) -> StoreFault
-    ensures { IsOtherLines result → IsOtherLines fault }
+    ensures other { IsOtherLines result → IsOtherLines fault }
+    ensures damaged { (at : ℕ) → result ≡ StoreFault.Keep (KeepFault.Damaged at) → fault ≡ StoreFault.Keep (KeepFault.Damaged at) }
 {
     match fault {
         StoreFault::Config(ConfigFault::NoMemory) => StoreFault::Keep(KeepFault::NoMemory),
@@ -132,6 +137,7 @@ fn keep_under<A: LineStream, D: Disk, R: Source, W: Sink, V: Watch>(
     ensures clean { IsTrue (D.Disk.is_clean result.disk) → IsTrue (D.Disk.is_clean disk) }
     ensures untouched { IfErr result.result (λ fault. IsOtherLines fault → OnlyReads D.Disk disk result.disk) }
     ensures count { IfErr result.result (λ fault. IsOtherLines fault → IsTrue (D.Disk.is_clean result.disk) → HasOtherCount from (kept_in (D.Disk.seen disk))) }
+    ensures damaged { IfErr result.result (λ fault. (at : ℕ) → fault ≡ StoreFault.Keep (KeepFault.Damaged at) → IsTrue (D.Disk.is_clean result.disk) → OnlyReads D.Disk disk result.disk × (damage_in (D.Disk.seen disk) ≡ Some at)) }
 {
     let mut stream: A = match stream_under(alloc, text) {
         Ok(stream) => stream,
@@ -202,6 +208,9 @@ pub fn keep_house<A: LineStream, D: Disk, R: Source, W: Sink, V: Watch>(
 
     // A client that has more answers than the store has lines, or says nothing of them, finds the store as it was.
     ensures untouched { IfErr result.result (λ fault. IsOtherLines fault → IsTrue (D.Disk.is_clean result.disk) → OnlyReads D.Disk disk result.disk) }
+
+    // A damaged store is as it was, and the fault names the byte where it is damaged.
+    ensures damaged { IfErr result.result (λ fault. (at : ℕ) → fault ≡ StoreFault.Keep (KeepFault.Damaged at) → IsTrue (D.Disk.is_clean result.disk) → OnlyReads D.Disk disk result.disk × (damage_in (D.Disk.seen disk) ≡ Some at)) }
 {
     let ours = match Config::read(alloc, given) {
         Ok(config) => config,

@@ -1,9 +1,10 @@
 //! The record that begins a store: the format of the store, the version of the program that made it, and the text of the configuration.
 
-ghost use Rattle.std.specs.Prelude.{◌≡◌, ◌⊎◌, ◌++◌, ℕ, List, codes, IfOk, IfSome};
+ghost use Rattle.std.specs.Prelude.{◌≡◌, ◌⊎◌, ◌++◌, ℕ, List, codes, IfErr, IfOk, IfSome};
 ghost use Rattle.kept_house.specs.Record.{HasConfig, HasNoQuote, byte_in_line, first_record, on_one_line};
 
 use crate::fault::{StoreFault, Word};
+use kept_answers::KeepFault;
 use memchr::memchr;
 use ocpi_json::ci_text::CiText;
 use std::alloc::{AllocError, Global};
@@ -134,7 +135,8 @@ fn unknown_word(text: &[u8]) -> Option<CiText<36>> {
 /// `LaterFormat` if the record has another format, `LaterLines` if the lines of the store may be what this program does not know, `NoStore`
 /// if it is no record.
 pub fn config_in(line: &[u8]) -> Result<&[u8], StoreFault>
-    ensures { IfOk result (λ config. HasConfig line.now config.now) }
+    ensures ok { IfOk result (λ config. HasConfig line.now config.now) }
+    ensures damaged { IfErr result (λ fault. (at : ℕ) → fault ≡ StoreFault.Keep (KeepFault.Damaged at) → ⊥) }
 {
     let Some(text) = after(line, START) else {
         return Err(if line.starts_with(FORMAT.as_bytes()) {

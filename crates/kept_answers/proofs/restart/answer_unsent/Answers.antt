@@ -1,6 +1,6 @@
 use Rattle.std.proofs.Common.{List, ℕ, [], ◌∷◌, ◌++◌, ◌∙◌, ap, refl, sym, subst, arith, append_assoc, length-append}
 use Rattle.kept_batches.specs.Recovery.{disk_of, line_of, lines_left}
-use Rattle.kept_answers.proofs.KeptLemmas.{all_done, first_done, reads_nothing, reads_on}
+use Rattle.kept_answers.proofs.KeptLemmas.{all_done, first_done, read_tells, reads_nothing, reads_on}
 use Rattle.kept_answers.proofs.restart.answer_unsent.Goals as goal
 
 pub loop-number-init : goal.loop-number-init
@@ -60,3 +60,7 @@ returns-clause-answers g c clean =
 
 pub returns-clause-reads : goal.returns-clause-reads
 returns-clause-reads g c = c.loop-number.invariant.reads
+
+pub returns-in_err-is_line-clause-tells : goal.returns-in_err-is_line-clause-tells
+returns-in_err-is_line-clause-tells g c =
+    read_tells g.D.Disk _ (disk_of c.loop-number.recovery) (disk_of c.next_line.new.self) c.in_err-is_line.field-0.0 _ c.from_residual.result c.from_residual.ensures.1 refl c.loop-number.invariant.reads c.in_err-is_line.ensures.damaged

@@ -6,7 +6,7 @@ use Rattle.kept_house.proofs.beginning.stored_config.Goals as goal
 pub returns-in_ok-from_slice-in-Ok-true-clause-some : goal.returns-in_ok-from_slice-in-Ok-true-clause-some
 returns-in_ok-from_slice-in-Ok-true-clause-some g c clean =
     let config : List ℕ = c.in_ok-config-in-Ok-true.config.now in
-    let has : HasConfig c.line.result.now config = c.in_ok-config-in-Ok-true.ensures in (
+    let has : HasConfig c.line.result.now config = c.in_ok-config-in-Ok-true.ensures.ok in (
       line_of c.next_line.new.self,
       lines_left c.next_line.new.self,
       c.in-Ok-true.ensures.line c.in-Ok-true.field-0-test clean,

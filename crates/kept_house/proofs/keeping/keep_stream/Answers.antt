@@ -40,4 +40,6 @@ returns g c =
       clean = c.keep.ensures.clean;
       untouched = c.keep.ensures.untouched;
       count = c.keep.ensures.count;
+      damaged = c.keep.ensures.damaged;
+      damage = c.keep.ensures.damage;
     }

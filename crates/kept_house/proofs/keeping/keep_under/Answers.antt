@@ -7,6 +7,7 @@ pub returns-in-Err : goal.returns-in-Err
 returns-in-Err g c = record {
   told = (0, [], [], [], [], omega arith, g.met.R.Source.gives_none _, no_lines, g.met.W.Sink.takes_none _, λ clean. (inl (refl, λ file left. ap kept_in (c.requires.durable file left)), tt));
   clean = λ clean. clean;
-  untouched = λ other. absurd (c.in-Err.ensures.other (c.of_record.ensures other));
-  count = λ other clean. absurd (c.in-Err.ensures.other (c.of_record.ensures other));
+  untouched = λ other. absurd (c.in-Err.ensures.other (c.of_record.ensures.other other));
+  count = λ other clean. absurd (c.in-Err.ensures.other (c.of_record.ensures.other other));
+  damaged = λ at is clean. absurd (c.in-Err.ensures.damaged at (c.of_record.ensures.damaged at is));
 }
